@@ -1,0 +1,16 @@
+-- How closely a spelling keeps to the one that is written.
+use Rattle.amqp_types.specs.declared.profile.Profile.{Profile}
+use Rattle.amqp_types.specs.declared.profile.Profile.TheVariants as profiles
+
+-- plain: all that the standard's grammar gives, which is what peers send.
+-- tidy: reserved fields, unused bits, a header's weight and a heartbeat's payload stand as they are written.
+-- strict: the one spelling that is written. A true boolean is 1, and a table has each key once, in rising order.
+pub data Level : Type 0 where
+  plain : Level
+  tidy : Level
+  strict : Level
+
+-- the level of what a reader accepts
+abbrev pub level_of : Profile → Level
+level_of profiles.Plain = plain
+level_of profiles.Tidy = tidy
