@@ -1,8 +1,8 @@
 -- Truth values are read as they are written.
-use Rattle.std.proofs.Common.{◌≡◌, ◌≢◌, ℕ, ◌≤◌, Bool, true, false, eqb, not, List, [], ◌∷◌, ◌++◌, length, take, refl, sym, ap, subst, ◌∙◌, arith, inl, inr}
+use Rattle.std.proofs.Common.{◌≡◌, ℕ, ◌≤◌, Bool, true, false, eqb, not, List, [], ◌∷◌, ◌++◌, length, take, refl, ap, subst, arith, inl, inr}
 use Rattle.std.proofs.lemmas.Bool.{cases_eq, eq-eqb, ne_eqb}
 use Rattle.amqp_types.specs.Levels.{plain, tidy, strict}
-use Rattle.amqp_types.specs.Judging.{Judged, took, past, IsBytes, IsExact}
+use Rattle.amqp_types.specs.Judging.{took, IsBytes}
 use Rattle.amqp_types.specs.Booleans.{boolean_bytes, SpellsBoolean, judge_boolean}
 use Rattle.amqp_types.specs.Laws.{BooleansSpell}
 

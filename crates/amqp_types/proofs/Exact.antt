@@ -1,7 +1,7 @@
 -- What follows of any spelling that a judgement takes exactly.
-use Rattle.std.proofs.Common.{◌≡◌, ℕ, ◌+◌, List, [], ◌++◌, length, append-nil, refl, sym, ap, subst, ◌∙◌, arith}
+use Rattle.std.proofs.Common.{◌≡◌, ℕ, List, [], ◌++◌, length, append-nil, sym, ap, subst, ◌∙◌, arith}
 use Rattle.std.proofs.lemmas.List.{length-append, nil_from_length}
-use Rattle.amqp_types.specs.Judging.{Judged, Judge, took, past, IsExact}
+use Rattle.amqp_types.specs.Judging.{Judged, Judge, took, IsExact}
 
 abbrev value_or : {A : Type 0} → A → Judged A → A
 value_or other (took x n) = x

@@ -5,7 +5,7 @@ use Rattle.std.proofs.lemmas.Bool.{ltb-false, le-ltb}
 use Rattle.std.proofs.lemmas.List.{take_at, length-append, length-take}
 use Rattle.std.proofs.lemmas.Nat.{be_bytes_2, from_be_bytes-to_be_bytes_2, be_bytes_4, be_bytes_8, from_be_bytes-to_be_bytes_4, from_be_bytes-to_be_bytes_8}
 use Rattle.std.proofs.Math.Nat.{mod-eq_of_lt}
-use Rattle.amqp_types.specs.Judging.{Judged, took, past, IsBytes, IsExact}
+use Rattle.amqp_types.specs.Judging.{took, past, IsBytes, IsExact}
 use Rattle.amqp_types.specs.Numbers.{NumberWidth, bytes1, bytes2, bytes4, bytes8, width_of, byte_count, number_limit, number_bytes, SpellsNumber, judge_number}
 use Rattle.amqp_types.proofs.Bytes.{IsBytes-take}
 

@@ -2,7 +2,7 @@
 use Rattle.std.specs.Prelude.{◌≡◌, ℕ, ◌≤◌, ◌↔◌, Bool, List, length}
 use Rattle.amqp_types.specs.Levels.{plain, tidy, strict}
 use Rattle.amqp_types.specs.Judging.{IsExact}
-use Rattle.amqp_types.specs.Numbers.{NumberWidth, number_bytes, byte_count, SpellsNumber, judge_number}
+use Rattle.amqp_types.specs.Numbers.{NumberWidth, SpellsNumber, judge_number}
 use Rattle.amqp_types.specs.Booleans.{boolean_bytes, SpellsBoolean, judge_boolean}
 
 abbrev pub NumbersSpell : Type 0

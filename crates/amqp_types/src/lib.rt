@@ -18,7 +18,7 @@ pub use byte_array::ByteArray;
 pub use errors::{GenError, NoMemory, ParserError};
 pub use generation::{
     append_bytes, gen_boolean, gen_id, gen_long_long_uint, gen_long_uint, gen_short_short_uint,
-    gen_short_uint, put_boolean, put_bytes, put_id, put_long_long_uint, put_long_uint,
+    gen_short_uint, grow, put_boolean, put_bytes, put_id, put_long_long_uint, put_long_uint,
     put_short_short_uint, put_short_uint, size_boolean, size_id, size_long_long_uint,
     size_long_uint, size_short_short_uint, size_short_uint,
 };

@@ -1,0 +1,10 @@
+pub mod OuterLook
+pub mod Looked
+pub mod Cuts
+pub mod Spelled
+pub mod Made
+pub mod Rows
+pub mod Strictness
+pub mod ReadingBack
+pub mod Sizes
+pub mod Payloads

@@ -1,0 +1,141 @@
+-- The levels, the one strict spelling, and that it is shortest.
+use Rattle.std.proofs.Common.{◌≡◌, ℕ, ◌-◌, ◌^◌, ◌<◌, ◌≤◌, false, List, [], ◌∷◌, ◌++◌, length, Option, Some, None, refl, ap, ap₂, ◌∙◌, arith}
+use Rattle.std.proofs.lemmas.Bool.{le-ltb}
+use Rattle.std.proofs.lemmas.List.{length-append}
+use Rattle.amqp_types.specs.Levels.{Level, plain, tidy, strict}
+use Rattle.amqp_types.specs.Judging.{IsBytes}
+use Rattle.amqp_frame.specs.Frames.{Frame, Proto, Body, Beat, BadBeat}
+use Rattle.amqp_frame.specs.Spelling.{framed, IsFramed, IsBeat, Spells, IsWithin, Row}
+use Rattle.amqp_frame.specs.Canonical.{canon, canon_row, is_long}
+use Rattle.amqp_frame.specs.Fronts.{front}
+use Rattle.amqp_frame.specs.Laws.{HasOneStrict, IsShortest, GivesItself}
+use Rattle.amqp_frame.proofs.Spelled.{framed-length}
+use Rattle.amqp_frame.proofs.Rows.{row_front, row_place, front-is_row}
+
+-- ---- what is strict is tidy, and what is tidy is plain
+
+beat_strict_tidy : (bytes : List ℕ) (channel : ℕ) → IsBeat strict bytes channel → IsBeat tidy bytes channel
+beat_strict_tidy bytes channel s = record { payload = s.payload; is_framed = s.is_framed; at_level = s.at_level }
+
+beat_tidy_plain : (bytes : List ℕ) (channel : ℕ) → IsBeat tidy bytes channel → IsBeat plain bytes channel
+beat_tidy_plain bytes channel s = record { payload = s.payload; is_framed = s.is_framed; at_level = tt }
+
+frame_strict_tidy : (bytes : List ℕ) (f : Frame) → Spells strict bytes f → Spells tidy bytes f
+frame_strict_tidy bytes (Proto major minor revision) s = s
+frame_strict_tidy bytes (Body channel content) s = s
+frame_strict_tidy bytes Beat s = beat_strict_tidy bytes 0 s
+frame_strict_tidy bytes (BadBeat channel) s = (s.0, beat_strict_tidy bytes channel s.1)
+
+frame_tidy_plain : (bytes : List ℕ) (f : Frame) → Spells tidy bytes f → Spells plain bytes f
+frame_tidy_plain bytes (Proto major minor revision) s = s
+frame_tidy_plain bytes (Body channel content) s = s
+frame_tidy_plain bytes Beat s = beat_tidy_plain bytes 0 s
+frame_tidy_plain bytes (BadBeat channel) s = (s.0, beat_tidy_plain bytes channel s.1)
+
+pub row_strict_tidy : (m : Option ℕ) (bytes : List ℕ) (frames : List Frame) → Row strict m bytes frames → Row tidy m bytes frames
+row_strict_tidy m bytes [] r = r
+row_strict_tidy m bytes (f ∷ fs) r = (r.0, r.1, r.2, frame_strict_tidy r.0 f r.3, r.4, row_strict_tidy m r.1 fs r.5)
+
+pub row_tidy_plain : (m : Option ℕ) (bytes : List ℕ) (frames : List Frame) → Row tidy m bytes frames → Row plain m bytes frames
+row_tidy_plain m bytes [] r = r
+row_tidy_plain m bytes (f ∷ fs) r = (r.0, r.1, r.2, frame_tidy_plain r.0 f r.3, r.4, row_tidy_plain m r.1 fs r.5)
+
+pub frame_is_plain : (level : Level) (bytes : List ℕ) (f : Frame) → Spells level bytes f → Spells plain bytes f
+frame_is_plain plain bytes f s = s
+frame_is_plain tidy bytes f s = frame_tidy_plain bytes f s
+frame_is_plain strict bytes f s = frame_tidy_plain bytes f (frame_strict_tidy bytes f s)
+
+pub frame_from_strict : (level : Level) (bytes : List ℕ) (f : Frame) → Spells strict bytes f → Spells level bytes f
+frame_from_strict plain bytes f s = frame_tidy_plain bytes f (frame_strict_tidy bytes f s)
+frame_from_strict tidy bytes f s = frame_strict_tidy bytes f s
+frame_from_strict strict bytes f s = s
+
+-- ---- the canonical bytes of a frame that was read
+
+-- a heartbeat on this channel that carries nothing
+pub empty_beat : (channel : ℕ) → channel < 2 ^ 16 → IsBeat strict (framed 8 channel []) channel
+empty_beat channel fits = record {
+  payload = [];
+  is_framed = record { channel_fits = fits; length_fits = omega arith; bytes_are = refl };
+  at_level = refl;
+}
+
+canon_strict : (bytes : List ℕ) (f : Frame) → Spells plain bytes f → Spells strict (canon f) f
+unfolding canon
+canon_strict bytes (Proto major minor revision) s = refl
+canon_strict bytes (Body channel content) s = record { channel_fits = s.channel_fits; length_fits = s.length_fits; bytes_are = refl }
+canon_strict bytes Beat s = empty_beat 0 s.is_framed.channel_fits
+canon_strict bytes (BadBeat channel) s = (s.0, empty_beat channel s.1.is_framed.channel_fits)
+
+framed_none : (bytes payload : List ℕ) (channel : ℕ) → IsFramed bytes 8 channel payload → payload ≡ [] → bytes ≡ framed 8 channel []
+framed_none bytes payload channel f none = f.bytes_are ∙ ap (framed 8 channel) none
+
+strict_canon : (bytes : List ℕ) (f : Frame) → Spells strict bytes f → bytes ≡ canon f
+unfolding canon
+strict_canon bytes (Proto major minor revision) s = s
+strict_canon bytes (Body channel content) s = s.bytes_are
+strict_canon bytes Beat s = framed_none bytes s.payload 0 s.is_framed s.at_level
+strict_canon bytes (BadBeat channel) s = framed_none bytes s.1.payload channel s.1.is_framed s.1.at_level
+
+beat_length : (bytes : List ℕ) (channel : ℕ) → IsBeat plain bytes channel → length (framed 8 channel []) ≤ length bytes
+beat_length bytes channel s = omega (arith, ap length s.is_framed.bytes_are, framed-length 8 channel s.payload)
+
+canon_short : (bytes : List ℕ) (f : Frame) → Spells plain bytes f → length (canon f) ≤ length bytes
+unfolding canon
+canon_short bytes (Proto major minor revision) s = omega (arith, ap length s)
+canon_short bytes (Body channel content) s = omega (arith, ap length s.bytes_are)
+canon_short bytes Beat s = beat_length bytes 0 s
+canon_short bytes (BadBeat channel) s = beat_length bytes channel s.1
+
+not_long : (bytes : List ℕ) (f : Frame) → Spells plain bytes f → is_long f ≡ false
+not_long bytes (Proto major minor revision) s = refl
+not_long bytes (Body channel content) s = le-ltb (2 ^ 32 - 1) (length content) (omega (arith, s.length_fits))
+not_long bytes Beat s = refl
+not_long bytes (BadBeat channel) s = refl
+
+within_short : (m : Option ℕ) (short bytes : List ℕ) → length short ≤ length bytes → IsWithin m bytes → IsWithin m short
+within_short None short bytes h w = tt
+within_short (Some m) short bytes h w = omega arith
+
+-- ---- rows
+
+row_is_plain : (level : Level) (m : Option ℕ) (bytes : List ℕ) (frames : List Frame) → Row level m bytes frames → Row plain m bytes frames
+row_is_plain level m bytes [] r = r
+row_is_plain level m bytes (f ∷ fs) r = (r.0, r.1, r.2, frame_is_plain level r.0 f r.3, r.4, row_is_plain level m r.1 fs r.5)
+
+canon_row_strict : (m : Option ℕ) (bytes : List ℕ) (frames : List Frame) → Row plain m bytes frames → Row strict m (canon_row frames) frames
+canon_row_strict m bytes [] r = refl
+canon_row_strict m bytes (f ∷ fs) r = (canon f, canon_row fs, refl, canon_strict r.0 f r.3, within_short m (canon f) r.0 (canon_short r.0 f r.3) r.4, canon_row_strict m r.1 fs r.5)
+
+strict_canon_row : (m : Option ℕ) (bytes : List ℕ) (frames : List Frame) → Row strict m bytes frames → bytes ≡ canon_row frames
+strict_canon_row m bytes [] r = r
+strict_canon_row m bytes (f ∷ fs) r = r.2 ∙ ap₂ (λ a b. a ++ b) (strict_canon r.0 f r.3) (strict_canon_row m r.1 fs r.5)
+
+pub one_strict : (level : Level) (m : Option ℕ) (bytes : List ℕ) (frames : List Frame) → Row level m bytes frames → HasOneStrict m frames
+one_strict level m bytes frames r = record {
+  canonical = canon_row_strict m bytes frames (row_is_plain level m bytes frames r);
+  only = λ other s. strict_canon_row m other frames s;
+}
+
+plain_shortest : (m : Option ℕ) (bytes : List ℕ) (frames : List Frame) → Row plain m bytes frames → IsShortest bytes frames
+plain_shortest m bytes [] r = record { shortest = omega arith; none_is_long = tt }
+plain_shortest m bytes (f ∷ fs) r =
+    let rest = plain_shortest m r.1 fs r.5 in
+    record {
+      shortest = omega (arith, canon_short r.0 f r.3, rest.shortest, ap length r.2, length-append r.0 r.1, length-append (canon f) (canon_row fs));
+      none_is_long = (not_long r.0 f r.3, rest.none_is_long);
+    }
+
+pub row_shortest : (level : Level) (m : Option ℕ) (bytes : List ℕ) (frames : List Frame) → Row level m bytes frames → IsShortest bytes frames
+row_shortest level m bytes frames r = plain_shortest m bytes frames (row_is_plain level m bytes frames r)
+
+-- what was written, given again
+pub gives_itself : (level : Level) (m : Option ℕ) (bytes : List ℕ) → IsBytes bytes → GivesItself m (canon_row (front level m bytes))
+gives_itself level m bytes fits =
+    let cut = front-is_row level m bytes fits in
+    let frames = front level m bytes in
+    let again : Row plain m (canon_row frames) frames = row_tidy_plain m (canon_row frames) frames (row_strict_tidy m (canon_row frames) frames (one_strict level m cut.used frames cut.row).canonical) in
+    record {
+      whole = row_place plain m (canon_row frames) frames again;
+      same = ap canon_row (row_front plain m (canon_row frames) frames again);
+    }

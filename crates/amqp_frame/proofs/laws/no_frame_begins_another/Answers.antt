@@ -1,0 +1,5 @@
+use Rattle.amqp_frame.proofs.Rows.{no_frame_begins}
+use Rattle.amqp_frame.proofs.laws.no_frame_begins_another.Goals as goal
+
+pub returns : goal.returns
+returns c = no_frame_begins

@@ -1,0 +1,5 @@
+use Rattle.amqp_frame.proofs.Strictness.{one_strict}
+use Rattle.amqp_frame.proofs.laws.one_canonical_spelling.Goals as goal
+
+pub returns : goal.returns
+returns c = one_strict

@@ -1,0 +1,5 @@
+use Rattle.amqp_frame.proofs.Rows.{verdict_exact}
+use Rattle.amqp_frame.proofs.laws.verdicts_are_spellings.Goals as goal
+
+pub returns : goal.returns
+returns c = verdict_exact

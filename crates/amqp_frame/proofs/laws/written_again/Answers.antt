@@ -1,0 +1,5 @@
+use Rattle.amqp_frame.proofs.Strictness.{gives_itself}
+use Rattle.amqp_frame.proofs.laws.written_again.Goals as goal
+
+pub returns : goal.returns
+returns c = gives_itself

@@ -1,0 +1,56 @@
+-- Frames as contracts see them.
+use Rattle.std.specs.Prelude.{ℕ, ◌==◌, List, if◌then◌else◌}
+use Rattle.amqp_frame.specs.declared.frame.AMQPFrame.{AMQPFrame}
+use Rattle.amqp_frame.specs.declared.frame.AMQPFrame.TheVariants as frames
+use Rattle.amqp_frame.specs.declared.frame_type.AMQPFrameType.{AMQPFrameType}
+use Rattle.amqp_frame.specs.declared.frame_type.AMQPFrameType.TheVariants as kinds
+use Rattle.amqp_frame.specs.declared.raw_frame.AMQPRawFrame.{AMQPRawFrame}
+
+-- A protocol header, a body, a heartbeat on channel 0, and a heartbeat on a channel where none belongs.
+pub data Frame : Type 0 where
+  Proto : (major minor revision : ℕ) → Frame
+  Body : (channel : ℕ) (content : List ℕ) → Frame
+  Beat : Frame
+  BadBeat : (channel : ℕ) → Frame
+
+-- a whole frame whose payload has not been looked into
+pub record Raw : Type 0 where
+  pub kind : AMQPFrameType
+  pub channel : ℕ
+  pub payload : List ℕ
+
+abbrev pub frame_of : AMQPFrame → Frame
+frame_of (frames.ProtocolHeader version) = Proto version.major version.minor version.revision
+frame_of (frames.Body channel content) = Body channel content
+frame_of frames.Heartbeat = Beat
+frame_of (frames.InvalidHeartbeat channel) = BadBeat channel
+
+abbrev pub raw_of : AMQPRawFrame → Raw
+raw_of raw = record { kind = raw.frame_type; channel = raw.channel_id; payload = raw.payload.now }
+
+abbrev pub channel_id_of : Frame → ℕ
+channel_id_of (Proto major minor revision) = 0
+channel_id_of (Body channel content) = channel
+channel_id_of Beat = 0
+channel_id_of (BadBeat channel) = channel
+
+-- a content header
+abbrev pub IsHeader : Frame → Type 0
+IsHeader frame = ⊥
+
+-- a heartbeat on this channel
+abbrev pub beat_on : ℕ → Frame
+beat_on channel = if channel == 0 then Beat else BadBeat channel
+
+-- a method or a content header: its payload is more than bytes
+abbrev pub IsTyped : AMQPFrameType → Type 0
+IsTyped kinds.Method = Unit {0}
+IsTyped kinds.Header = Unit {0}
+IsTyped kinds.ProtocolHeader = ⊥
+IsTyped kinds.Body = ⊥
+IsTyped kinds.Heartbeat = ⊥
+
+-- what is read of such a frame holds memory of its own
+abbrev pub OwnsMemory : AMQPFrameType → Type 0
+OwnsMemory kinds.Body = Unit {0}
+OwnsMemory kind = IsTyped kind

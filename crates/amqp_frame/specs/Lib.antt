@@ -1,0 +1,10 @@
+pub mod Frames
+pub mod Channels
+pub mod Display
+pub mod Outer
+pub mod Looks
+pub mod Verdicts
+pub mod Spelling
+pub mod Canonical
+pub mod Fronts
+pub mod Laws

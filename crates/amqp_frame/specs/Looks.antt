@@ -1,0 +1,50 @@
+-- What a look at the front of some bytes says.
+use Rattle.std.specs.Prelude.{ℕ, ◌+◌, ◌-◌, ◌≤◌, List, length, take, drop}
+use Rattle.amqp_types.specs.Judging.{Judged, took, past, fault, unknown_frame_type, bad_protocol_header, too_large, bad_frame_end}
+use Rattle.amqp_frame.specs.declared.looking.Look.{Look}
+use Rattle.amqp_frame.specs.declared.looking.Look.TheVariants as looks
+use Rattle.amqp_frame.specs.declared.looking.FrameLayout.{FrameLayout}
+use Rattle.amqp_frame.specs.Frames.{Raw}
+
+-- what is judged, where a whole frame is judged by its layout
+abbrev pub looked_by : (FrameLayout → Judged Raw) → Look → Judged Raw
+looked_by frame looks.Incomplete = past
+looked_by frame looks.UnknownFrameType = fault unknown_frame_type
+looked_by frame looks.BadProtocolHeader = fault bad_protocol_header
+looked_by frame looks.TooLarge = fault too_large
+looked_by frame looks.BadFrameEnd = fault bad_frame_end
+looked_by frame (looks.Whole layout) = frame layout
+
+-- the frame that lies so in some bytes
+abbrev pub laid_out : FrameLayout → List ℕ → Raw
+laid_out layout bytes = record { kind = layout.frame_type; channel = layout.channel_id; payload = take layout.payload_len (drop layout.payload_start bytes) }
+
+abbrev pub looked : Look → List ℕ → Judged Raw
+looked look bytes = looked_by (λ layout. took (laid_out layout bytes) layout.frame_len) look
+
+-- a frame and its payload lie within the bytes
+abbrev pub IsWithinBytes : ℕ → FrameLayout → Type 0
+IsWithinBytes count layout = (layout.payload_start + layout.payload_len ≤ layout.frame_len) × (layout.frame_len ≤ count)
+
+abbrev pub IsInside : Look → List ℕ → Type 0
+IsInside (looks.Whole layout) bytes = IsWithinBytes (length bytes) layout
+IsInside looks.Incomplete bytes = Unit {0}
+IsInside looks.UnknownFrameType bytes = Unit {0}
+IsInside looks.BadProtocolHeader bytes = Unit {0}
+IsInside looks.TooLarge bytes = Unit {0}
+IsInside looks.BadFrameEnd bytes = Unit {0}
+
+-- the same, of bytes whose first one is left out
+abbrev pub laid_out_behind : FrameLayout → List ℕ → Raw
+laid_out_behind layout rest = record { kind = layout.frame_type; channel = layout.channel_id; payload = take layout.payload_len (drop (layout.payload_start - 1) rest) }
+
+abbrev pub looked_behind : Look → List ℕ → Judged Raw
+looked_behind look rest = looked_by (λ layout. took (laid_out_behind layout rest) (layout.frame_len - 1)) look
+
+abbrev pub IsBehind : Look → List ℕ → Type 0
+IsBehind (looks.Whole layout) rest = (1 ≤ layout.payload_start) × IsWithinBytes (1 + length rest) layout
+IsBehind looks.Incomplete rest = Unit {0}
+IsBehind looks.UnknownFrameType rest = Unit {0}
+IsBehind looks.BadProtocolHeader rest = Unit {0}
+IsBehind looks.TooLarge rest = Unit {0}
+IsBehind looks.BadFrameEnd rest = Unit {0}

@@ -1,0 +1,51 @@
+-- All the bytes that are read as a frame, and as a row of frames (AMQP 0-9-1, sections 4.2.2 to 4.2.7).
+use Rattle.std.specs.Prelude.{◌≡◌, ℕ, ◌+◌, ◌^◌, ◌<◌, ◌≤◌, List, [], ◌∷◌, ◌++◌, length, Option, Some, None}
+use Rattle.amqp_types.specs.Levels.{Level, plain, tidy, strict}
+use Rattle.amqp_types.specs.Numbers.{bytes2, bytes4, number_bytes}
+use Rattle.amqp_frame.specs.Frames.{Frame, Proto, Body, Beat, BadBeat}
+
+-- what stands in front of n bytes of payload
+abbrev pub head : ℕ → ℕ → ℕ → List ℕ
+head type channel n = type ∷ (number_bytes bytes2 channel ++ number_bytes bytes4 n)
+
+-- a frame that is no protocol header: type, channel, length, payload and the end byte
+abbrev pub framed : ℕ → ℕ → List ℕ → List ℕ
+framed type channel payload = head type channel (length payload) ++ (payload ++ 206 ∷ [])
+
+-- a protocol header: `AMQP`, 0 and the version
+abbrev pub proto : ℕ → ℕ → ℕ → List ℕ
+proto major minor revision = 65 ∷ 77 ∷ 81 ∷ 80 ∷ 0 ∷ major ∷ minor ∷ revision ∷ []
+
+-- these bytes are a frame of this type, with this payload
+pub record IsFramed (bytes : List ℕ) (type channel : ℕ) (payload : List ℕ) : Type 0 where
+  pub channel_fits : channel < 2 ^ 16
+  pub length_fits : length payload < 2 ^ 32
+  pub bytes_are : bytes ≡ framed type channel payload
+
+-- A heartbeat may carry bytes, which mean nothing. Only at plain are they taken.
+abbrev pub IsBeatPayload : Level → List ℕ → Type 0
+IsBeatPayload plain payload = Unit {0}
+IsBeatPayload tidy payload = payload ≡ []
+IsBeatPayload strict payload = payload ≡ []
+
+pub record IsBeat (level : Level) (bytes : List ℕ) (channel : ℕ) : Type 0 where
+  pub payload : List ℕ
+  pub is_framed : IsFramed bytes 8 channel payload
+  pub at_level : IsBeatPayload level payload
+
+-- these bytes spell the frame
+abbrev pub Spells : Level → List ℕ → Frame → Type 0
+Spells level bytes (Proto major minor revision) = bytes ≡ proto major minor revision
+Spells level bytes (Body channel content) = IsFramed bytes 3 channel content
+Spells level bytes Beat = IsBeat level bytes 0
+Spells level bytes (BadBeat channel) = (0 < channel) × IsBeat level bytes channel
+
+-- A frame's payload has at most m bytes, and a protocol header has none: all but 8 bytes are payload.
+abbrev pub IsWithin : Option ℕ → List ℕ → Type 0
+IsWithin None bytes = Unit {0}
+IsWithin (Some m) bytes = length bytes ≤ m + 8
+
+-- the bytes spell these frames, one after another, each within the limit
+abbrev pub Row : Level → Option ℕ → List ℕ → List Frame → Type 0
+Row level m bytes [] = bytes ≡ []
+Row level m bytes (f ∷ fs) = (first rest : List ℕ) × (bytes ≡ first ++ rest) × Spells level first f × IsWithin m first × Row level m rest fs

@@ -1,0 +1,32 @@
+//! AMQP 0-9-1 frames: what stands at the front of some bytes, and the one spelling that is written.
+#![tactic(auto)]
+
+mod channel;
+mod frame;
+mod frame_type;
+mod generation;
+mod laws;
+mod looking;
+mod parsing;
+mod raw_frame;
+mod version;
+
+pub use amqp_types::{GenError, ParserError};
+pub use channel::AMQPChannel;
+pub use frame::{AMQPFrame, release};
+pub use frame_type::AMQPFrameType;
+pub use generation::{
+    frame_head, frame_size, gen_frame, gen_frame_slice, header_bytes, heartbeat_bytes, put_frame,
+};
+pub use laws::{
+    canonical_bytes_are_shortest, canonical_bytes_read_back, front_is_longest, levels_nest,
+    no_frame_begins_another, one_canonical_spelling, one_meaning, verdicts_are_spellings,
+    verdicts_are_stable, written_again,
+};
+pub use looking::{FrameLayout, Look, look_at};
+pub use parsing::{
+    parse_channel, parse_frame, parse_frame_type, parse_payload, parse_protocol_header,
+    parse_raw_frame,
+};
+pub use raw_frame::AMQPRawFrame;
+pub use version::ProtocolVersion;

@@ -1,0 +1,123 @@
+//! The outer look: what stands at the front of some bytes, whatever its payload is.
+
+ghost use Rattle.std.specs.Prelude.{◌≡◌};
+ghost use Rattle.amqp_frame.specs.Looks.{looked, looked_behind, IsInside, IsBehind};
+ghost use Rattle.amqp_frame.specs.Outer.{outer, judge_raw, version_at, begins_as};
+
+use crate::frame_type::AMQPFrameType;
+use amqp_types::ChannelId;
+
+/// Where the parts of a frame lie, counted from its first byte.
+#[derive(Clone, Copy, Debug, PartialEq, Eq)]
+pub struct FrameLayout {
+    pub frame_type: AMQPFrameType,
+    pub channel_id: ChannelId,
+    pub payload_start: usize,
+    pub payload_len: usize,
+    pub frame_len: usize,
+}
+
+/// What stands at the front of some bytes.
+#[derive(Clone, Copy, Debug, PartialEq, Eq)]
+pub enum Look {
+    /// More bytes are wanted.
+    Incomplete,
+
+    /// The first byte names no frame type.
+    UnknownFrameType,
+
+    /// A first byte 65 that does not begin a protocol header.
+    BadProtocolHeader,
+
+    /// A payload above the limit.
+    TooLarge,
+
+    /// The byte behind the payload is not 206.
+    BadFrameEnd,
+
+    /// A whole frame.
+    Whole(FrameLayout),
+}
+
+/// Looks at the front of some bytes for a frame, with a limit in bytes on its payload.
+#[tactic(auto, using(crate::proofs::Looked::looked_behind_one), unfolding(crate::specs::Outer::outer, crate::specs::Outer::behind_type))]
+pub fn look_at(max_payload: Option<u32>, bytes: &[u8]) -> Look
+    ensures value { outer max_payload bytes.now ≡ looked result bytes.now }
+    ensures inside { IsInside result bytes.now }
+{
+    match bytes {
+        [] => Look::Incomplete,
+        [65, rest @ ..] => look_version(rest),
+        [1, rest @ ..] => look_raw(max_payload, AMQPFrameType::Method, rest),
+        [2, rest @ ..] => look_raw(max_payload, AMQPFrameType::Header, rest),
+        [3, rest @ ..] => look_raw(max_payload, AMQPFrameType::Body, rest),
+        [8, rest @ ..] => look_raw(max_payload, AMQPFrameType::Heartbeat, rest),
+        [_, ..] => Look::UnknownFrameType,
+    }
+}
+
+/// Each byte that is there is the one that is wanted.
+pub(crate) fn agrees(bytes: &[u8], wanted: &[u8]) -> bool
+    ensures { result ≡ begins_as bytes.now wanted.now }
+{
+    match bytes {
+        [] => true,
+        [byte, bytes @ ..] => match wanted {
+            [] => true,
+            [want, wanted @ ..] => *byte == *want && agrees(bytes, wanted),
+        },
+    }
+}
+
+/// Looks for the rest of a protocol header, behind its first byte.
+#[tactic(auto, using(crate::proofs::Looked::version_payload), unfolding(crate::specs::Outer::judge_version))]
+fn look_version(rest: &[u8]) -> Look
+    ensures value { version_at rest.now ≡ looked_behind result rest.now }
+    ensures inside { IsBehind result rest.now }
+{
+    if !agrees(rest, b"MQP\0") {
+        return Look::BadProtocolHeader;
+    }
+    if rest.len() < 7 {
+        return Look::Incomplete;
+    }
+    Look::Whole(FrameLayout {
+        frame_type: AMQPFrameType::ProtocolHeader,
+        channel_id: 0,
+        payload_start: 5,
+        payload_len: 3,
+        frame_len: 8,
+    })
+}
+
+/// Looks for the rest of any other frame, behind its type byte.
+#[tactic(auto, unfolding(crate::specs::Outer::judge_raw, crate::specs::Outer::ended_payload))]
+pub(crate) fn look_raw(max_payload: Option<u32>, frame_type: AMQPFrameType, rest: &[u8]) -> Look
+    ensures value { judge_raw max_payload frame_type rest.now ≡ looked_behind result rest.now }
+    ensures inside { IsBehind result rest.now }
+{
+    if rest.len() < 6 {
+        return Look::Incomplete;
+    }
+    let channel_id = u16::from_be_bytes([rest[0], rest[1]]);
+    let payload_len = u32::from_be_bytes([rest[2], rest[3], rest[4], rest[5]]);
+    if let Some(max_payload) = max_payload
+        && payload_len > max_payload
+    {
+        return Look::TooLarge;
+    }
+    let payload_len = payload_len as usize;
+    if rest.len() - 6 <= payload_len {
+        return Look::Incomplete;
+    }
+    if rest[6 + payload_len] != 206 {
+        return Look::BadFrameEnd;
+    }
+    Look::Whole(FrameLayout {
+        frame_type,
+        channel_id,
+        payload_start: 7,
+        payload_len,
+        frame_len: payload_len + 8,
+    })
+}

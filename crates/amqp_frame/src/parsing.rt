@@ -1,0 +1,155 @@
+//! Reading frames and their parts from the front of a slice.
+
+ghost use Rattle.std.specs.Prelude.{◌≡◌, ◌≤◌, length, None, Err, IfOk};
+ghost use Rattle.amqp_types.specs.Levels.{plain};
+ghost use Rattle.amqp_types.specs.Answers.{Answers, AnswersFully, AnswersWhole};
+ghost use Rattle.amqp_frame.specs.Channels.{judge_channel};
+ghost use Rattle.amqp_frame.specs.Frames.{frame_of, raw_of, beat_on, OwnsMemory};
+ghost use Rattle.amqp_frame.specs.Outer.{judge_frame_type, judge_version, judge_raw, BeginsWith};
+ghost use Rattle.amqp_frame.specs.Verdicts.{verdict, whole};
+
+use crate::channel::AMQPChannel;
+use crate::frame::AMQPFrame;
+use crate::frame_type::AMQPFrameType;
+use crate::looking::{Look, agrees, look_at, look_raw};
+use crate::raw_frame::AMQPRawFrame;
+use crate::version::ProtocolVersion;
+use amqp_types::{ByteArray, ChannelId, ParserError, parse_id};
+use std::alloc::Global;
+
+/// Reads a channel's number, 2 bytes.
+#[tactic(auto, using(amqp_types::proofs::Judged::refuses_next))]
+pub fn parse_channel(i: &[u8]) -> Result<(usize, AMQPChannel), ParserError>
+    ensures judged { AnswersFully (λ channel. channel) result (judge_channel i.now) }
+    ensures used { IfOk result (λ found. found.0 ≤ length i.now) }
+{
+    match parse_id(i) {
+        Ok((used, id)) => Ok((used, AMQPChannel::from(id))),
+        Err(error) => Err(error),
+    }
+}
+
+/// Reads the first byte of a frame.
+pub fn parse_frame_type(i: &[u8]) -> Result<(usize, AMQPFrameType), ParserError>
+    ensures judged { AnswersFully (λ kind. kind) result (judge_frame_type i.now) }
+    ensures used { IfOk result (λ found. found.0 ≤ length i.now) }
+{
+    match i {
+        [] => Err(ParserError::Incomplete),
+        [65, ..] => Ok((1, AMQPFrameType::ProtocolHeader)),
+        [1, ..] => Ok((1, AMQPFrameType::Method)),
+        [2, ..] => Ok((1, AMQPFrameType::Header)),
+        [3, ..] => Ok((1, AMQPFrameType::Body)),
+        [8, ..] => Ok((1, AMQPFrameType::Heartbeat)),
+        [_, ..] => Err(ParserError::UnknownFrameType),
+    }
+}
+
+/// Reads the seven bytes of a protocol header that follow its `A`.
+#[tactic(auto, unfolding(crate::specs::Outer::judge_version))]
+pub fn parse_protocol_header(i: &[u8]) -> Result<(usize, ProtocolVersion), ParserError>
+    ensures judged { AnswersFully (λ version. version) result (judge_version i.now) }
+    ensures used { IfOk result (λ found. found.0 ≤ length i.now) }
+{
+    if !agrees(i, b"MQP\0") {
+        return Err(ParserError::BadProtocolHeader);
+    }
+    if i.len() < 7 {
+        return Err(ParserError::Incomplete);
+    }
+    let version = ProtocolVersion {
+        major: i[4],
+        minor: i[5],
+        revision: i[6],
+    };
+    Ok((7, version))
+}
+
+/// Reads what follows a type byte: channel, length, payload and the end byte 206. The payload is
+/// lent. `ProtocolHeader` is taken as a type like the others.
+#[tactic(auto, using(crate::proofs::OuterLook::raw_never_large))]
+pub fn parse_raw_frame<'a>(
+    frame_type: AMQPFrameType,
+    i: &'a [u8],
+) -> Result<(usize, AMQPRawFrame<'a>), ParserError>
+    ensures judged { AnswersFully raw_of result (judge_raw None frame_type i.now) }
+    ensures used { IfOk result (λ found. found.0 ≤ length i.now) }
+{
+    match look_raw(None, frame_type, i) {
+        Look::Incomplete => Err(ParserError::Incomplete),
+        Look::UnknownFrameType => Err(ParserError::UnknownFrameType),
+        Look::BadProtocolHeader => Err(ParserError::BadProtocolHeader),
+        Look::TooLarge => unreachable!(),
+        Look::BadFrameEnd => Err(ParserError::BadFrameEnd),
+        Look::Whole(layout) => {
+            let start = layout.payload_start - 1;
+            let raw = AMQPRawFrame {
+                frame_type: layout.frame_type,
+                channel_id: layout.channel_id,
+                payload: &i[start..start + layout.payload_len],
+            };
+            Ok((layout.frame_len - 1, raw))
+        }
+    }
+}
+
+/// A heartbeat on this channel.
+fn heartbeat(channel_id: ChannelId) -> AMQPFrame
+    ensures { frame_of result ≡ beat_on channel_id }
+{
+    if channel_id == 0 {
+        AMQPFrame::Heartbeat
+    } else {
+        AMQPFrame::InvalidHeartbeat(channel_id)
+    }
+}
+
+/// Reads a whole payload. A body is copied; a heartbeat's payload is dropped.
+#[tactic(auto, unfolding(crate::specs::Verdicts::whole_as))]
+pub fn parse_payload(alloc: Global, raw: AMQPRawFrame<'_>) -> Result<AMQPFrame, ParserError>
+    ensures whole { AnswersWhole frame_of result (whole (raw_of raw.entry)) }
+    ensures memory { result ≡ Err ParserError.NoMemory → OwnsMemory raw.entry.frame_type }
+{
+    match raw.frame_type {
+        AMQPFrameType::ProtocolHeader => match raw.payload {
+            [major, minor, revision] => Ok(AMQPFrame::ProtocolHeader(ProtocolVersion {
+                major: *major,
+                minor: *minor,
+                revision: *revision,
+            })),
+            [_, _, _, _, ..] => Err(ParserError::TrailingBytes),
+            _ => Err(ParserError::ShortPayload),
+        },
+        AMQPFrameType::Method | AMQPFrameType::Header => Err(ParserError::NotBuilt),
+        AMQPFrameType::Body => {
+            let bytes = ByteArray::new(alloc, raw.payload)?;
+            Ok(AMQPFrame::Body(raw.channel_id, bytes))
+        }
+        AMQPFrameType::Heartbeat => Ok(heartbeat(raw.channel_id)),
+    }
+}
+
+/// Reads one frame at the front, with no limit on its payload.
+#[tactic(auto, using(crate::proofs::Payloads::refused_frame, crate::proofs::OuterLook::never_large), unfolding(crate::specs::Verdicts::verdict))]
+pub fn parse_frame(alloc: Global, i: &[u8]) -> Result<(usize, AMQPFrame), ParserError>
+    ensures judged { Answers frame_of result (verdict plain None i.now) }
+    ensures used { IfOk result (λ found. found.0 ≤ length i.now) }
+    ensures memory { result ≡ Err ParserError.NoMemory → BeginsWith OwnsMemory None i.now }
+{
+    match look_at(None, i) {
+        Look::Incomplete => Err(ParserError::Incomplete),
+        Look::UnknownFrameType => Err(ParserError::UnknownFrameType),
+        Look::BadProtocolHeader => Err(ParserError::BadProtocolHeader),
+        Look::TooLarge => unreachable!(),
+        Look::BadFrameEnd => Err(ParserError::BadFrameEnd),
+        Look::Whole(layout) => {
+            let raw = AMQPRawFrame {
+                frame_type: layout.frame_type,
+                channel_id: layout.channel_id,
+                payload: &i[layout.payload_start..layout.payload_start + layout.payload_len],
+            };
+            let frame = parse_payload(alloc, raw)?;
+            Ok((layout.frame_len, frame))
+        }
+    }
+}

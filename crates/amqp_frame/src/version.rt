@@ -1,0 +1,37 @@
+ghost use Rattle.std.specs.Prelude.{◌≡◌, Some};
+ghost use Rattle.amqp_frame.specs.Display.{version_text};
+
+use amqp_types::ShortShortUInt;
+use std::fmt;
+
+/// The version that a protocol header names.
+#[derive(Clone, Copy, Debug, PartialEq, Eq)]
+pub struct ProtocolVersion {
+    pub major: ShortShortUInt,
+    pub minor: ShortShortUInt,
+    pub revision: ShortShortUInt,
+}
+
+impl ProtocolVersion {
+    /// The version that these crates are about.
+    pub fn amqp_0_9_1() -> Self
+        ensures { result ≡ record { major = 0; minor = 9; revision = 1 } }
+    {
+        ProtocolVersion {
+            major: 0,
+            minor: 9,
+            revision: 1,
+        }
+    }
+}
+
+impl fmt::Display for ProtocolVersion {
+    ghost output = { λ version. Some (version_text version) };
+
+    fn fmt<W: fmt::Write>(&self, f: &mut fmt::Formatter<W>) -> fmt::Result {
+        let major = self.major;
+        let minor = self.minor;
+        let revision = self.revision;
+        write!(f, "{major}.{minor}.{revision}")
+    }
+}
