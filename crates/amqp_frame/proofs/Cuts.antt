@@ -146,10 +146,14 @@ pub verdict-bad : (level : Level) (m : Option ℕ) (bytes : List ℕ) (bad : Fau
 unfolding verdict
 verdict-bad level m bytes bad e = ap (judged level) e
 
-pub verdict-whole : (m : Option ℕ) (bytes : List ℕ) (raw : Raw) (n : ℕ) (f : Frame) → outer m bytes ≡ took raw n → whole raw ≡ Ok f → verdict plain m bytes ≡ took f n
+pub verdict-whole : (level : Level) (m : Option ℕ) (bytes : List ℕ) (raw : Raw) (n : ℕ) (f : Frame) → outer m bytes ≡ took raw n → is_at level raw ≡ true → whole raw ≡ Ok f → verdict level m bytes ≡ took f n
 unfolding verdict
-verdict-whole m bytes raw n f e w = ap (judged plain) e ∙ ap (λ r. judged_frame true r n) w
+verdict-whole level m bytes raw n f e at_level is_whole = ap (judged level) e ∙ ap (λ t. judged_frame t (whole raw) n) at_level ∙ ap (λ r. judged_frame true r n) is_whole
 
-pub verdict-fault : (m : Option ℕ) (bytes : List ℕ) (raw : Raw) (n : ℕ) (bad : Fault) → outer m bytes ≡ took raw n → whole raw ≡ Err bad → verdict plain m bytes ≡ fault bad
+judged_frame-fault : (at_level : Bool) (read : Result Frame Fault) (n : ℕ) (bad : Fault) → read ≡ Err bad → judged_frame at_level read n ≡ fault bad
+judged_frame-fault true read n bad e = ap (λ r. judged_frame true r n) e
+judged_frame-fault false read n bad e = ap (λ r. judged_frame false r n) e
+
+pub verdict-fault : (level : Level) (m : Option ℕ) (bytes : List ℕ) (raw : Raw) (n : ℕ) (bad : Fault) → outer m bytes ≡ took raw n → whole raw ≡ Err bad → verdict level m bytes ≡ fault bad
 unfolding verdict
-verdict-fault m bytes raw n bad e w = ap (judged plain) e ∙ ap (λ r. judged_frame true r n) w
+verdict-fault level m bytes raw n bad e is_whole = ap (judged level) e ∙ judged_frame-fault (is_at level raw) (whole raw) n bad is_whole

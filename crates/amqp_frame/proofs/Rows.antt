@@ -134,6 +134,13 @@ row_by level m (suc n) bytes fits few = row_step level m n bytes fits few (λ re
 pub front-is_row : (level : Level) (m : Option ℕ) (bytes : List ℕ) → IsBytes bytes → FrontIsRow level m bytes
 front-is_row level m bytes fits = row_by level m (length bytes) bytes fits (omega arith)
 
+-- where nothing follows the front, the bytes are it
+pub row_of_all : (level : Level) (m : Option ℕ) (bytes : List ℕ) → IsBytes bytes → place level m bytes ≡ [] → Row level m bytes (front level m bytes)
+row_of_all level m bytes fits none =
+    let cut = front-is_row level m bytes fits in
+    let same : cut.used ≡ bytes = sym (cut.parts ∙ ap (λ (xs : List ℕ). cut.used ++ xs) none ∙ append-nil cut.used) in
+    subst (λ (xs : List ℕ). Row level m xs (front level m bytes)) same cut.row
+
 pub longest_row : (level : Level) (m : Option ℕ) (bytes : List ℕ) → IsBytes bytes → IsLongestRow level m bytes (front level m bytes) (place level m bytes)
 longest_row level m bytes fits =
     let cut = front-is_row level m bytes fits in

@@ -7,7 +7,7 @@ use Rattle.amqp_types.specs.Judging.{IsBytes}
 use Rattle.amqp_frame.specs.Frames.{Frame, Proto, Body, Beat, BadBeat}
 use Rattle.amqp_frame.specs.Spelling.{framed, IsFramed, IsBeat, Spells, IsWithin, Row}
 use Rattle.amqp_frame.specs.Canonical.{canon, canon_row, is_long}
-use Rattle.amqp_frame.specs.Fronts.{front}
+use Rattle.amqp_frame.specs.Fronts.{front, place}
 use Rattle.amqp_frame.specs.Laws.{HasOneStrict, IsShortest, GivesItself}
 use Rattle.amqp_frame.proofs.Spelled.{framed-length}
 use Rattle.amqp_frame.proofs.Rows.{row_front, row_place, front-is_row}
@@ -128,6 +128,12 @@ plain_shortest m bytes (f ∷ fs) r =
 
 pub row_shortest : (level : Level) (m : Option ℕ) (bytes : List ℕ) (frames : List Frame) → Row level m bytes frames → IsShortest bytes frames
 row_shortest level m bytes frames r = plain_shortest m bytes frames (row_is_plain level m bytes frames r)
+
+-- the canonical bytes of the front are no more than the bytes
+pub canon_front-short : (level : Level) (m : Option ℕ) (bytes : List ℕ) → IsBytes bytes → length (canon_row (front level m bytes)) ≤ length bytes
+canon_front-short level m bytes fits =
+    let cut = front-is_row level m bytes fits in
+    omega (arith, (row_shortest level m cut.used (front level m bytes) cut.row).shortest, ap length cut.parts, length-append cut.used (place level m bytes))
 
 -- what was written, given again
 pub gives_itself : (level : Level) (m : Option ℕ) (bytes : List ℕ) → IsBytes bytes → GivesItself m (canon_row (front level m bytes))

@@ -1,0 +1,72 @@
+-- What was taken, written and counted adds up.
+use Rattle.std.proofs.Common.{◌≡◌, ℕ, ◌+◌, ◌-◌, ◌<◌, ◌≤◌, List, [], ◌++◌, length, get_or, Option, Some, None, refl, sym, ap, subst, ◌∙◌, inl, inr, arith, append_assoc, append-nil}
+use Rattle.std.proofs.lemmas.Bool.{cases_lt}
+use Rattle.std.proofs.lemmas.List.{length-append, get_or_append_left, get_or-append-add}
+use Rattle.amqp_types.specs.Judging.{IsBytes}
+use Rattle.amqp_stream.specs.Ends.{Supply, Takes, Told, Nothing, Number, Bytes, Store, Gains, Rises, prepended, counted, grown, last}
+
+-- ---- counts of faults
+
+-- a count that rose late rose
+pub Rises-later : (a s t : ℕ) → a ≤ s → s ≤ t → Rises s t → Rises a t
+Rises-later a s t p q r = elim (cases_lt s last) [ inl low ↦ omega (arith, r low) | inr high ↦ omega arith ]
+
+-- ---- sources
+
+prepended-prepended : (p q : List ℕ) (left : Option (List ℕ)) → prepended p (prepended q left) ≡ prepended (p ++ q) left
+prepended-prepended p q None = refl
+prepended-prepended p q (Some rest) = ap Some (sym (append_assoc p q rest))
+
+prepended-nil : (left : Option (List ℕ)) → left ≡ prepended [] left
+prepended-nil None = refl
+prepended-nil (Some rest) = refl
+
+counted-counted : (n k : ℕ) (reads : Option ℕ) → counted k (counted n reads) ≡ counted (n + k) reads
+counted-counted n k None = refl
+counted-counted n k (Some r) = ap Some (omega arith)
+
+counted-zero : (reads : Option ℕ) → counted 0 reads ≡ reads
+counted-zero None = refl
+counted-zero (Some r) = ap Some (omega arith)
+
+pub Takes-then : (a b c : Supply) (p q : List ℕ) (n k : ℕ) → Takes a b p n → Takes b c q k → Takes a c (p ++ q) (n + k)
+Takes-then a b c p q n k f g = record {
+  bytes = f.bytes ∙ ap (prepended p) g.bytes ∙ prepended-prepended p q c.left;
+  counts = g.counts ∙ ap (counted k) f.counts ∙ counted-counted n k a.reads;
+  faults = omega (arith, f.faults, g.faults);
+}
+
+pub Takes-none : (a : Supply) → Takes a a [] 0
+Takes-none a = record { bytes = prepended-nil a.left; counts = sym (counted-zero a.reads); faults = omega arith }
+
+-- ---- sinks
+
+grown-grown : (t : Told) (p q : List ℕ) → grown (grown t p) q ≡ grown t (p ++ q)
+grown-grown Nothing p q = refl
+grown-grown (Number n) p q = ap Number (omega (arith, length-append p q))
+grown-grown (Bytes bytes) p q = ap Bytes (append_assoc bytes p q)
+
+grown-nil : (t : Told) → grown t [] ≡ t
+grown-nil Nothing = refl
+grown-nil (Number n) = ap Number (omega arith)
+grown-nil (Bytes bytes) = ap Bytes (append-nil bytes)
+
+pub Gains-none : (a : Store) → Gains a a []
+Gains-none a = record { bytes = sym (grown-nil a.taken); faults = omega arith }
+
+pub Gains-then : (a b c : Store) (p q : List ℕ) → Gains a b p → Gains b c q → Gains a c (p ++ q)
+Gains-then a b c p q f g = record {
+  bytes = g.bytes ∙ ap (λ t. grown t q) f.bytes ∙ grown-grown a.taken p q;
+  faults = omega (arith, f.faults, g.faults);
+}
+
+-- ---- bytes
+
+pub IsBytes-append : (p q : List ℕ) → IsBytes p → IsBytes q → IsBytes (p ++ q)
+IsBytes-append p q f g i = elim (cases_lt i (length p)) [
+  | inl low ↦ rw (get_or_append_left p q 0 i low) (f i)
+  | inr high ↦ let at : length p + (i - length p) ≡ i = omega arith in subst (λ k. get_or (p ++ q) k 0 < 256) at (rw (get_or-append-add p q (i - length p) 0) (g (i - length p)))
+]
+
+pub IsBytes-nil : IsBytes []
+IsBytes-nil i = omega arith

@@ -1,0 +1,46 @@
+-- The held bytes after a read behind them, and after they move to the front.
+use Rattle.std.proofs.Common.{◌≡◌, ℕ, ◌+◌, ◌-◌, ◌≤◌, List, [], ◌++◌, length, take, drop, sym, ap, subst, ◌∙◌, arith}
+use Rattle.amqp_types.specs.Judging.{IsBytes}
+use Rattle.amqp_types.proofs.Bytes.{IsBytes-take, IsBytes-drop}
+use Rattle.std.proofs.lemmas.List.{length-take-le, drop-drop, take-take, take_at, take-append-le, drop-append-le, length-drop}
+use Rattle.std.proofs.lemmas.Slice.{between_is}
+use Rattle.std.proofs.Math.Seq.{take-append-add}
+use borrow.Rule.Slice.PartMut.{put_mid, post_of}
+
+-- some bytes of a list, by two places
+pub part-length : (xs : List ℕ) (s e : ℕ) → s ≤ e → e ≤ length xs → length (take (e - s) (drop s xs)) ≡ e - s
+part-length xs s e h g = length-take-le (e - s) (drop s xs) (omega (arith, length-drop s xs))
+
+add_at : (xs ys : List ℕ) (e n : ℕ) → length xs ≡ e → take (e + n) (xs ++ ys) ≡ xs ++ take n ys
+add_at xs ys e n h = ap (λ k. take (k + n) (xs ++ ys)) (sym h) ∙ take-append-add xs ys n
+
+-- what lies there grows by what was put behind it
+pub part-put : (xs ys : List ℕ) (s e k n : ℕ) → s ≤ e → e ≤ length xs → length ys ≡ k → n ≤ k → take (e + n - s) (drop s (put_mid e k xs ys)) ≡ take (e - s) (drop s xs) ++ take n ys
+part-put xs ys s e k n h g len few =
+    let front = length-take-le e xs g in
+    let cut : take (e + n) (put_mid e k xs ys) ≡ take e xs ++ take n ys = add_at (take e xs) (ys ++ post_of e k xs) e n front ∙ ap (λ (zs : List ℕ). take e xs ++ zs) (take-append-le n ys (post_of e k xs) (omega arith)) in
+    between_is (put_mid e k xs ys) s (e + n) ∙ ap (drop s) cut ∙ drop-append-le s (take e xs) (take n ys) (omega arith) ∙ ap (λ (zs : List ℕ). zs ++ take n ys) (sym (between_is xs s e))
+
+-- and stays where it is not reached
+pub part-kept : (xs ys : List ℕ) (s e k : ℕ) → s ≤ e → e ≤ length xs → take (e - s) (drop s (put_mid e k xs ys)) ≡ take (e - s) (drop s xs)
+part-kept xs ys s e k h g =
+    between_is (put_mid e k xs ys) s e ∙ ap (drop s) (take_at (take e xs) (ys ++ post_of e k xs) e (length-take-le e xs g)) ∙ sym (between_is xs s e)
+
+-- what was put behind it is bytes
+pub part-bytes : (xs ys : List ℕ) (e k n : ℕ) → e ≤ length xs → length ys ≡ k → n ≤ k → IsBytes (put_mid e k xs ys) → IsBytes (take n ys)
+part-bytes xs ys e k n g len few fits =
+    let none : take (e - e) (drop e xs) ≡ [] = ap (λ i. take i (drop e xs)) {x = e - e} {y = 0} (omega arith) in
+    let put : take (e + n - e) (drop e (put_mid e k xs ys)) ≡ take n ys = part-put xs ys e e k n (omega arith) g len few ∙ ap (λ (zs : List ℕ). zs ++ take n ys) none in
+    subst IsBytes put (IsBytes-take (e + n - e) (drop e (put_mid e k xs ys)) (IsBytes-drop e (put_mid e k xs ys) fits))
+
+-- what is left of a part
+pub part-drop : (xs : List ℕ) (s e n : ℕ) → take (e - (s + n)) (drop (s + n) xs) ≡ drop n (take (e - s) (drop s xs))
+part-drop xs s e n = between_is xs (s + n) e ∙ sym (drop-drop n s (take e xs)) ∙ ap (drop n) (sym (between_is xs s e))
+
+-- a part of a part
+pub part-part : (xs : List ℕ) (s e from len : ℕ) → s ≤ e → from + len ≤ e - s → take ((s + from + len) - (s + from)) (drop (s + from) xs) ≡ take len (drop from (take (e - s) (drop s xs)))
+part-part xs s e from len g h =
+    let i = s + from in
+    let deep : take len (drop i (take e xs)) ≡ drop i (take (i + len) (take e xs)) = ap (λ k. take k (drop i (take e xs))) {x = len} (omega arith) ∙ between_is (take e xs) i (i + len) in
+    let same : take len (drop from (take (e - s) (drop s xs))) ≡ take len (drop i (take e xs)) = ap (λ (ys : List ℕ). take len (drop from ys)) (between_is xs s e) ∙ ap (take len) (drop-drop from s (take e xs)) in
+    between_is xs i (i + len) ∙ ap (drop i) (sym (take-take (i + len) e xs (omega arith))) ∙ sym deep ∙ sym same

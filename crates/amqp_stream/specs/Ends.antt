@@ -1,0 +1,63 @@
+-- The two ends of a stream: what a source and a sink tell of themselves.
+use Rattle.std.specs.Prelude.{◌≡◌, ℕ, ◌+◌, ◌-◌, ◌^◌, ◌<◌, ◌≤◌, min, max, List, [], ◌++◌, length, take, Option, Some, None, Result, Ok, Err}
+
+-- the last value of a count, at which it stays
+abbrev pub last : ℕ
+last = 2 ^ 64 - 1
+
+-- a count after n more; it stays at its last value
+abbrev pub counted : ℕ → Option ℕ → Option ℕ
+counted n None = None
+counted n (Some k) = Some (max k (min (k + n) last))
+
+-- the count of faults rose, or stands at its last value
+abbrev pub Rises : ℕ → ℕ → Type 0
+Rises old new = old < last → old < new
+
+-- A source: the bytes that are left and the number of reads so far, each where it is told, and a count of faults.
+pub record Supply : Type 0 where
+  pub left : Option (List ℕ)
+  pub reads : Option ℕ
+  pub faults : ℕ
+
+-- what is left, with a piece in front
+abbrev pub prepended : List ℕ → Option (List ℕ) → Option (List ℕ)
+prepended piece None = None
+prepended piece (Some rest) = Some (piece ++ rest)
+
+-- these bytes were taken, in so many reads
+pub record Takes (old new : Supply) (piece : List ℕ) (reads : ℕ) : Type 0 where
+  pub bytes : old.left ≡ prepended piece new.left
+  pub counts : new.reads ≡ counted reads old.reads
+  pub faults : old.faults ≤ new.faults
+
+-- none is left, where it is told
+abbrev pub IsEmpty : Option (List ℕ) → Type 0
+IsEmpty None = Unit {0}
+IsEmpty (Some bytes) = bytes ≡ []
+
+-- the front of a buffer that a read filled, or of a piece that a write took
+abbrev pub piece_of : {E : Type 0} → Result ℕ E → List ℕ → List ℕ
+piece_of (Ok n) buf = take n buf
+piece_of (Err error) buf = []
+
+-- what a sink tells of the bytes that it has taken: nothing, their number, or the bytes
+pub data Told : Type 0 where
+  Nothing : Told
+  Number : ℕ → Told
+  Bytes : List ℕ → Told
+
+abbrev pub grown : Told → List ℕ → Told
+grown Nothing piece = Nothing
+grown (Number n) piece = Number (n + length piece)
+grown (Bytes bytes) piece = Bytes (bytes ++ piece)
+
+-- A sink: what it tells of the bytes that it has taken, and a count of faults.
+pub record Store : Type 0 where
+  pub taken : Told
+  pub faults : ℕ
+
+-- these bytes were written
+pub record Gains (old new : Store) (piece : List ℕ) : Type 0 where
+  pub bytes : new.taken ≡ grown old.taken piece
+  pub faults : old.faults ≤ new.faults

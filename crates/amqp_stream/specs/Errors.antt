@@ -1,0 +1,93 @@
+-- The errors of streams: the faults of bytes that they tell, their names and statuses.
+use Rattle.std.specs.Prelude.{ℕ, List, codes, Option, Some, None}
+use Rattle.amqp_types.specs.Judging.{Fault, unknown_frame_type, bad_protocol_header, too_large, bad_frame_end, unknown_class, unknown_method, short_payload, trailing_bytes, not_utf8, unknown_tag, too_deep, not_tidy, not_built}
+use Rattle.amqp_stream.specs.declared.errors.ReadError.{ReadError}
+use Rattle.amqp_stream.specs.declared.errors.ReadError.TheVariants as reads
+use Rattle.amqp_stream.specs.declared.errors.StreamError.{StreamError}
+use Rattle.amqp_stream.specs.declared.errors.StreamError.TheVariants as errors
+
+-- the error of a stream that an error of reading is
+abbrev pub stream_error : ReadError → StreamError
+stream_error reads.UnknownFrameType = errors.UnknownFrameType
+stream_error reads.BadProtocolHeader = errors.BadProtocolHeader
+stream_error reads.TooLarge = errors.TooLarge
+stream_error reads.BadFrameEnd = errors.BadFrameEnd
+stream_error reads.CutShort = errors.CutShort
+stream_error reads.TurnsSpent = errors.TurnsSpent
+stream_error reads.ReadFault = errors.ReadFault
+
+-- the error that tells of a fault of bytes
+abbrev pub error_of : Fault → StreamError
+error_of unknown_frame_type = errors.UnknownFrameType
+error_of bad_protocol_header = errors.BadProtocolHeader
+error_of too_large = errors.TooLarge
+error_of bad_frame_end = errors.BadFrameEnd
+error_of unknown_class = errors.UnknownClass
+error_of unknown_method = errors.UnknownMethod
+error_of short_payload = errors.ShortPayload
+error_of trailing_bytes = errors.TrailingBytes
+error_of not_utf8 = errors.NotUtf8
+error_of unknown_tag = errors.UnknownTag
+error_of too_deep = errors.TooDeep
+error_of not_tidy = errors.NotTidy
+error_of not_built = errors.NotBuilt
+
+-- the fault of bytes that an error of reading tells of
+abbrev pub read_fault : ReadError → Option Fault
+read_fault reads.UnknownFrameType = Some unknown_frame_type
+read_fault reads.BadProtocolHeader = Some bad_protocol_header
+read_fault reads.TooLarge = Some too_large
+read_fault reads.BadFrameEnd = Some bad_frame_end
+read_fault reads.CutShort = None
+read_fault reads.TurnsSpent = None
+read_fault reads.ReadFault = None
+
+abbrev pub read_error_name : ReadError → List ℕ
+read_error_name reads.UnknownFrameType = codes "UnknownFrameType"
+read_error_name reads.BadProtocolHeader = codes "BadProtocolHeader"
+read_error_name reads.TooLarge = codes "TooLarge"
+read_error_name reads.BadFrameEnd = codes "BadFrameEnd"
+read_error_name reads.CutShort = codes "CutShort"
+read_error_name reads.TurnsSpent = codes "TurnsSpent"
+read_error_name reads.ReadFault = codes "ReadFault"
+
+abbrev pub stream_error_name : StreamError → List ℕ
+stream_error_name errors.UnknownFrameType = codes "UnknownFrameType"
+stream_error_name errors.BadProtocolHeader = codes "BadProtocolHeader"
+stream_error_name errors.TooLarge = codes "TooLarge"
+stream_error_name errors.BadFrameEnd = codes "BadFrameEnd"
+stream_error_name errors.UnknownClass = codes "UnknownClass"
+stream_error_name errors.UnknownMethod = codes "UnknownMethod"
+stream_error_name errors.ShortPayload = codes "ShortPayload"
+stream_error_name errors.TrailingBytes = codes "TrailingBytes"
+stream_error_name errors.NotUtf8 = codes "NotUtf8"
+stream_error_name errors.UnknownTag = codes "UnknownTag"
+stream_error_name errors.TooDeep = codes "TooDeep"
+stream_error_name errors.NotTidy = codes "NotTidy"
+stream_error_name errors.NotBuilt = codes "NotBuilt"
+stream_error_name errors.CutShort = codes "CutShort"
+stream_error_name errors.TurnsSpent = codes "TurnsSpent"
+stream_error_name errors.ReadFault = codes "ReadFault"
+stream_error_name errors.WriteFault = codes "WriteFault"
+stream_error_name errors.NoMemory = codes "NoMemory"
+
+-- the exit status of a program that ends with the error
+abbrev pub stream_error_status : StreamError → ℕ
+stream_error_status errors.NoMemory = 3
+stream_error_status errors.ReadFault = 4
+stream_error_status errors.WriteFault = 5
+stream_error_status errors.NotBuilt = 8
+stream_error_status errors.UnknownFrameType = 10
+stream_error_status errors.BadProtocolHeader = 11
+stream_error_status errors.TooLarge = 12
+stream_error_status errors.BadFrameEnd = 13
+stream_error_status errors.UnknownClass = 14
+stream_error_status errors.UnknownMethod = 15
+stream_error_status errors.ShortPayload = 16
+stream_error_status errors.TrailingBytes = 17
+stream_error_status errors.NotUtf8 = 18
+stream_error_status errors.UnknownTag = 19
+stream_error_status errors.TooDeep = 20
+stream_error_status errors.CutShort = 21
+stream_error_status errors.TurnsSpent = 22
+stream_error_status errors.NotTidy = 23

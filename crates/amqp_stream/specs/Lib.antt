@@ -1,0 +1,7 @@
+pub mod Ends
+pub mod Scripts
+pub mod Errors
+pub mod Spans
+pub mod Reading
+pub mod Writing
+pub mod Canonicalizing

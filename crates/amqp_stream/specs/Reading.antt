@@ -1,0 +1,100 @@
+-- What a call of the reader does.
+use Rattle.std.specs.Prelude.{◌≡◌, ◌≢◌, ℕ, ◌+◌, ◌-◌, ◌^◌, ◌<◌, ◌≤◌, List, [], ◌++◌, length, drop, Option, Some, None, Result, Ok, Err, IfOk, OnErr, IsErrAnd}
+use Rattle.amqp_types.specs.Judging.{Fault, unknown_frame_type, bad_protocol_header, too_large, bad_frame_end, past, fault, took, IsBytes}
+use Rattle.amqp_frame.specs.Frames.{raw_of}
+use Rattle.amqp_frame.specs.Outer.{outer}
+use Rattle.amqp_frame.specs.Looks.{laid_out}
+use Rattle.amqp_frame.specs.declared.looking.FrameLayout.{FrameLayout}
+use Rattle.amqp_frame.specs.declared.raw_frame.AMQPRawFrame.{AMQPRawFrame}
+use Rattle.amqp_stream.specs.declared.errors.ReadError.{ReadError}
+use Rattle.amqp_stream.specs.declared.errors.ReadError.TheVariants as errors
+use Rattle.amqp_stream.specs.declared.source.SourceFault.{SourceFault}
+use Rattle.amqp_stream.specs.Ends.{Supply, Takes, Rises, IsEmpty}
+use Rattle.amqp_stream.specs.Errors.{read_fault}
+
+-- a reader: the limit on payloads, and the bytes that it holds
+pub record Holding : Type 0 where
+  pub limit : ℕ
+  pub held : List ℕ
+
+-- one read behind the bytes that are held
+pub record ReadsMore (old new : Supply) (before after : List ℕ) (result : Result ℕ SourceFault) : Type 0 where
+  pub piece : List ℕ
+  pub are_bytes : IsBytes piece
+  pub takes : Takes old new piece 1
+  pub held : after ≡ before ++ piece
+  pub ok : IfOk result (λ n. length piece ≡ n)
+  pub end : IfOk result (λ n. n ≡ 0 → IsEmpty new.left)
+  pub err : OnErr result ((piece ≡ []) × Rises old.faults new.faults)
+
+-- The cause of each error of a call over the bytes b, held before and taken in the call.
+abbrev pub Fails : ℕ → List ℕ → Supply → Supply → ℕ → ReadError → Type 0
+Fails m b old new turns errors.UnknownFrameType = outer (Some m) b ≡ fault unknown_frame_type
+Fails m b old new turns errors.BadProtocolHeader = outer (Some m) b ≡ fault bad_protocol_header
+Fails m b old new turns errors.TooLarge = outer (Some m) b ≡ fault too_large
+Fails m b old new turns errors.BadFrameEnd = outer (Some m) b ≡ fault bad_frame_end
+Fails m b old new turns errors.CutShort = (outer (Some m) b ≡ past) × (b ≢ []) × IsEmpty new.left
+Fails m b old new turns errors.TurnsSpent = (outer (Some m) b ≡ past) × (turns ≡ 0)
+Fails m b old new turns errors.ReadFault = (outer (Some m) b ≡ past) × Rises old.faults new.faults
+
+-- How a call ends: IsFound is what is said of a frame. After an error all of b is held.
+abbrev pub Ends : {X : Type 0} → (X → Type 0) → ℕ → List ℕ → Supply → Supply → ℕ → List ℕ → Result (Option X) ReadError → Type 0
+Ends IsFound m b old new turns after (Ok (Some x)) = IsFound x
+Ends IsFound m b old new turns after (Ok None) = (b ≡ []) × (after ≡ []) × IsEmpty new.left
+Ends IsFound m b old new turns after (Err error) = Fails m b old new turns error × (after ≡ b)
+
+-- The reads that took nothing: a call makes one at most, as its last.
+abbrev pub idle_reads_at : ReadError → ℕ
+idle_reads_at errors.UnknownFrameType = 0
+idle_reads_at errors.BadProtocolHeader = 0
+idle_reads_at errors.TooLarge = 0
+idle_reads_at errors.BadFrameEnd = 0
+idle_reads_at errors.CutShort = 1
+idle_reads_at errors.TurnsSpent = 0
+idle_reads_at errors.ReadFault = 1
+
+abbrev pub idle_reads : {X : Type 0} → Result (Option X) ReadError → ℕ
+idle_reads (Ok (Some x)) = 0
+idle_reads (Ok None) = 1
+idle_reads (Err error) = idle_reads_at error
+
+-- What was taken on the way to the bytes b. Each read lowers the turns by one, and where a frame or a fault was held before, none is made.
+pub record Pulls (m : ℕ) (old new : Supply) (turns_old turns_new : ℕ) (before b : List ℕ) : Type 0 where
+  pub taken : List ℕ
+  pub are_bytes : IsBytes taken
+  pub takes : Takes old new taken (turns_old - turns_new)
+  pub all : b ≡ before ++ taken
+  pub room : length b ≤ m + 8
+  pub turns_fall : turns_new ≤ turns_old
+  pub some : 0 < length taken → turns_new < turns_old
+  pub decided : outer (Some m) before ≢ past → (taken ≡ []) × (turns_new ≡ turns_old)
+
+-- a call that ends so, over the bytes b
+pub record PullsTo {X : Type 0} (IsFound : List ℕ → List ℕ → X → Type 0) (m : ℕ) (old new : Supply) (turns_old turns_new : ℕ) (before after : List ℕ) (result : Result (Option X) ReadError) : Type 0 where
+  pub b : List ℕ
+  pub pulls : Pulls m old new turns_old turns_new before b
+  pub ends : Ends (IsFound b after) m b old new turns_new after result
+  pub few : turns_old ≤ turns_new + length pulls.taken + idle_reads result
+
+-- a frame that lies in the bytes, which are all held
+abbrev pub LiesIn : ℕ → List ℕ → List ℕ → FrameLayout → Type 0
+LiesIn m b after layout = (outer (Some m) b ≡ took (laid_out layout b) layout.frame_len) × (after ≡ b) × (layout.payload_start + layout.payload_len ≤ layout.frame_len) × (layout.frame_len ≤ length b)
+
+-- a frame that is lent, and whose bytes are held no more
+abbrev pub IsLent : ℕ → List ℕ → List ℕ → AMQPRawFrame → Type 0
+IsLent m b after raw = (used : ℕ) × (outer (Some m) b ≡ took (raw_of raw) used) × (after ≡ drop used b)
+
+-- A fault that is held is answered again, and nothing changes.
+pub record AnswersAgain (bad : Fault) (turns_old turns_new : ℕ) (old new : Holding) (result : Result (Option AMQPRawFrame) ReadError) : Type 0 where
+  pub same : IsErrAnd result (λ error. read_fault error ≡ Some bad)
+  pub held : new.held ≡ old.held
+  pub turns : turns_new ≡ turns_old
+
+-- a call of `next`
+pub record HasNext (old_supply new_supply : Supply) (turns_old turns_new : ℕ) (old new : Holding) (result : Result (Option AMQPRawFrame) ReadError) : Type 0 where
+  pub limit_fits : old.limit < 2 ^ 32
+  pub limit : new.limit ≡ old.limit
+  pub pulls : PullsTo (IsLent old.limit) old.limit old_supply new_supply turns_old turns_new old.held new.held result
+  pub room : length new.held ≤ old.limit + 8
+  pub undecided_room : outer (Some old.limit) new.held ≡ past → length new.held ≤ old.limit + 7
+  pub again : (bad : Fault) → outer (Some old.limit) old.held ≡ fault bad → AnswersAgain bad turns_old turns_new old new result

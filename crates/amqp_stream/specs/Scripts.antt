@@ -1,0 +1,33 @@
+-- Sources and sinks in memory, some of which follow a script: which calls fail, and how many bytes each call takes at most.
+use Rattle.std.specs.Prelude.{ℕ, min, max, List, length, nat_lt, if◌then◌else◌, slice_index, Some}
+use Rattle.amqp_stream.specs.Ends.{Supply, Store, Bytes}
+
+-- at most so many bytes: as the script has it for the call, one at least, and past its end as many as fit
+abbrev pub most_of : List ℕ → ℕ → ℕ → ℕ
+most_of pieces call fit = if nat_lt call (length pieces) then min fit (max 1 (slice_index pieces call)) else fit
+
+-- a source that follows a script; its calls are counted from 0
+pub record ScriptedSource : Type 0 where
+  pub left : List ℕ
+  pub pieces : List ℕ
+  pub failing : List ℕ
+  pub reads : ℕ
+  pub faults : ℕ
+
+abbrev pub supply_of : ScriptedSource → Supply
+supply_of s = record { left = Some s.left; reads = Some s.reads; faults = s.faults }
+
+-- a sink that keeps what it takes
+pub record Kept : Type 0 where
+  pub bytes : List ℕ
+  pub faults : ℕ
+
+abbrev pub store_of : Kept → Store
+store_of s = record { taken = Bytes s.bytes; faults = s.faults }
+
+-- a sink that follows a script; its calls are counted from 0
+pub record ScriptedSink : Type 0 where
+  pub kept : Kept
+  pub pieces : List ℕ
+  pub failing : List ℕ
+  pub writes : ℕ

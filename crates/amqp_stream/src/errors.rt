@@ -1,0 +1,209 @@
+//! Why a stream was not read, or not canonicalized.
+
+use std::error::Error;
+use std::fmt;
+
+/// Why no frame was read.
+#[derive(Clone, Copy, Debug, PartialEq, Eq)]
+pub enum ReadError {
+    /// The first byte of a frame names no frame type.
+    UnknownFrameType,
+
+    /// A protocol header that does not begin with `AMQP` and 0.
+    BadProtocolHeader,
+
+    /// A payload above the limit.
+    TooLarge,
+
+    /// The byte behind a payload is not 206.
+    BadFrameEnd,
+
+    /// The source ended inside a frame.
+    CutShort,
+
+    /// A further read is wanted, and no turn is left.
+    TurnsSpent,
+
+    /// A read failed.
+    ReadFault,
+}
+
+impl ReadError {
+    ghost use Rattle.std.specs.Prelude.{◌≡◌};
+    ghost use Rattle.amqp_stream.specs.Errors.{read_error_name};
+
+    /// The variant's name.
+    pub fn name(&self) -> &'static str
+        ensures { result.now ≡ read_error_name self.now }
+    {
+        match self {
+            ReadError::UnknownFrameType => "UnknownFrameType",
+            ReadError::BadProtocolHeader => "BadProtocolHeader",
+            ReadError::TooLarge => "TooLarge",
+            ReadError::BadFrameEnd => "BadFrameEnd",
+            ReadError::CutShort => "CutShort",
+            ReadError::TurnsSpent => "TurnsSpent",
+            ReadError::ReadFault => "ReadFault",
+        }
+    }
+}
+
+impl fmt::Display for ReadError {
+    ghost use Rattle.std.specs.Prelude.{Some};
+    ghost use Rattle.amqp_stream.specs.Errors.{read_error_name};
+
+    ghost output = { λ error. Some (read_error_name error) };
+
+    fn fmt<W: fmt::Write>(&self, f: &mut fmt::Formatter<W>) -> fmt::Result {
+        f.write_str(self.name())
+    }
+}
+
+impl Error for ReadError {}
+
+/// Why a stream was not canonicalized to its end.
+#[derive(Clone, Copy, Debug, PartialEq, Eq)]
+pub enum StreamError {
+    /// The first byte of a frame names no frame type.
+    UnknownFrameType,
+
+    /// A protocol header that does not begin with `AMQP` and 0.
+    BadProtocolHeader,
+
+    /// A payload above the limit.
+    TooLarge,
+
+    /// The byte behind a payload is not 206.
+    BadFrameEnd,
+
+    /// A whole method of a class that is none.
+    UnknownClass,
+
+    /// A whole method that its class does not have.
+    UnknownMethod,
+
+    /// Something passes the end of a whole payload, or of a container in it.
+    ShortPayload,
+
+    /// Bytes are left behind the last field of a whole payload.
+    TrailingBytes,
+
+    /// A short string in a whole payload that is not UTF-8.
+    NotUtf8,
+
+    /// A field tag in a whole payload that names no type.
+    UnknownTag,
+
+    /// Tables or arrays in a whole payload nested more than 64 deep.
+    TooDeep,
+
+    /// A whole frame in which something stands that reading drops, where only tidy bytes are taken.
+    NotTidy,
+
+    /// A whole method or content header, which this version does not read yet.
+    NotBuilt,
+
+    /// The source ended inside a frame.
+    CutShort,
+
+    /// A further read is wanted, and no turn is left.
+    TurnsSpent,
+
+    /// A read failed.
+    ReadFault,
+
+    /// A write failed.
+    WriteFault,
+
+    /// Want of memory.
+    NoMemory,
+}
+
+impl StreamError {
+    ghost use Rattle.std.specs.Prelude.{◌≡◌};
+    ghost use Rattle.amqp_stream.specs.Errors.{stream_error_name, stream_error_status};
+
+    /// The variant's name.
+    pub fn name(&self) -> &'static str
+        ensures { result.now ≡ stream_error_name self.now }
+    {
+        match self {
+            StreamError::UnknownFrameType => "UnknownFrameType",
+            StreamError::BadProtocolHeader => "BadProtocolHeader",
+            StreamError::TooLarge => "TooLarge",
+            StreamError::BadFrameEnd => "BadFrameEnd",
+            StreamError::UnknownClass => "UnknownClass",
+            StreamError::UnknownMethod => "UnknownMethod",
+            StreamError::ShortPayload => "ShortPayload",
+            StreamError::TrailingBytes => "TrailingBytes",
+            StreamError::NotUtf8 => "NotUtf8",
+            StreamError::UnknownTag => "UnknownTag",
+            StreamError::TooDeep => "TooDeep",
+            StreamError::NotTidy => "NotTidy",
+            StreamError::NotBuilt => "NotBuilt",
+            StreamError::CutShort => "CutShort",
+            StreamError::TurnsSpent => "TurnsSpent",
+            StreamError::ReadFault => "ReadFault",
+            StreamError::WriteFault => "WriteFault",
+            StreamError::NoMemory => "NoMemory",
+        }
+    }
+
+    /// The exit status of a program that ends with it.
+    pub fn status(&self) -> u8
+        ensures { result ≡ stream_error_status self.now }
+    {
+        match self {
+            StreamError::UnknownFrameType => 10,
+            StreamError::BadProtocolHeader => 11,
+            StreamError::TooLarge => 12,
+            StreamError::BadFrameEnd => 13,
+            StreamError::UnknownClass => 14,
+            StreamError::UnknownMethod => 15,
+            StreamError::ShortPayload => 16,
+            StreamError::TrailingBytes => 17,
+            StreamError::NotUtf8 => 18,
+            StreamError::UnknownTag => 19,
+            StreamError::TooDeep => 20,
+            StreamError::NotTidy => 23,
+            StreamError::NotBuilt => 8,
+            StreamError::CutShort => 21,
+            StreamError::TurnsSpent => 22,
+            StreamError::ReadFault => 4,
+            StreamError::WriteFault => 5,
+            StreamError::NoMemory => 3,
+        }
+    }
+}
+
+impl fmt::Display for StreamError {
+    ghost use Rattle.std.specs.Prelude.{Some};
+    ghost use Rattle.amqp_stream.specs.Errors.{stream_error_name};
+
+    ghost output = { λ error. Some (stream_error_name error) };
+
+    fn fmt<W: fmt::Write>(&self, f: &mut fmt::Formatter<W>) -> fmt::Result {
+        f.write_str(self.name())
+    }
+}
+
+impl Error for StreamError {}
+
+impl From<ReadError> for StreamError {
+    ghost use Rattle.std.specs.Prelude.{◌≡◌};
+    ghost use Rattle.amqp_stream.specs.Errors.{stream_error};
+
+    ghost from_gives = { λ read error. error ≡ stream_error read };
+
+    fn from(error: ReadError) -> StreamError {
+        match error {
+            ReadError::UnknownFrameType => StreamError::UnknownFrameType,
+            ReadError::BadProtocolHeader => StreamError::BadProtocolHeader,
+            ReadError::TooLarge => StreamError::TooLarge,
+            ReadError::BadFrameEnd => StreamError::BadFrameEnd,
+            ReadError::CutShort => StreamError::CutShort,
+            ReadError::TurnsSpent => StreamError::TurnsSpent,
+            ReadError::ReadFault => StreamError::ReadFault,
+        }
+    }
+}

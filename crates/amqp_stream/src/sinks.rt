@@ -1,0 +1,183 @@
+//! Sinks in memory, and a writer of the system.
+
+ghost use Rattle.std.specs.Prelude.{◌≡◌, ◌<◌, ◌≤◌, [], length, Contains, IfOk, IsErr, OnErr};
+ghost use Rattle.amqp_stream.specs.Ends.{Gains, Rises, piece_of, Nothing};
+ghost use Rattle.amqp_stream.specs.Scripts.{store_of, most_of};
+
+use crate::sink::{Sink, SinkFault};
+use crate::sources::most_at;
+use std::alloc::Global;
+use std::io::Write;
+use std::marker::Model;
+
+/// A list of bytes that grows by whole pieces. Want of memory is a counted fault.
+#[derive(Drop)]
+pub struct VecSink {
+    bytes: Vec<u8>,
+    faults: u64,
+}
+
+impl Model for VecSink {
+    ghost use Rattle.amqp_stream.specs.Scripts.{Kept};
+
+    ghost Value = { Kept };
+
+    ghost view = { λ sink. record { bytes = sink.bytes.items; faults = sink.faults } };
+}
+
+impl VecSink {
+    /// Nothing was taken, and no write has failed yet.
+    pub fn new(alloc: Global) -> VecSink
+        ensures { result ≡ record { bytes = []; faults = 0 } }
+    {
+        VecSink {
+            bytes: Vec::new(alloc),
+            faults: 0,
+        }
+    }
+
+    /// What was taken.
+    pub fn bytes(&self) -> &[u8]
+        ensures { result.now ≡ self.now.bytes }
+    {
+        self.bytes.as_slice()
+    }
+}
+
+impl Sink for VecSink {
+    ghost store = { store_of };
+
+    fn write(&mut self, piece: &[u8]) -> Result<usize, SinkFault>
+        requires { 0 < length piece.now }
+        ensures some { IfOk result (λ n. (0 < n) × (n ≤ length piece.now)) }
+        ensures gains { Gains (store_of self.old) (store_of self.new) (piece_of result piece.now) }
+        ensures fault { OnErr result (Rises self.old.faults self.new.faults) }
+
+        // A write that does not fail takes the whole piece.
+        ensures whole { IfOk result (λ n. n ≡ length piece.now) }
+    {
+        match self.bytes.extend_from_slice(piece) {
+            Ok(()) => Ok(piece.len()),
+            Err(_) => {
+                self.faults = self.faults.saturating_add(1);
+                Err(SinkFault)
+            }
+        }
+    }
+}
+
+/// A list of bytes that grows by a script: which writes fail, counted from 0, and how many bytes
+/// each write takes at most. Want of memory is a counted fault.
+#[derive(Drop)]
+pub struct ScriptSink<'a> {
+    kept: VecSink,
+    pieces: &'a [usize],
+    failing: &'a [u64],
+    writes: u64,
+}
+
+impl<'a> Model for ScriptSink<'a> {
+    ghost use Rattle.amqp_stream.specs.Scripts.{ScriptedSink};
+
+    ghost Value = { ScriptedSink };
+
+    ghost view = { λ sink. record { kept = sink.kept; pieces = sink.pieces.now; failing = sink.failing.now; writes = sink.writes } };
+}
+
+impl<'a> ScriptSink<'a> {
+    /// Nothing was taken, and no write was made. Past the end of `pieces` the whole piece is taken.
+    pub fn new(alloc: Global, pieces: &'a [usize], failing: &'a [u64]) -> ScriptSink<'a>
+        ensures { result ≡ record { kept = record { bytes = []; faults = 0 }; pieces = pieces.now; failing = failing.now; writes = 0 } }
+    {
+        ScriptSink {
+            kept: VecSink::new(alloc),
+            pieces,
+            failing,
+            writes: 0,
+        }
+    }
+
+    /// What was taken.
+    pub fn bytes(&self) -> &[u8]
+        ensures { result.now ≡ self.now.kept.bytes }
+    {
+        self.kept.bytes()
+    }
+
+    /// How many writes were made.
+    pub fn writes(&self) -> u64
+        ensures { result ≡ self.now.writes }
+    {
+        self.writes
+    }
+}
+
+impl<'a> Sink for ScriptSink<'a> {
+    ghost store = { λ sink. store_of sink.kept };
+
+    fn write(&mut self, piece: &[u8]) -> Result<usize, SinkFault>
+        requires { 0 < length piece.now }
+        ensures some { IfOk result (λ n. (0 < n) × (n ≤ length piece.now)) }
+        ensures gains { Gains (store_of self.old.kept) (store_of self.new.kept) (piece_of result piece.now) }
+        ensures fault { OnErr result (Rises self.old.kept.faults self.new.kept.faults) }
+
+        // A listed call fails. Any other that does not want memory takes as the script has it.
+        ensures listed { Contains self.old.failing self.old.writes → IsErr result }
+        ensures count { IfOk result (λ n. n ≡ most_of self.old.pieces self.old.writes (length piece.now)) }
+        ensures script { (self.new.pieces ≡ self.old.pieces) × (self.new.failing ≡ self.old.failing) }
+    {
+        let call = self.writes;
+        self.writes = self.writes.saturating_add(1);
+        if self.failing.contains(&call) {
+            self.kept.faults = self.kept.faults.saturating_add(1);
+            return Err(SinkFault);
+        }
+        let count = most_at(self.pieces, call, piece.len());
+        self.kept.write(&piece[..count])
+    }
+}
+
+/// A writer of the system, flushed in each write. It tells nothing of its bytes; each failed write
+/// is counted.
+#[derive(Drop)]
+pub struct StdSink<W> {
+    writer: W,
+    faults: u64,
+}
+
+impl<W> Model for StdSink<W> {
+    ghost use Rattle.std.specs.Prelude.{ℕ};
+
+    ghost Value = { ℕ };
+
+    ghost view = { λ sink. sink.faults };
+}
+
+impl<W: Write> StdSink<W> {
+    /// No write has failed yet.
+    pub fn new(writer: W) -> StdSink<W>
+        ensures { result ≡ 0 }
+    {
+        StdSink { writer, faults: 0 }
+    }
+}
+
+impl<W: Write> Sink for StdSink<W> {
+    ghost store = { λ faults. record { taken = Nothing; faults = faults } };
+
+    fn write(&mut self, piece: &[u8]) -> Result<usize, SinkFault> {
+        match self.writer.write(piece) {
+            Ok(count) if count > 0 => match self.writer.flush() {
+                Ok(()) => Ok(count),
+                Err(_) => {
+                    self.faults = self.faults.saturating_add(1);
+                    Err(SinkFault)
+                }
+            },
+            _ => {
+                self.faults = self.faults.saturating_add(1);
+                Err(SinkFault)
+            }
+        }
+    }
+}
