@@ -17,17 +17,17 @@ use Rattle.amqp_stream.proofs.Adding.{Gains-none}
 use Rattle.amqp_stream.specs.Canonicalizing.{place_verdict, canon_of, answer_at, answer_to, Canonicalizes, NeverBegan, IsAnswerTo, AnswersExactly, IsValid, NoFaults, IsOkOrNoMemory}
 
 -- the bytes taken, and those that are left
-record IsSplit (bytes taken : List ℕ) (left : Option (List ℕ)) : Type 0 where
-  rest : List ℕ
-  parts : bytes ≡ taken ++ rest
-  left_is : left ≡ Some rest
+pub record IsSplit (bytes taken : List ℕ) (left : Option (List ℕ)) : Type 0 where
+  pub rest : List ℕ
+  pub parts : bytes ≡ taken ++ rest
+  pub left_is : left ≡ Some rest
 
-split_of : (bytes taken : List ℕ) (left : Option (List ℕ)) → Some bytes ≡ prepended taken left → IsSplit bytes taken left
+pub split_of : (bytes taken : List ℕ) (left : Option (List ℕ)) → Some bytes ≡ prepended taken left → IsSplit bytes taken left
 split_of bytes taken None e = absurd (cc)
 split_of bytes taken (Some rest) e = record { rest = rest; parts = cc; left_is = refl }
 
 -- all were taken
-all_taken : (bytes taken : List ℕ) (left : Option (List ℕ)) → Some bytes ≡ prepended taken left → IsEmpty left → taken ≡ bytes
+pub all_taken : (bytes taken : List ℕ) (left : Option (List ℕ)) → Some bytes ≡ prepended taken left → IsEmpty left → taken ≡ bytes
 all_taken bytes taken None e h = absurd (cc)
 all_taken bytes taken (Some rest) e h =
     let same : bytes ≡ taken ++ rest = cc in

@@ -1,0 +1,55 @@
+-- Statuses of errors and answers, told apart.
+use Rattle.std.proofs.Common.{◌≡◌, ◌≢◌, ℕ, List, Result, Ok, Err, refl, sym, ◌∙◌, arith}
+use Rattle.hex.specs.declared.error.FromHexError.{FromHexError}
+use Rattle.amqp_types.specs.Levels.{plain}
+use Rattle.amqp_stream.specs.declared.errors.StreamError.{StreamError}
+use Rattle.amqp_stream.specs.declared.errors.StreamError.TheVariants as errors
+use Rattle.amqp_stream.specs.Errors.{stream_error_status}
+use Rattle.amqp_stream.specs.Canonicalizing.{answer_to}
+use Rattle.amqp_program.specs.Reports.{printed, report_at, report_of, max_payload}
+use Rattle.amqp_program.specs.Runs.{status_of}
+
+-- an error has a status of its own, which is neither 0 nor 2
+abbrev IsErrorStatus : ℕ → Type 0
+IsErrorStatus status = (status ≢ 0) × (status ≢ 2)
+
+error_status : (e : StreamError) → IsErrorStatus (stream_error_status e)
+error_status errors.UnknownFrameType = (λ h. absurd (omega arith), λ h. absurd (omega arith))
+error_status errors.BadProtocolHeader = (λ h. absurd (omega arith), λ h. absurd (omega arith))
+error_status errors.TooLarge = (λ h. absurd (omega arith), λ h. absurd (omega arith))
+error_status errors.BadFrameEnd = (λ h. absurd (omega arith), λ h. absurd (omega arith))
+error_status errors.UnknownClass = (λ h. absurd (omega arith), λ h. absurd (omega arith))
+error_status errors.UnknownMethod = (λ h. absurd (omega arith), λ h. absurd (omega arith))
+error_status errors.ShortPayload = (λ h. absurd (omega arith), λ h. absurd (omega arith))
+error_status errors.TrailingBytes = (λ h. absurd (omega arith), λ h. absurd (omega arith))
+error_status errors.NotUtf8 = (λ h. absurd (omega arith), λ h. absurd (omega arith))
+error_status errors.UnknownTag = (λ h. absurd (omega arith), λ h. absurd (omega arith))
+error_status errors.TooDeep = (λ h. absurd (omega arith), λ h. absurd (omega arith))
+error_status errors.NotTidy = (λ h. absurd (omega arith), λ h. absurd (omega arith))
+error_status errors.NotBuilt = (λ h. absurd (omega arith), λ h. absurd (omega arith))
+error_status errors.CutShort = (λ h. absurd (omega arith), λ h. absurd (omega arith))
+error_status errors.TurnsSpent = (λ h. absurd (omega arith), λ h. absurd (omega arith))
+error_status errors.ReadFault = (λ h. absurd (omega arith), λ h. absurd (omega arith))
+error_status errors.WriteFault = (λ h. absurd (omega arith), λ h. absurd (omega arith))
+error_status errors.NoMemory = (λ h. absurd (omega arith), λ h. absurd (omega arith))
+
+pub answer_status_zero : (r : Result (Unit {0}) StreamError) → status_of r ≡ 0 → r ≡ Ok tt
+answer_status_zero (Ok done) e = refl
+answer_status_zero (Err error) e = absurd ((error_status error).0 e)
+
+pub answer_status_not_two : (r : Result (Unit {0}) StreamError) → status_of r ≢ 2
+answer_status_not_two (Ok done) e = absurd (omega arith)
+answer_status_not_two (Err error) e = (error_status error).1 e
+
+-- what is printed has the status of the answer
+printed-status : (front : List ℕ) (r : Result (Unit {0}) StreamError) → (printed front r).status ≡ status_of r
+printed-status front (Ok done) = refl
+printed-status front (Err error) = refl
+
+pub report_at-status : (bytes : List ℕ) → (report_at bytes).status ≡ status_of (answer_to plain max_payload bytes)
+unfolding report_at
+report_at-status bytes = printed-status _ (answer_to plain max_payload bytes)
+
+pub report_status_not_two : (r : Result (List ℕ) FromHexError) → (report_of r).status ≢ 2
+report_status_not_two (Ok bytes) e = answer_status_not_two (answer_to plain max_payload bytes) (sym (report_at-status bytes) ∙ e)
+report_status_not_two (Err error) e = absurd (omega arith)

@@ -1,0 +1,38 @@
+-- The report on a hex text: what is printed for it, and the status.
+use Rattle.std.specs.Prelude.{ℕ, List, [], ◌∷◌, ◌++◌, codes, Result, Ok, Err}
+use Rattle.std.specs.Io.BufRead.{strip_last}
+use Rattle.hex.specs.Hex.{decode_of, encode_lower}
+use Rattle.hex.specs.declared.error.FromHexError.{FromHexError}
+use Rattle.amqp_types.specs.Levels.{plain}
+use Rattle.amqp_stream.specs.declared.errors.StreamError.{StreamError}
+use Rattle.amqp_stream.specs.Errors.{stream_error_name, stream_error_status}
+use Rattle.amqp_stream.specs.Canonicalizing.{canon_of, answer_to}
+use Rattle.amqp_program.specs.declared.report.Report.{Report}
+
+-- the limit on payloads
+abbrev pub max_payload : ℕ
+max_payload = 131072
+
+pub record Printed : Type 0 where
+  pub text : List ℕ
+  pub status : ℕ
+
+abbrev pub printed_of : Report → Printed
+printed_of r = record { text = r.text.items; status = r.status }
+
+-- a line with the front in hex, and after a fault a line with its name
+abbrev pub printed : List ℕ → Result (Unit {0}) StreamError → Printed
+printed front (Ok done) = record { text = front; status = 0 }
+printed front (Err error) = record { text = front ++ (stream_error_name error ++ 10 ∷ []); status = stream_error_status error }
+
+-- The canonical bytes of the row at the front in lower-case hex. Where that is not all, the place's fault is named, or that the input is cut short.
+unfoldable pub report_at : List ℕ → Printed
+report_at bytes = printed (encode_lower (canon_of plain max_payload bytes) ++ 10 ∷ []) (answer_to plain max_payload bytes)
+
+abbrev pub report_of : Result (List ℕ) FromHexError → Printed
+report_of (Ok bytes) = report_at bytes
+report_of (Err error) = record { text = codes "BadHex" ++ 10 ∷ []; status = 7 }
+
+-- Hex digits of either case, an even number of them, with at most one newline behind them, which is dropped.
+abbrev pub report : List ℕ → Printed
+report text = report_of (decode_of (strip_last 10 text))

@@ -1,0 +1,80 @@
+-- What a run of each command does. a is the source before the run and b after it, k and l the sink.
+use Rattle.std.specs.Prelude.{◌≡◌, ◌⊎◌, ℕ, ◌+◌, ◌^◌, ◌<◌, ◌≤◌, List, [], ◌∷◌, ◌++◌, length, Some, Result, Ok, Err}
+use Rattle.hex.specs.Hex.{decode_of, encode_lower}
+use Rattle.std.specs.Io.BufRead.{strip_last}
+use Rattle.amqp_types.specs.Levels.{plain}
+use Rattle.amqp_stream.specs.declared.errors.StreamError.{StreamError}
+use Rattle.amqp_stream.specs.Errors.{stream_error_status}
+use Rattle.amqp_stream.specs.Ends.{Supply, Store, Takes, Gains, Rises, IsEmpty}
+use Rattle.amqp_stream.specs.Canonicalizing.{canon_of, IsRow, Canonicalizes, NeverBegan, AnswersExactly, IsValid, NoFaults}
+use Rattle.amqp_stream.specs.Writing.{IsPrefix}
+use Rattle.amqp_program.specs.Texts.{longest}
+use Rattle.amqp_program.specs.Reports.{max_payload, report}
+
+-- the whole text was taken
+pub record IsWhole (text : List ℕ) (b : Supply) : Type 0 where
+  pub few : length text ≤ longest
+  pub end : IsEmpty b.left
+
+-- How a run of `hex` ends, by its status: what was taken is the text.
+pub data HexEnds (text written : List ℕ) (a b : Supply) (k l : Store) (status : ℕ) : Type 0 where
+  no_memory : status ≡ 3 → written ≡ [] → HexEnds text written a b k l status
+  read_failed : status ≡ 4 → written ≡ [] → Rises a.faults b.faults → HexEnds text written a b k l status
+  too_long : status ≡ 6 → written ≡ [] → longest < length text → HexEnds text written a b k l status
+  write_failed : status ≡ 5 → IsWhole text b → Rises k.faults l.faults → IsPrefix written (report text).text → HexEnds text written a b k l status
+  reported : status ≡ (report text).status → IsWhole text b → written ≡ (report text).text → HexEnds text written a b k l status
+
+-- where a run ended with 0, the decoded text is a row of frames, and their canonical bytes were written
+pub record AcceptsHex (text written : List ℕ) (b : Supply) : Type 0 where
+  pub whole : IsWhole text b
+  pub bytes : List ℕ
+  pub decoded : decode_of (strip_last 10 text) ≡ Ok bytes
+  pub row : IsRow plain max_payload bytes
+  pub canonical : written ≡ encode_lower (canon_of plain max_payload bytes) ++ 10 ∷ []
+
+-- a text with a report of status 0
+pub record IsValidText (text : List ℕ) : Type 0 where
+  pub few : length text ≤ longest
+  pub accepted : (report text).status ≡ 0
+
+abbrev pub IsDoneOrNoMemory : ℕ → Type 0
+IsDoneOrNoMemory status = (status ≡ 0) ⊎ (status ≡ 3)
+
+pub record RunsHex (a b : Supply) (k l : Store) (status : ℕ) : Type 0 where
+  pub text : List ℕ
+  pub reads : ℕ
+  pub takes : Takes a b text reads
+  pub at_most : reads ≤ longest + 1
+  pub written : List ℕ
+  pub gains : Gains k l written
+  pub ends : HexEnds text written a b k l status
+  pub accepts : status ≡ 0 → AcceptsHex text written b
+  pub complete : (input : List ℕ) → a.left ≡ Some input → IsValidText input → NoFaults a b k l → IsDoneOrNoMemory status
+
+-- the status of an answer
+abbrev pub status_of : Result (Unit {0}) StreamError → ℕ
+status_of (Ok done) = 0
+status_of (Err error) = stream_error_status error
+
+-- the most reads that `raw` makes
+abbrev pub raw_turns : ℕ
+raw_turns = 2 ^ 40
+
+-- where a run ended with 0, all that was taken is a row of frames, none is left, and their canonical bytes were written
+pub record AcceptsRaw (b : Supply) (taken written : List ℕ) : Type 0 where
+  pub row : IsRow plain max_payload taken
+  pub end : IsEmpty b.left
+  pub canonical : written ≡ canon_of plain max_payload taken
+
+pub record RunsRaw (a b : Supply) (k l : Store) (status : ℕ) : Type 0 where
+  pub answer : Result (Unit {0}) StreamError
+  pub status_is : status ≡ status_of answer
+  pub stream : Canonicalizes plain max_payload raw_turns a b k l answer ⊎ NeverBegan a b k l answer
+  pub exact : (input : List ℕ) → a.left ≡ Some input → AnswersExactly plain max_payload input k l answer
+  pub complete : (input : List ℕ) → a.left ≡ Some input → IsValid plain max_payload raw_turns input → NoFaults a b k l → IsDoneOrNoMemory status
+
+-- a text was printed, or a part of its front and then the sink failed
+pub record Prints (text : List ℕ) (k l : Store) (status : ℕ) : Type 0 where
+  pub written : List ℕ
+  pub gains : Gains k l written
+  pub ends : ((status ≡ 0) × (written ≡ text)) ⊎ ((status ≡ 5) × IsPrefix written text × Rises k.faults l.faults)

@@ -1,0 +1,28 @@
+-- A text that is read to its end.
+use Rattle.std.specs.Prelude.{◌≡◌, ℕ, ◌+◌, ◌<◌, ◌≤◌, List, length, Result, Ok, Err, Vec}
+use Rattle.std.specs.declared.alloc.Global.{Global}
+use Rattle.amqp_stream.specs.Ends.{Supply, Takes, Rises, IsEmpty}
+use Rattle.amqp_program.specs.declared.text.TextError.{TextError}
+use Rattle.amqp_program.specs.declared.text.TextError.TheVariants as errors
+
+-- the most bytes that a text may have, a final newline counted
+abbrev pub longest : ℕ
+longest = 16777216
+
+abbrev pub TextEnds : List ℕ → Supply → Supply → Result (List ℕ) TextError → Type 0
+TextEnds taken old new (Ok text) = (text ≡ taken) × (length taken ≤ longest) × IsEmpty new.left
+TextEnds taken old new (Err errors.ReadFault) = Rises old.faults new.faults
+TextEnds taken old new (Err errors.TooLong) = longest < length taken
+TextEnds taken old new (Err errors.NoMemory) = Unit {0}
+
+-- a text was read to its end, or it is told why not
+pub record ReadsText (old new : Supply) (result : Result (List ℕ) TextError) : Type 0 where
+  pub taken : List ℕ
+  pub reads : ℕ
+  pub takes : Takes old new taken reads
+  pub at_most : reads ≤ longest + 1
+  pub ends : TextEnds taken old new result
+
+abbrev pub text_of : Result (Vec ℕ Global) TextError → Result (List ℕ) TextError
+text_of (Ok text) = Ok text.items
+text_of (Err error) = Err error

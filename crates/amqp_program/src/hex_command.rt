@@ -1,0 +1,26 @@
+ghost use Rattle.amqp_program.specs.Runs.{RunsHex};
+
+use crate::report::report_of;
+use crate::text::{TextError, read_text};
+use amqp_stream::{Sink, Source, write_all};
+use std::alloc::Global;
+
+/// Canonicalizes the bytes of a hex text, and prints the report on it.
+#[tactic(auto, using(crate::proofs::HexRuns::hex_done, crate::proofs::HexRuns::hex_write_fault, crate::proofs::HexRuns::hex_no_memory))]
+pub fn run_hex<S: Source, K: Sink>(alloc: Global, source: &mut S, sink: &mut K) -> u8
+    ensures { RunsHex (S.supply source.old) (S.supply source.new) (K.store sink.old) (K.store sink.new) result }
+{
+    let text = match read_text(alloc, source) {
+        Ok(text) => text,
+        Err(TextError::ReadFault) => return 4,
+        Err(TextError::TooLong) => return 6,
+        Err(TextError::NoMemory) => return 3,
+    };
+    let Ok(report) = report_of(alloc, text.as_slice()) else {
+        return 3;
+    };
+    match write_all(sink, report.text.as_slice()) {
+        Ok(()) => report.status,
+        Err(_) => 5,
+    }
+}

@@ -1,0 +1,33 @@
+ghost use Rattle.amqp_program.specs.Runs.{Prints};
+
+use amqp_stream::{Sink, write_all};
+
+/// The forms of words, and the statuses.
+pub const HELP: &str = "feksroum: reads AMQP 0-9-1 frames and writes their canonical bytes.
+
+  feksroum hex        reads a hex text, and prints the canonical bytes of the frames in
+                      front in hex; a fault is named on a line of its own
+  feksroum raw        reads bytes, and writes canonical bytes as it reads; a fault is told
+                      by the status alone
+  feksroum --help     prints this text
+  feksroum --version  prints the version
+
+The status is 0 where all of the input was frames. Others: 1 words that cannot be had,
+2 other words, 3 want of memory, 4 a read failed, 5 a write failed, 6 more than 16777216
+bytes of text, 7 BadHex, 8 NotBuilt, 10 UnknownFrameType, 11 BadProtocolHeader,
+12 TooLarge (a payload above 131072 bytes), 13 BadFrameEnd, 16 ShortPayload,
+17 TrailingBytes, 21 CutShort, 22 TurnsSpent.
+";
+
+/// The version.
+pub const VERSION: &str = "feksroum 0.1.0\n";
+
+/// Prints a text, and nothing else.
+pub fn print<K: Sink>(sink: &mut K, text: &str) -> u8
+    ensures { Prints text.now (K.store sink.old) (K.store sink.new) result }
+{
+    match write_all(sink, text.as_bytes()) {
+        Ok(()) => 0,
+        Err(_) => 5,
+    }
+}

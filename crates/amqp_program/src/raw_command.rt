@@ -1,0 +1,19 @@
+ghost use Rattle.amqp_program.specs.Runs.{RunsRaw};
+
+use crate::report::MAX_PAYLOAD;
+use amqp_stream::{Sink, Source, canonicalize};
+use std::alloc::Global;
+
+/// The most reads that are made: 2^40.
+pub const RAW_TURNS: u64 = 1_099_511_627_776;
+
+/// Canonicalizes bytes, and tells a fault by the status alone.
+#[tactic(auto, using(crate::proofs::RawRuns::raw_runs))]
+pub fn run_raw<S: Source, K: Sink>(alloc: Global, source: &mut S, sink: &mut K) -> u8
+    ensures { RunsRaw (S.supply source.old) (S.supply source.new) (K.store sink.old) (K.store sink.new) result }
+{
+    match canonicalize(alloc, source, sink, MAX_PAYLOAD, RAW_TURNS) {
+        Ok(()) => 0,
+        Err(error) => error.status(),
+    }
+}

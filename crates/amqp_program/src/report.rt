@@ -1,0 +1,86 @@
+//! What a command prints for a text, made whole before it is written.
+
+ghost use Rattle.std.specs.Prelude.{◌≡◌, ◌++◌, ◌∷◌, [], IfOk};
+ghost use Rattle.amqp_types.specs.Levels.{plain};
+ghost use Rattle.amqp_stream.specs.Canonicalizing.{IsAnswerTo};
+ghost use Rattle.amqp_program.specs.Reports.{max_payload, printed_of, printed, report, report_at};
+ghost use Rattle.hex.specs.Hex.{encode_lower};
+
+use amqp_stream::{Codec, SliceSource, StreamError, VecSink};
+use amqp_types::{ChunkSize, NoMemory};
+use std::alloc::Global;
+
+/// The limit on payloads, in bytes.
+pub const MAX_PAYLOAD: ChunkSize = 131_072;
+
+/// What is printed, and the exit status.
+#[derive(Drop)]
+pub struct Report {
+    pub text: Vec<u8>,
+    pub status: u8,
+}
+
+/// Canonicalizes bytes in memory: the sink that took what was written, and how it ended.
+fn canonical(alloc: Global, bytes: &[u8]) -> Result<(VecSink, Result<(), StreamError>), NoMemory>
+    ensures { IfOk result (λ r. IsAnswerTo plain max_payload bytes.now r.0.bytes r.1) }
+{
+    let mut source = SliceSource::new(bytes);
+    let mut sink = VecSink::new(alloc);
+    let mut codec = Codec::open(alloc, MAX_PAYLOAD)?;
+    let turns = bytes.len() as u64 + 1;
+    let answer = codec.canonicalize(alloc, &mut source, &mut sink, turns);
+    Ok((sink, answer))
+}
+
+/// The lower-case hex of what was written, and then the name of what ended it.
+fn told(alloc: Global, written: &[u8], answer: Result<(), StreamError>) -> Result<Report, NoMemory>
+    ensures { IfOk result (λ r. printed_of r ≡ printed (encode_lower written.now ++ 10 ∷ []) answer) }
+{
+    let digits = hex::encode(alloc, written)?;
+    let mut text = Vec::from_slice(alloc, digits.as_bytes())?;
+    text.push(10)?;
+    match answer {
+        Ok(()) => Ok(Report { text, status: 0 }),
+        Err(error) => {
+            text.extend_from_slice(error.name().as_bytes())?;
+            text.push(10)?;
+            Ok(Report {
+                text,
+                status: error.status(),
+            })
+        }
+    }
+}
+
+/// The report on decoded bytes.
+#[tactic(auto, unfolding(crate::specs::Reports::report_at))]
+fn report_on(alloc: Global, bytes: &[u8]) -> Result<Report, NoMemory>
+    ensures { IfOk result (λ r. printed_of r ≡ report_at bytes.now) }
+{
+    let (sink, answer) = canonical(alloc, bytes)?;
+    match answer {
+        Err(StreamError::NoMemory) => Err(NoMemory),
+        Err(StreamError::WriteFault) => Err(NoMemory),
+        Err(StreamError::ReadFault) => Err(NoMemory),
+        Err(StreamError::TurnsSpent) => Err(NoMemory),
+        answer => told(alloc, sink.bytes(), answer),
+    }
+}
+
+/// The report on a hex text.
+pub fn report_of(alloc: Global, text: &[u8]) -> Result<Report, NoMemory>
+    ensures { IfOk result (λ r. printed_of r ≡ report text.now) }
+{
+    let digits = match text {
+        [digits @ .., 10] => digits,
+        _ => text,
+    };
+    match hex::decode(alloc, digits) {
+        Ok(bytes) => report_on(alloc, bytes.as_slice()),
+        Err(hex::FromHexError::OutOfMemory) => Err(NoMemory),
+        Err(_) => {
+            let text = Vec::from_slice(alloc, b"BadHex\n")?;
+            Ok(Report { text, status: 7 })
+        }
+    }
+}

@@ -1,0 +1,36 @@
+ghost use Rattle.std.specs.Prelude.{◌≡◌, ◌↔◌, Some, None};
+ghost use Rattle.amqp_program.specs.Commands.{command_of, texts_of};
+ghost use Rattle.amqp_program.specs.Runs.{RunsHex, RunsRaw, Prints};
+
+use crate::command::{Command, parse_command};
+use crate::hex_command::run_hex;
+use crate::print_command::{HELP, VERSION, print};
+use crate::raw_command::run_raw;
+use amqp_stream::{Sink, Source};
+use std::alloc::Global;
+
+/// Does all that the program does, and answers its exit status. The words are those after the
+/// program's name.
+#[tactic(auto, using(crate::proofs::HexRuns::hex_not_two, crate::proofs::RawRuns::raw_not_two))]
+pub fn run<S: Source, K: Sink>(alloc: Global, words: &[String], source: &mut S, sink: &mut K) -> u8
+    ensures hex { command_of (texts_of words.now) ≡ Some Command.Hex
+        → RunsHex (S.supply source.old) (S.supply source.new) (K.store sink.old) (K.store sink.new) result }
+    ensures raw { command_of (texts_of words.now) ≡ Some Command.Raw
+        → RunsRaw (S.supply source.old) (S.supply source.new) (K.store sink.old) (K.store sink.new) result }
+    ensures help { command_of (texts_of words.now) ≡ Some Command.Help
+        → Prints HELP.now (K.store sink.old) (K.store sink.new) result × (source.new ≡ source.old) }
+    ensures version { command_of (texts_of words.now) ≡ Some Command.Version
+        → Prints VERSION.now (K.store sink.old) (K.store sink.new) result × (source.new ≡ source.old) }
+
+    // Words that are none of the forms, and only they, end with 2. Nothing is read or written.
+    ensures usage { (result ≡ 2) ↔ (command_of (texts_of words.now) ≡ None) }
+    ensures nothing { command_of (texts_of words.now) ≡ None → (source.new ≡ source.old) × (sink.new ≡ sink.old) }
+{
+    match parse_command(words) {
+        Some(Command::Hex) => run_hex(alloc, source, sink),
+        Some(Command::Raw) => run_raw(alloc, source, sink),
+        Some(Command::Help) => print(sink, HELP),
+        Some(Command::Version) => print(sink, VERSION),
+        None => 2,
+    }
+}
