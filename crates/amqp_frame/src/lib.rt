@@ -30,3 +30,6 @@ pub use parsing::{
 };
 pub use raw_frame::AMQPRawFrame;
 pub use version::ProtocolVersion;
+
+#[cfg(test)]
+mod tests;

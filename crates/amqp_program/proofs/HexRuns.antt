@@ -57,8 +57,8 @@ accepted text written b (Ok bytes) e whole zero w =
 accepted text written b (Err error) e whole zero w = absurd (omega arith)
 
 accepts : (text written : List ℕ) (a b : Supply) (k l : Store) (status : ℕ) → HexEnds text written a b k l status → status ≡ 0 → AcceptsHex text written b
-accepts text written a b k l status (no_memory s w) zero = absurd (omega arith)
-accepts text written a b k l status (read_failed s w r) zero = absurd (omega arith)
+accepts text written a b k l status (no_memory s w few) zero = absurd (omega arith)
+accepts text written a b k l status (read_failed s w few r) zero = absurd (omega arith)
 accepts text written a b k l status (too_long s w h) zero = absurd (omega arith)
 accepts text written a b k l status (write_failed s whole r p) zero = absurd (omega arith)
 accepts text written a b k l status (reported s whole w) zero = accepted text written b (decode_of (strip_last 10 text)) refl whole (sym s ∙ zero) w
@@ -66,8 +66,8 @@ accepts text written a b k l status (reported s whole w) zero = accepted text wr
 -- ---- valid input ends with 0, unless memory runs out
 
 completes : (text written input : List ℕ) (a b : Supply) (k l : Store) (status : ℕ) → HexEnds text written a b k l status → Some input ≡ prepended text b.left → IsValidText input → NoFaults a b k l → IsDoneOrNoMemory status
-completes text written input a b k l status (no_memory s w) e v f = inr s
-completes text written input a b k l status (read_failed s w r) e v f = absurd (omega (arith, r f.source_below, f.source))
+completes text written input a b k l status (no_memory s w few) e v f = inr s
+completes text written input a b k l status (read_failed s w few r) e v f = absurd (omega (arith, r f.source_below, f.source))
 completes text written input a b k l status (too_long s w h) e v f =
     let split = split_of input text b.left e in
     absurd (omega (arith, v.few, ap length split.parts, length-append text split.rest))
@@ -77,8 +77,8 @@ completes text written input a b k l status (reported s whole w) e v f =
     inl (s ∙ ap (λ (xs : List ℕ). (report xs).status) same ∙ v.accepted)
 
 not_two : (text written : List ℕ) (a b : Supply) (k l : Store) (status : ℕ) → HexEnds text written a b k l status → status ≢ 2
-not_two text written a b k l status (no_memory s w) h = absurd (omega arith)
-not_two text written a b k l status (read_failed s w r) h = absurd (omega arith)
+not_two text written a b k l status (no_memory s w few) h = absurd (omega arith)
+not_two text written a b k l status (read_failed s w few r) h = absurd (omega arith)
 not_two text written a b k l status (too_long s w h) e = absurd (omega arith)
 not_two text written a b k l status (write_failed s whole r p) h = absurd (omega arith)
 not_two text written a b k l status (reported s whole w) h = report_status_not_two (decode_of (strip_last 10 text)) (sym s ∙ h)
@@ -102,13 +102,17 @@ runs a b k l text written reads status takes at_most gains ends = record {
 }
 
 pub hex_read_fault : (a b : Supply) (k : Store) → ReadsText a b (Err errors.ReadFault) → RunsHex a b k k 4
-hex_read_fault a b k r = runs a b k k r.taken [] r.reads 4 r.takes r.at_most (Gains-none k) (read_failed refl refl r.ends)
+hex_read_fault a b k r = runs a b k k r.taken [] r.reads 4 r.takes r.at_most (Gains-none k) (read_failed refl refl r.ends.0 r.ends.1)
 
 pub hex_too_long : (a b : Supply) (k : Store) → ReadsText a b (Err errors.TooLong) → RunsHex a b k k 6
 hex_too_long a b k r = runs a b k k r.taken [] r.reads 6 r.takes r.at_most (Gains-none k) (too_long refl refl r.ends)
 
-pub hex_no_memory : (a b : Supply) (k : Store) (e : Result (List ℕ) TextError) → ReadsText a b e → RunsHex a b k k 3
-hex_no_memory a b k e r = runs a b k k r.taken [] r.reads 3 r.takes r.at_most (Gains-none k) (no_memory refl refl)
+pub hex_no_memory : (a b : Supply) (k : Store) → ReadsText a b (Err errors.NoMemory) → RunsHex a b k k 3
+hex_no_memory a b k r = runs a b k k r.taken [] r.reads 3 r.takes r.at_most (Gains-none k) (no_memory refl refl r.ends)
+
+-- memory ran out on the way to the report
+pub hex_no_report : (a b : Supply) (k : Store) (text : List ℕ) → ReadsText a b (Ok text) → RunsHex a b k k 3
+hex_no_report a b k text r = runs a b k k r.taken [] r.reads 3 r.takes r.at_most (Gains-none k) (no_memory refl refl r.ends.1)
 
 abbrev pub printed_as : List ℕ → ℕ → Printed
 printed_as text status = record { text = text; status = status }

@@ -19,7 +19,7 @@ reads_fault a b c text s t r = record {
   reads = s.reads + 1;
   takes = Takes-then a b c text [] s.reads 1 s.takes t;
   at_most = omega (arith, s.few, s.fits);
-  ends = Rises-later a.faults b.faults c.faults s.takes.faults t.faults r;
+  ends = (omega (arith, s.fits, ap length (append-nil text)), Rises-later a.faults b.faults c.faults s.takes.faults t.faults r);
 }
 
 pub reads_end : (a b c : Supply) (text piece : List ℕ) → ReadSoFar a b text → Takes b c piece 1 → piece ≡ [] → IsEmpty c.left → ReadsText a c (Ok text)
@@ -40,13 +40,13 @@ reads_long a b c text piece s t h = record {
   ends = omega (arith, length-append text piece);
 }
 
-pub reads_no_memory : (a b c : Supply) (text piece : List ℕ) → ReadSoFar a b text → Takes b c piece 1 → ReadsText a c (Err errors.NoMemory)
-reads_no_memory a b c text piece s t = record {
+pub reads_no_memory : (a b c : Supply) (text piece : List ℕ) → ReadSoFar a b text → Takes b c piece 1 → length text + length piece ≤ longest → ReadsText a c (Err errors.NoMemory)
+reads_no_memory a b c text piece s t h = record {
   taken = text ++ piece;
   reads = s.reads + 1;
   takes = Takes-then a b c text piece s.reads 1 s.takes t;
   at_most = omega (arith, s.few, s.fits);
-  ends = tt;
+  ends = omega (arith, length-append text piece);
 }
 
 pub reads_on : (a b c : Supply) (text piece now : List ℕ) → ReadSoFar a b text → Takes b c piece 1 → now ≡ text ++ piece → 0 < length piece → length text + length piece ≤ longest → ReadSoFar a c now

@@ -16,10 +16,10 @@ pub record IsWhole (text : List ℕ) (b : Supply) : Type 0 where
   pub few : length text ≤ longest
   pub end : IsEmpty b.left
 
--- How a run of `hex` ends, by its status: what was taken is the text.
+-- How a run of `hex` ends, by its status: what was taken is the text. More than the longest text is taken with status 6 alone.
 pub data HexEnds (text written : List ℕ) (a b : Supply) (k l : Store) (status : ℕ) : Type 0 where
-  no_memory : status ≡ 3 → written ≡ [] → HexEnds text written a b k l status
-  read_failed : status ≡ 4 → written ≡ [] → Rises a.faults b.faults → HexEnds text written a b k l status
+  no_memory : status ≡ 3 → written ≡ [] → length text ≤ longest → HexEnds text written a b k l status
+  read_failed : status ≡ 4 → written ≡ [] → length text ≤ longest → Rises a.faults b.faults → HexEnds text written a b k l status
   too_long : status ≡ 6 → written ≡ [] → longest < length text → HexEnds text written a b k l status
   write_failed : status ≡ 5 → IsWhole text b → Rises k.faults l.faults → IsPrefix written (report text).text → HexEnds text written a b k l status
   reported : status ≡ (report text).status → IsWhole text b → written ≡ (report text).text → HexEnds text written a b k l status

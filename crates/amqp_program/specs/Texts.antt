@@ -11,9 +11,9 @@ longest = 16777216
 
 abbrev pub TextEnds : List ℕ → Supply → Supply → Result (List ℕ) TextError → Type 0
 TextEnds taken old new (Ok text) = (text ≡ taken) × (length taken ≤ longest) × IsEmpty new.left
-TextEnds taken old new (Err errors.ReadFault) = Rises old.faults new.faults
+TextEnds taken old new (Err errors.ReadFault) = (length taken ≤ longest) × Rises old.faults new.faults
 TextEnds taken old new (Err errors.TooLong) = longest < length taken
-TextEnds taken old new (Err errors.NoMemory) = Unit {0}
+TextEnds taken old new (Err errors.NoMemory) = length taken ≤ longest
 
 -- a text was read to its end, or it is told why not
 pub record ReadsText (old new : Supply) (result : Result (List ℕ) TextError) : Type 0 where

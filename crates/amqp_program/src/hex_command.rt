@@ -6,7 +6,7 @@ use amqp_stream::{Sink, Source, write_all};
 use std::alloc::Global;
 
 /// Canonicalizes the bytes of a hex text, and prints the report on it.
-#[tactic(auto, using(crate::proofs::HexRuns::hex_done, crate::proofs::HexRuns::hex_write_fault, crate::proofs::HexRuns::hex_no_memory))]
+#[tactic(auto, using(crate::proofs::HexRuns::hex_done, crate::proofs::HexRuns::hex_write_fault, crate::proofs::HexRuns::hex_no_report))]
 pub fn run_hex<S: Source, K: Sink>(alloc: Global, source: &mut S, sink: &mut K) -> u8
     ensures { RunsHex (S.supply source.old) (S.supply source.new) (K.store sink.old) (K.store sink.new) result }
 {

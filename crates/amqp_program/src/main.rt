@@ -37,3 +37,6 @@ fn main(rt: HostRuntime) -> ExitCode {
         },
     }
 }
+
+#[cfg(test)]
+mod tests;

@@ -8,4 +8,4 @@ pub returns-in-Err-TooLong : goal.returns-in-Err-TooLong
 returns-in-Err-TooLong g c = let read = rw c.in-Err-TooLong.field-0-is at c.in-Err-TooLong.ensures in hex_too_long _ _ _ read
 
 pub returns-in-Err-NoMemory : goal.returns-in-Err-NoMemory
-returns-in-Err-NoMemory g c = hex_no_memory _ _ _ _ c.in-Err-NoMemory.ensures
+returns-in-Err-NoMemory g c = let read = rw c.in-Err-NoMemory.field-0-is at c.in-Err-NoMemory.ensures in hex_no_memory _ _ _ read

@@ -18,7 +18,9 @@ returns-then-count-len g c =
     reads_long _ _ _ c.loop-text.text.items _ c.loop-text.invariant.so_far c.in-Ok.ensures.takes (omega (arith, c.loop-text.invariant.so_far.fits))
 
 pub returns-then-is_err : goal.returns-then-is_err
-returns-then-is_err g c = reads_no_memory _ _ _ c.loop-text.text.items _ c.loop-text.invariant.so_far c.in-Ok.ensures.takes
+returns-then-is_err g c =
+    let len = length-take-le c.in-Ok.count c.read.new.buf (omega (arith, c.in-Ok.ensures.bound)) in
+    reads_no_memory _ _ _ c.loop-text.text.items _ c.loop-text.invariant.so_far c.in-Ok.ensures.takes (omega (arith, c.loop-text.invariant.so_far.fits))
 
 pub loop-text-preserved : goal.loop-text-preserved
 loop-text-preserved g c =
