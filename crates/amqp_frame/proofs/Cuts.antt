@@ -1,7 +1,7 @@
 -- How the front of some bytes goes on behind its first frame.
 use Rattle.std.proofs.Common.{◌≡◌, ◌≢◌, ℕ, zero, suc, ◌≤◌, Bool, true, false, List, [], ◌∷◌, ◌++◌, length, take, drop, append_assoc, Option, Result, Ok, Err, refl, sym, ap, subst, ◌∙◌, arith}
 use Rattle.std.proofs.lemmas.List.{length-drop, drop_at, length-take-le, nil_from_length}
-use Rattle.amqp_types.specs.Levels.{Level, plain}
+use Rattle.amqp_types.specs.Levels.{Level}
 use Rattle.amqp_types.specs.Judging.{Fault, Judged, past, fault, took}
 use Rattle.amqp_frame.specs.Frames.{Frame, Raw}
 use Rattle.amqp_frame.specs.Outer.{outer}

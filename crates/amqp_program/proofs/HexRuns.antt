@@ -19,7 +19,6 @@ use Rattle.amqp_stream.specs.Canonicalizing.{IsRow, NoFaults, canon_of, answer_a
 use Rattle.amqp_stream.specs.declared.sink.SinkFault.{SinkFault}
 use Rattle.amqp_stream.proofs.Adding.{Gains-none}
 use Rattle.amqp_stream.proofs.Exact.{split_of, all_taken}
-use Rattle.amqp_program.specs.declared.text.TextError.{TextError}
 use Rattle.amqp_program.specs.declared.text.TextError.TheVariants as errors
 use Rattle.amqp_program.specs.Texts.{longest, ReadsText}
 use Rattle.amqp_program.specs.Reports.{Printed, printed, report, report_of, report_at, max_payload}

@@ -43,7 +43,10 @@ fn numbers_are_put_at_a_place(rt: HostRuntime) -> Result<(), Fail> {
     let at = put_boolean(&mut buf, 17, &true);
     assert_eq!(rt; (size_boolean(&true)?, at), (1, 18));
     assert_eq!(rt; put_bytes(&mut buf, 18, &[]), 18);
-    assert_eq!(rt; buf, [7, 1, 2, 1, 2, 3, 4, 1, 2, 3, 4, 5, 6, 7, 8, 0, 60, 1, 9]);
+    assert_eq!(rt;
+        buf,
+        [7, 1, 2, 1, 2, 3, 4, 1, 2, 3, 4, 5, 6, 7, 8, 0, 60, 1, 9]
+    );
     Ok(())
 }
 
