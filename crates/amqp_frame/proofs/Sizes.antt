@@ -5,7 +5,7 @@ use Rattle.std.proofs.lemmas.List.{length-append}
 use Rattle.amqp_types.specs.Writing.{Puts}
 use Rattle.amqp_types.specs.declared.errors.GenError.{GenError}
 use Rattle.amqp_types.specs.declared.errors.GenError.TheVariants as errors
-use Rattle.amqp_types.proofs.Written.{puts_then, puts-length}
+use Rattle.amqp_types.proofs.Puts.{puts_then, puts-length}
 use Rattle.amqp_frame.specs.Frames.{Frame}
 use Rattle.amqp_frame.specs.Spelling.{head, framed}
 use Rattle.amqp_frame.specs.Canonical.{canon, is_long, size_of, SliceAnswers}

@@ -163,9 +163,13 @@ fn failed_ends_have_statuses(rt: HostRuntime) -> Result<(), Fail> {
 /// that wants memory has a part of the text.
 #[test]
 fn refused_memory_writes_nothing(rt: HostRuntime) {
-    let Ok(words) = words_in(rt.alloc(), &["hex"]) else {
+    let mut words = Vec::new(rt.alloc());
+    let Ok(word) = String::from_str(rt.alloc(), "hex") else {
         return;
     };
+    if words.push(word).is_err() {
+        return;
+    }
     let mut source = PieceSource::new(b"0800000000000107ce", &[], &[]);
     let mut sink = ScriptSink::new(rt.alloc(), &[], &[]);
     let status = run(rt.alloc(), words.as_slice(), &mut source, &mut sink);

@@ -1,6 +1,13 @@
 pub mod Bytes
 pub mod Exact
 pub mod Judged
+pub mod Took
+pub mod Sequences
 pub mod Numbers
+pub mod Texts
 pub mod Booleans
 pub mod Written
+pub mod Puts
+pub mod FlagBytes
+pub mod FormLaws
+pub mod Lawful

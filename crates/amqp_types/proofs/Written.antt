@@ -1,7 +1,7 @@
 -- Bytes that are written one behind another.
 use Rattle.std.proofs.Common.{◌≡◌, ℕ, ◌+◌, ◌≤◌, List, [], ◌++◌, length, take, drop, append-nil, append_assoc, refl, sym, ap, ap₂, ◌∙◌, arith}
 use Rattle.std.proofs.lemmas.List.{length-append, length-take-le, length-drop, drop-drop, take_at, drop_at, drop_all, take-append-drop}
-use Rattle.amqp_types.specs.Writing.{written, Puts}
+use Rattle.amqp_types.specs.Writing.{written}
 
 pub written-length : (buf : List ℕ) (at : ℕ) (bytes : List ℕ) → at + length bytes ≤ length buf → length (written buf at bytes) ≡ length buf
 unfolding written
@@ -42,21 +42,3 @@ written_end old zeros bytes at place len =
 pub written-nil : (buf : List ℕ) (at : ℕ) → written buf at [] ≡ buf
 unfolding written
 written-nil buf at = let here : at + 0 ≡ at = omega arith in ap (λ (n : ℕ). take at buf ++ drop n buf) here ∙ take-append-drop at buf
-
--- a vector that was grown and written at its old end
-pub appended : (old zeros items new bytes : List ℕ) (n at : ℕ) → items ≡ old ++ zeros → new ≡ written items at bytes → at ≡ length old → length zeros ≡ length bytes → n ≡ length items → take n (new ++ drop (length new) items) ≡ old ++ bytes
-appended old zeros items new bytes n at grown made place len size =
-    let whole : new ≡ old ++ bytes = made ∙ ap (λ (buf : List ℕ). written buf at bytes) grown ∙ written_end old zeros bytes at place len in
-    let same : length new ≡ n = ap length whole ∙ omega (arith, length-append old bytes, length-append old zeros, ap length grown, size) in
-    take_at new (drop (length new) items) n same ∙ whole
-
--- one put call behind another
-pub puts_then : (old mid new : List ℕ) (at place end : ℕ) (first second : List ℕ) → at + length (first ++ second) ≤ length old → Puts old mid at first place → Puts mid new place second end → Puts old new at (first ++ second) end
-puts_then old mid new at place end first second room p q = record {
-  put = q.put ∙ ap (λ (buf : List ℕ). written buf place second) p.put ∙ written-written old at place first second p.behind room;
-  behind = q.behind ∙ omega (arith, p.behind, length-append first second);
-}
-
--- a put call keeps the length
-pub puts-length : (old new : List ℕ) (at end : ℕ) (bytes : List ℕ) → at + length bytes ≤ length old → Puts old new at bytes end → length new ≡ length old
-puts-length old new at end bytes room p = ap length p.put ∙ written-length old at bytes room

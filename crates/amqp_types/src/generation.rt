@@ -1,6 +1,6 @@
 //! Writing numbers and booleans: their size, their bytes at a place of a slice, and behind a vector.
 
-ghost use Rattle.std.specs.Prelude.{◌≡◌, ◌+◌, ◌++◌, ◌≤◌, length, replicate, vec_len, Ok, IfOk, IfErr};
+ghost use Rattle.std.specs.Prelude.{◌≡◌, ◌+◌, ◌≤◌, length, Ok};
 ghost use Rattle.amqp_types.specs.Writing.{written, Puts, Appends};
 ghost use Rattle.amqp_types.specs.Numbers.{bytes1, bytes2, bytes4, bytes8, number_bytes};
 ghost use Rattle.amqp_types.specs.Booleans.{boolean_bytes};
@@ -18,20 +18,6 @@ pub fn put_bytes(buf: &mut [u8], at: usize, bytes: &[u8]) -> usize
     let end = at + bytes.len();
     buf[at..end].copy_from_slice(bytes);
     end
-}
-
-/// Makes room for so many more bytes behind a vector, and answers where it begins. The vector stays
-/// as it was where memory runs out.
-pub fn grow(out: &mut Vec<u8>, size: u64) -> Result<usize, GenError>
-    ensures ok { IfOk result (λ at. (at ≡ vec_len out.old) × (out.new.items ≡ out.old.items ++ replicate size 0)) }
-    ensures err { IfErr result (λ error. (error ≡ GenError.NoMemory) × (out.new.items ≡ out.old.items)) }
-{
-    let at = out.len();
-    let Some(end) = at.checked_add(size as usize) else {
-        return Err(GenError::NoMemory);
-    };
-    out.resize(end, 0)?;
-    Ok(at)
 }
 
 /// Appends bytes to a vector, which stays as it was where memory runs out.

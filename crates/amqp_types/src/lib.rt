@@ -5,29 +5,130 @@
 mod aliases;
 mod byte_array;
 mod errors;
+mod flags;
+mod form_laws;
 mod generation;
+mod growing;
 mod laws;
+mod long_string;
+mod make_error;
 mod parsing;
 mod profile;
+mod raw_bits;
+mod short_string;
+mod signed;
+mod strings;
+mod tag;
 
-pub use aliases::{
-    Boolean, ChannelId, ChunkSize, Double, Float, Identifier, LongInt, LongLongInt, LongLongUInt,
-    LongUInt, PayloadSize, ShortInt, ShortShortInt, ShortShortUInt, ShortUInt, Timestamp,
-};
+pub use aliases::Boolean;
+pub use aliases::ChannelId;
+pub use aliases::ChunkSize;
+pub use aliases::Double;
+pub use aliases::Float;
+pub use aliases::Identifier;
+pub use aliases::LongInt;
+pub use aliases::LongLongInt;
+pub use aliases::LongLongUInt;
+pub use aliases::LongUInt;
+pub use aliases::PayloadSize;
+pub use aliases::ShortInt;
+pub use aliases::ShortShortInt;
+pub use aliases::ShortShortUInt;
+pub use aliases::ShortUInt;
+pub use aliases::Timestamp;
 pub use byte_array::ByteArray;
-pub use errors::{GenError, NoMemory, ParserError};
-pub use generation::{
-    append_bytes, gen_boolean, gen_id, gen_long_long_uint, gen_long_uint, gen_short_short_uint,
-    gen_short_uint, grow, put_boolean, put_bytes, put_id, put_long_long_uint, put_long_uint,
-    put_short_short_uint, put_short_uint, size_boolean, size_id, size_long_long_uint,
-    size_long_uint, size_short_short_uint, size_short_uint,
-};
-pub use laws::{booleans_spell, numbers_spell};
-pub use parsing::{
-    parse_boolean, parse_id, parse_long_long_uint, parse_long_uint, parse_short_short_uint,
-    parse_short_uint,
-};
+pub use errors::GenError;
+pub use errors::NoMemory;
+pub use errors::ParserError;
+pub use flags::AMQPFlags;
+pub use flags::byte_of_flags;
+pub use flags::flag_of_byte;
+pub use flags::gen_flags;
+pub use flags::parse_flags;
+pub use flags::put_flags;
+pub use flags::size_flags;
+pub use form_laws::flags_are_lawful;
+pub use form_laws::long_strings_are_lawful;
+pub use form_laws::numbers_are_lawful;
+pub use form_laws::short_strings_are_lawful;
+pub use form_laws::signed_numbers_are_lawful;
+pub use generation::append_bytes;
+pub use generation::gen_boolean;
+pub use generation::gen_id;
+pub use generation::gen_long_long_uint;
+pub use generation::gen_long_uint;
+pub use generation::gen_short_short_uint;
+pub use generation::gen_short_uint;
+pub use generation::put_boolean;
+pub use generation::put_bytes;
+pub use generation::put_id;
+pub use generation::put_long_long_uint;
+pub use generation::put_long_uint;
+pub use generation::put_short_short_uint;
+pub use generation::put_short_uint;
+pub use generation::size_boolean;
+pub use generation::size_id;
+pub use generation::size_long_long_uint;
+pub use generation::size_long_uint;
+pub use generation::size_short_short_uint;
+pub use generation::size_short_uint;
+pub use growing::grow;
+pub use laws::booleans_spell;
+pub use laws::numbers_spell;
+pub use long_string::LongString;
+pub use make_error::MakeError;
+pub use parsing::parse_boolean;
+pub use parsing::parse_id;
+pub use parsing::parse_long_long_uint;
+pub use parsing::parse_long_uint;
+pub use parsing::parse_short_short_uint;
+pub use parsing::parse_short_uint;
 pub use profile::Profile;
+pub use raw_bits::gen_double;
+pub use raw_bits::gen_float;
+pub use raw_bits::gen_timestamp;
+pub use raw_bits::parse_double;
+pub use raw_bits::parse_float;
+pub use raw_bits::parse_timestamp;
+pub use raw_bits::put_double;
+pub use raw_bits::put_float;
+pub use raw_bits::put_timestamp;
+pub use raw_bits::size_double;
+pub use raw_bits::size_float;
+pub use raw_bits::size_timestamp;
+pub use short_string::ShortString;
+pub use signed::gen_long_int;
+pub use signed::gen_long_long_int;
+pub use signed::gen_short_int;
+pub use signed::gen_short_short_int;
+pub use signed::parse_long_int;
+pub use signed::parse_long_long_int;
+pub use signed::parse_short_int;
+pub use signed::parse_short_short_int;
+pub use signed::put_long_int;
+pub use signed::put_long_long_int;
+pub use signed::put_short_int;
+pub use signed::put_short_short_int;
+pub use signed::size_long_int;
+pub use signed::size_long_long_int;
+pub use signed::size_short_int;
+pub use signed::size_short_short_int;
+pub use strings::gen_byte_array;
+pub use strings::gen_long_string;
+pub use strings::gen_short_string;
+pub use strings::parse_byte_array;
+pub use strings::parse_long_bytes;
+pub use strings::parse_long_string;
+pub use strings::parse_short_str;
+pub use strings::parse_short_string;
+pub use strings::parse_table_bytes;
+pub use strings::put_byte_array;
+pub use strings::put_long_string;
+pub use strings::put_short_string;
+pub use strings::size_byte_array;
+pub use strings::size_long_string;
+pub use strings::size_short_string;
+pub use tag::FieldTag;
 
 #[cfg(test)]
 mod tests;

@@ -1,0 +1,342 @@
+//! The methods of the class basic, 60.
+
+mod acknowledging;
+mod consuming;
+mod publishing;
+
+ghost use Rattle.std.specs.Prelude.{◌≡◌, IfOk};
+ghost use Rattle.amqp_types.specs.Calls.{Parses, Measures, HasRoom};
+ghost use Rattle.amqp_types.specs.Writing.{Puts, Appends};
+ghost use Rattle.amqp_types.specs.Methods.{judge_method, judge_in_class, payload_bytes, payload_size};
+ghost use Rattle.amqp_basic.specs.Basic.{method_of};
+
+pub use acknowledging::{
+    Ack, Nack, Recover, RecoverAsync, RecoverOk, Reject, gen_ack, gen_nack, gen_recover,
+    gen_recover_async, gen_recover_ok, gen_reject, parse_ack, parse_nack, parse_recover,
+    parse_recover_async, parse_recover_ok, parse_reject, put_ack, put_nack, put_recover,
+    put_recover_async, put_recover_ok, put_reject, size_ack, size_nack, size_recover,
+    size_recover_async, size_recover_ok, size_reject,
+};
+use amqp_values::{
+    GenError, Identifier, NoMemory, ParserError, gen_fields, parse_id, put_fields, size_fields,
+};
+pub use consuming::{
+    Cancel, CancelOk, Consume, ConsumeOk, Qos, QosOk, gen_cancel, gen_cancel_ok, gen_consume,
+    gen_consume_ok, gen_qos, gen_qos_ok, parse_cancel, parse_cancel_ok, parse_consume,
+    parse_consume_ok, parse_qos, parse_qos_ok, put_cancel, put_cancel_ok, put_consume,
+    put_consume_ok, put_qos, put_qos_ok, size_cancel, size_cancel_ok, size_consume,
+    size_consume_ok, size_qos, size_qos_ok,
+};
+pub use publishing::{
+    Deliver, Get, GetEmpty, GetOk, Publish, Return, gen_deliver, gen_get, gen_get_empty,
+    gen_get_ok, gen_publish, gen_return, parse_deliver, parse_get, parse_get_empty, parse_get_ok,
+    parse_publish, parse_return, put_deliver, put_get, put_get_empty, put_get_ok, put_publish,
+    put_return, size_deliver, size_get, size_get_empty, size_get_ok, size_publish, size_return,
+};
+use std::alloc::Global;
+
+/// A method of the class.
+#[derive(Debug, Drop, PartialEq)]
+pub enum AMQPMethod {
+    /// The client limits how many messages it is sent ahead.
+    Qos(Qos),
+
+    /// The limit holds.
+    QosOk(QosOk),
+
+    /// The client starts to consume from a queue.
+    Consume(Consume),
+
+    /// The consumer is known by this tag.
+    ConsumeOk(ConsumeOk),
+
+    /// A peer ends a consumer.
+    Cancel(Cancel),
+
+    /// The consumer has ended.
+    CancelOk(CancelOk),
+
+    /// The client publishes the message that follows.
+    Publish(Publish),
+
+    /// The server hands back the message that follows, which it could not deliver.
+    Return(Return),
+
+    /// The server sends the message that follows to a consumer.
+    Deliver(Deliver),
+
+    /// The client asks a queue for one message.
+    Get(Get),
+
+    /// The server sends the message that follows, which was asked for.
+    GetOk(GetOk),
+
+    /// The queue has no message.
+    GetEmpty(GetEmpty),
+
+    /// A peer acknowledges messages.
+    Ack(Ack),
+
+    /// The client rejects a message.
+    Reject(Reject),
+
+    /// The client asks for all messages again that it has not acknowledged, and waits for no answer.
+    RecoverAsync(RecoverAsync),
+
+    /// The client asks for all messages again that it has not acknowledged.
+    Recover(Recover),
+
+    /// The messages will be sent again.
+    RecoverOk(RecoverOk),
+
+    /// A peer rejects messages.
+    Nack(Nack),
+}
+
+impl AMQPMethod {
+    /// The id of the class.
+    pub fn get_amqp_class_id(&self) -> Identifier
+        ensures { result ≡ 60 }
+    {
+        60
+    }
+
+    /// The id of the method in its class.
+    pub fn get_amqp_method_id(&self) -> Identifier
+        ensures { result ≡ (method_of self.now).id }
+    {
+        match self {
+            AMQPMethod::Qos(_) => 10,
+            AMQPMethod::QosOk(_) => 11,
+            AMQPMethod::Consume(_) => 20,
+            AMQPMethod::ConsumeOk(_) => 21,
+            AMQPMethod::Cancel(_) => 30,
+            AMQPMethod::CancelOk(_) => 31,
+            AMQPMethod::Publish(_) => 40,
+            AMQPMethod::Return(_) => 50,
+            AMQPMethod::Deliver(_) => 60,
+            AMQPMethod::Get(_) => 70,
+            AMQPMethod::GetOk(_) => 71,
+            AMQPMethod::GetEmpty(_) => 72,
+            AMQPMethod::Ack(_) => 80,
+            AMQPMethod::Reject(_) => 90,
+            AMQPMethod::RecoverAsync(_) => 100,
+            AMQPMethod::Recover(_) => 110,
+            AMQPMethod::RecoverOk(_) => 111,
+            AMQPMethod::Nack(_) => 120,
+        }
+    }
+
+    /// An equal method of its own.
+    pub fn copy(&self, alloc: Global) -> Result<AMQPMethod, NoMemory>
+        ensures { IfOk result (λ copied. copied ≡ self.now) }
+    {
+        match self {
+            AMQPMethod::Qos(method) => Ok(AMQPMethod::Qos(method.clone()?)),
+            AMQPMethod::QosOk(method) => Ok(AMQPMethod::QosOk(method.clone()?)),
+            AMQPMethod::Consume(method) => Ok(AMQPMethod::Consume(method.copy(alloc)?)),
+            AMQPMethod::ConsumeOk(method) => Ok(AMQPMethod::ConsumeOk(method.copy(alloc)?)),
+            AMQPMethod::Cancel(method) => Ok(AMQPMethod::Cancel(method.copy(alloc)?)),
+            AMQPMethod::CancelOk(method) => Ok(AMQPMethod::CancelOk(method.copy(alloc)?)),
+            AMQPMethod::Publish(method) => Ok(AMQPMethod::Publish(method.copy(alloc)?)),
+            AMQPMethod::Return(method) => Ok(AMQPMethod::Return(method.copy(alloc)?)),
+            AMQPMethod::Deliver(method) => Ok(AMQPMethod::Deliver(method.copy(alloc)?)),
+            AMQPMethod::Get(method) => Ok(AMQPMethod::Get(method.copy(alloc)?)),
+            AMQPMethod::GetOk(method) => Ok(AMQPMethod::GetOk(method.copy(alloc)?)),
+            AMQPMethod::GetEmpty(method) => Ok(AMQPMethod::GetEmpty(method.clone()?)),
+            AMQPMethod::Ack(method) => Ok(AMQPMethod::Ack(method.clone()?)),
+            AMQPMethod::Reject(method) => Ok(AMQPMethod::Reject(method.clone()?)),
+            AMQPMethod::RecoverAsync(method) => Ok(AMQPMethod::RecoverAsync(method.clone()?)),
+            AMQPMethod::Recover(method) => Ok(AMQPMethod::Recover(method.clone()?)),
+            AMQPMethod::RecoverOk(method) => Ok(AMQPMethod::RecoverOk(method.clone()?)),
+            AMQPMethod::Nack(method) => Ok(AMQPMethod::Nack(method.clone()?)),
+        }
+    }
+}
+
+/// Reads the slots of the method with this id.
+#[tactic(auto, using(amqp_types::proofs::Judged::refuses_next), unfolding(amqp_types::specs::Rows::rows_of, amqp_types::specs::Rows::slots_at, amqp_types::specs::Methods::judge_method))]
+fn parse_method(alloc: Global, id: Identifier, i: &[u8]) -> Result<(usize, AMQPMethod), ParserError>
+    ensures { Parses method_of result i.now (judge_method 60 id) }
+{
+    match id {
+        10 => {
+            let (used, method) = parse_qos(alloc, i)?;
+            Ok((used, AMQPMethod::Qos(method)))
+        }
+        11 => {
+            let (used, method) = parse_qos_ok(alloc, i)?;
+            Ok((used, AMQPMethod::QosOk(method)))
+        }
+        20 => {
+            let (used, method) = parse_consume(alloc, i)?;
+            Ok((used, AMQPMethod::Consume(method)))
+        }
+        21 => {
+            let (used, method) = parse_consume_ok(alloc, i)?;
+            Ok((used, AMQPMethod::ConsumeOk(method)))
+        }
+        30 => {
+            let (used, method) = parse_cancel(alloc, i)?;
+            Ok((used, AMQPMethod::Cancel(method)))
+        }
+        31 => {
+            let (used, method) = parse_cancel_ok(alloc, i)?;
+            Ok((used, AMQPMethod::CancelOk(method)))
+        }
+        40 => {
+            let (used, method) = parse_publish(alloc, i)?;
+            Ok((used, AMQPMethod::Publish(method)))
+        }
+        50 => {
+            let (used, method) = parse_return(alloc, i)?;
+            Ok((used, AMQPMethod::Return(method)))
+        }
+        60 => {
+            let (used, method) = parse_deliver(alloc, i)?;
+            Ok((used, AMQPMethod::Deliver(method)))
+        }
+        70 => {
+            let (used, method) = parse_get(alloc, i)?;
+            Ok((used, AMQPMethod::Get(method)))
+        }
+        71 => {
+            let (used, method) = parse_get_ok(alloc, i)?;
+            Ok((used, AMQPMethod::GetOk(method)))
+        }
+        72 => {
+            let (used, method) = parse_get_empty(alloc, i)?;
+            Ok((used, AMQPMethod::GetEmpty(method)))
+        }
+        80 => {
+            let (used, method) = parse_ack(alloc, i)?;
+            Ok((used, AMQPMethod::Ack(method)))
+        }
+        90 => {
+            let (used, method) = parse_reject(alloc, i)?;
+            Ok((used, AMQPMethod::Reject(method)))
+        }
+        100 => {
+            let (used, method) = parse_recover_async(alloc, i)?;
+            Ok((used, AMQPMethod::RecoverAsync(method)))
+        }
+        110 => {
+            let (used, method) = parse_recover(alloc, i)?;
+            Ok((used, AMQPMethod::Recover(method)))
+        }
+        111 => {
+            let (used, method) = parse_recover_ok(alloc, i)?;
+            Ok((used, AMQPMethod::RecoverOk(method)))
+        }
+        120 => {
+            let (used, method) = parse_nack(alloc, i)?;
+            Ok((used, AMQPMethod::Nack(method)))
+        }
+        _ => Err(ParserError::UnknownMethod),
+    }
+}
+
+/// Reads a method id and the slots of that method.
+#[tactic(auto, using(amqp_types::proofs::Judged::refuses_next), unfolding(amqp_types::specs::Rows::rows_of, amqp_types::specs::Methods::judge_in_class))]
+pub fn parse_basic(alloc: Global, i: &[u8]) -> Result<(usize, AMQPMethod), ParserError>
+    ensures { Parses method_of result i.now (judge_in_class 60) }
+{
+    let (n, id) = parse_id(i)?;
+    let (used, method) = parse_method(alloc, id, &i[n..])?;
+    Ok((n + used, method))
+}
+
+/// The size of the class id, the method id and the slots.
+#[tactic(auto)]
+pub fn size_basic(method: &AMQPMethod) -> Result<u64, GenError>
+    ensures { Measures result (payload_size (method_of method.now)) }
+{
+    match method {
+        AMQPMethod::Qos(method) => size_fields(&consuming::qos_fields(method)),
+        AMQPMethod::QosOk(method) => size_fields(&consuming::qos_ok_fields(method)),
+        AMQPMethod::Consume(method) => size_fields(&consuming::consume_fields(method)),
+        AMQPMethod::ConsumeOk(method) => size_fields(&consuming::consume_ok_fields(method)),
+        AMQPMethod::Cancel(method) => size_fields(&consuming::cancel_fields(method)),
+        AMQPMethod::CancelOk(method) => size_fields(&consuming::cancel_ok_fields(method)),
+        AMQPMethod::Publish(method) => size_fields(&publishing::publish_fields(method)),
+        AMQPMethod::Return(method) => size_fields(&publishing::return_fields(method)),
+        AMQPMethod::Deliver(method) => size_fields(&publishing::deliver_fields(method)),
+        AMQPMethod::Get(method) => size_fields(&publishing::get_fields(method)),
+        AMQPMethod::GetOk(method) => size_fields(&publishing::get_ok_fields(method)),
+        AMQPMethod::GetEmpty(method) => size_fields(&publishing::get_empty_fields(method)),
+        AMQPMethod::Ack(method) => size_fields(&acknowledging::ack_fields(method)),
+        AMQPMethod::Reject(method) => size_fields(&acknowledging::reject_fields(method)),
+        AMQPMethod::RecoverAsync(method) => size_fields(&acknowledging::recover_async_fields(
+            method,
+        )),
+        AMQPMethod::Recover(method) => size_fields(&acknowledging::recover_fields(method)),
+        AMQPMethod::RecoverOk(method) => size_fields(&acknowledging::recover_ok_fields(method)),
+        AMQPMethod::Nack(method) => size_fields(&acknowledging::nack_fields(method)),
+    }
+}
+
+/// Puts the class id, the method id and the slots at a place of a slice, and answers the place behind.
+#[tactic(auto)]
+pub fn put_basic(buf: &mut [u8], at: usize, method: &AMQPMethod) -> usize
+    requires { HasRoom buf.old at (payload_size (method_of method.now)) (payload_bytes (method_of method.now)) }
+    ensures { Puts buf.old buf.new at (payload_bytes (method_of method.now)) result }
+{
+    match method {
+        AMQPMethod::Qos(method) => put_fields(buf, at, &consuming::qos_fields(method)),
+        AMQPMethod::QosOk(method) => put_fields(buf, at, &consuming::qos_ok_fields(method)),
+        AMQPMethod::Consume(method) => put_fields(buf, at, &consuming::consume_fields(method)),
+        AMQPMethod::ConsumeOk(method) => put_fields(buf, at, &consuming::consume_ok_fields(method)),
+        AMQPMethod::Cancel(method) => put_fields(buf, at, &consuming::cancel_fields(method)),
+        AMQPMethod::CancelOk(method) => put_fields(buf, at, &consuming::cancel_ok_fields(method)),
+        AMQPMethod::Publish(method) => put_fields(buf, at, &publishing::publish_fields(method)),
+        AMQPMethod::Return(method) => put_fields(buf, at, &publishing::return_fields(method)),
+        AMQPMethod::Deliver(method) => put_fields(buf, at, &publishing::deliver_fields(method)),
+        AMQPMethod::Get(method) => put_fields(buf, at, &publishing::get_fields(method)),
+        AMQPMethod::GetOk(method) => put_fields(buf, at, &publishing::get_ok_fields(method)),
+        AMQPMethod::GetEmpty(method) => put_fields(buf, at, &publishing::get_empty_fields(method)),
+        AMQPMethod::Ack(method) => put_fields(buf, at, &acknowledging::ack_fields(method)),
+        AMQPMethod::Reject(method) => put_fields(buf, at, &acknowledging::reject_fields(method)),
+        AMQPMethod::RecoverAsync(method) => put_fields(
+            buf,
+            at,
+            &acknowledging::recover_async_fields(method),
+        ),
+        AMQPMethod::Recover(method) => put_fields(buf, at, &acknowledging::recover_fields(method)),
+        AMQPMethod::RecoverOk(method) => put_fields(
+            buf,
+            at,
+            &acknowledging::recover_ok_fields(method),
+        ),
+        AMQPMethod::Nack(method) => put_fields(buf, at, &acknowledging::nack_fields(method)),
+    }
+}
+
+/// Appends the class id, the method id and the slots to a vector.
+#[tactic(auto)]
+pub fn gen_basic(_alloc: Global, out: &mut Vec<u8>, method: &AMQPMethod) -> Result<(), GenError>
+    ensures { Appends out.old.items out.new.items (payload_size (method_of method.now)) (payload_bytes (method_of method.now)) result }
+{
+    match method {
+        AMQPMethod::Qos(method) => gen_fields(out, &consuming::qos_fields(method)),
+        AMQPMethod::QosOk(method) => gen_fields(out, &consuming::qos_ok_fields(method)),
+        AMQPMethod::Consume(method) => gen_fields(out, &consuming::consume_fields(method)),
+        AMQPMethod::ConsumeOk(method) => gen_fields(out, &consuming::consume_ok_fields(method)),
+        AMQPMethod::Cancel(method) => gen_fields(out, &consuming::cancel_fields(method)),
+        AMQPMethod::CancelOk(method) => gen_fields(out, &consuming::cancel_ok_fields(method)),
+        AMQPMethod::Publish(method) => gen_fields(out, &publishing::publish_fields(method)),
+        AMQPMethod::Return(method) => gen_fields(out, &publishing::return_fields(method)),
+        AMQPMethod::Deliver(method) => gen_fields(out, &publishing::deliver_fields(method)),
+        AMQPMethod::Get(method) => gen_fields(out, &publishing::get_fields(method)),
+        AMQPMethod::GetOk(method) => gen_fields(out, &publishing::get_ok_fields(method)),
+        AMQPMethod::GetEmpty(method) => gen_fields(out, &publishing::get_empty_fields(method)),
+        AMQPMethod::Ack(method) => gen_fields(out, &acknowledging::ack_fields(method)),
+        AMQPMethod::Reject(method) => gen_fields(out, &acknowledging::reject_fields(method)),
+        AMQPMethod::RecoverAsync(method) => gen_fields(
+            out,
+            &acknowledging::recover_async_fields(method),
+        ),
+        AMQPMethod::Recover(method) => gen_fields(out, &acknowledging::recover_fields(method)),
+        AMQPMethod::RecoverOk(method) => gen_fields(out, &acknowledging::recover_ok_fields(method)),
+        AMQPMethod::Nack(method) => gen_fields(out, &acknowledging::nack_fields(method)),
+    }
+}

@@ -1,0 +1,449 @@
+//! Methods of the class basic that acknowledge messages, or ask for them again.
+#![tactic(auto, using(amqp_types::proofs::Judged::refuses_next), unfolding(amqp_types::specs::Rows::rows_of, amqp_types::specs::Rows::slots_at, amqp_types::specs::SlotJudging::judge_slots, amqp_types::specs::Methods::judge_method, amqp_values::specs::Fields::field_bytes, amqp_values::specs::Fields::is_deep_field, amqp_values::specs::Fields::is_long_field, amqp_values::specs::Fields::fields_bytes, amqp_values::specs::Fields::any_deep_field, amqp_values::specs::Fields::any_long_field, amqp_values::specs::Fields::fields_size, amqp_types::specs::SlotBytes::form_bytes, amqp_types::specs::SlotBytes::slots_bytes, amqp_types::specs::SlotBytes::items_size, amqp_types::specs::Methods::method_bytes, amqp_types::specs::Methods::method_size, amqp_types::specs::Methods::payload_bytes, amqp_types::specs::Methods::payload_size))]
+
+ghost use Rattle.std.specs.Prelude.{◌≡◌};
+ghost use Rattle.amqp_types.specs.Calls.{Parses, NeedsNoMemory, Measures, HasRoom};
+ghost use Rattle.amqp_types.specs.Writing.{Puts, Appends};
+ghost use Rattle.amqp_types.specs.Methods.{judge_method, method_bytes, method_size};
+ghost use Rattle.amqp_values.specs.MethodFields.{ListsMethod};
+ghost use Rattle.amqp_basic.specs.Basic.{ack_method, reject_method, recover_async_method, recover_method, recover_ok_method, nack_method};
+
+use amqp_values::{
+    Boolean, Field, GenError, Identifier, LongLongUInt, ParserError, SlotReader, byte_of_flags,
+    flag_of_byte, gen_fields, put_fields, size_fields,
+};
+use std::alloc::Global;
+
+/// A peer acknowledges messages.
+#[derive(Clone, Default, Debug, Drop, PartialEq)]
+pub struct Ack {
+    pub delivery_tag: LongLongUInt,
+    pub multiple: Boolean,
+}
+
+impl Ack {
+    /// The id of the class.
+    pub fn get_amqp_class_id(&self) -> Identifier
+        ensures { result ≡ 60 }
+    {
+        60
+    }
+
+    /// The id of the method in its class.
+    pub fn get_amqp_method_id(&self) -> Identifier
+        ensures { result ≡ 80 }
+    {
+        80
+    }
+}
+
+/// Reads the slots of `Ack`.
+pub fn parse_ack(_alloc: Global, i: &[u8]) -> Result<(usize, Ack), ParserError>
+    ensures parsed { Parses ack_method result i.now (judge_method 60 80) }
+    ensures memory { NeedsNoMemory result }
+{
+    let mut slots = SlotReader::new(i);
+    let delivery_tag = slots.long_long_uint()?;
+    let flags = slots.flags::<1>()?;
+    let method = Ack {
+        delivery_tag,
+        multiple: flag_of_byte(flags, 0),
+    };
+    Ok((i.len() - slots.rest.len(), method))
+}
+
+/// Its ids and slots, in order.
+pub(super) fn ack_fields(method: &Ack) -> [Field<'_>; 4]
+    ensures { ListsMethod result (ack_method method.now) }
+{
+    [
+        Field::ShortUInt(60),
+        Field::ShortUInt(80),
+        Field::LongLongUInt(method.delivery_tag),
+        Field::Flags(byte_of_flags(&[method.multiple])),
+    ]
+}
+
+/// The size of the method id and the slots of `Ack`.
+#[tactic(auto)]
+pub fn size_ack(method: &Ack) -> Result<u64, GenError>
+    ensures { Measures result (method_size (ack_method method.now)) }
+{
+    size_fields(&ack_fields(method)[1..])
+}
+
+/// Puts the method id and the slots of `Ack` at a place of a slice, and answers the place behind.
+#[tactic(auto)]
+pub fn put_ack(buf: &mut [u8], at: usize, method: &Ack) -> usize
+    requires { HasRoom buf.old at (method_size (ack_method method.now)) (method_bytes (ack_method method.now)) }
+    ensures { Puts buf.old buf.new at (method_bytes (ack_method method.now)) result }
+{
+    put_fields(buf, at, &ack_fields(method)[1..])
+}
+
+/// Appends the method id and the slots of `Ack` to a vector.
+#[tactic(auto)]
+pub fn gen_ack(_alloc: Global, out: &mut Vec<u8>, method: &Ack) -> Result<(), GenError>
+    ensures { Appends out.old.items out.new.items (method_size (ack_method method.now)) (method_bytes (ack_method method.now)) result }
+{
+    gen_fields(out, &ack_fields(method)[1..])
+}
+
+/// The client rejects a message.
+#[derive(Clone, Default, Debug, Drop, PartialEq)]
+pub struct Reject {
+    pub delivery_tag: LongLongUInt,
+    pub requeue: Boolean,
+}
+
+impl Reject {
+    /// The id of the class.
+    pub fn get_amqp_class_id(&self) -> Identifier
+        ensures { result ≡ 60 }
+    {
+        60
+    }
+
+    /// The id of the method in its class.
+    pub fn get_amqp_method_id(&self) -> Identifier
+        ensures { result ≡ 90 }
+    {
+        90
+    }
+}
+
+/// Reads the slots of `Reject`.
+pub fn parse_reject(_alloc: Global, i: &[u8]) -> Result<(usize, Reject), ParserError>
+    ensures parsed { Parses reject_method result i.now (judge_method 60 90) }
+    ensures memory { NeedsNoMemory result }
+{
+    let mut slots = SlotReader::new(i);
+    let delivery_tag = slots.long_long_uint()?;
+    let flags = slots.flags::<1>()?;
+    let method = Reject {
+        delivery_tag,
+        requeue: flag_of_byte(flags, 0),
+    };
+    Ok((i.len() - slots.rest.len(), method))
+}
+
+/// Its ids and slots, in order.
+pub(super) fn reject_fields(method: &Reject) -> [Field<'_>; 4]
+    ensures { ListsMethod result (reject_method method.now) }
+{
+    [
+        Field::ShortUInt(60),
+        Field::ShortUInt(90),
+        Field::LongLongUInt(method.delivery_tag),
+        Field::Flags(byte_of_flags(&[method.requeue])),
+    ]
+}
+
+/// The size of the method id and the slots of `Reject`.
+#[tactic(auto)]
+pub fn size_reject(method: &Reject) -> Result<u64, GenError>
+    ensures { Measures result (method_size (reject_method method.now)) }
+{
+    size_fields(&reject_fields(method)[1..])
+}
+
+/// Puts the method id and the slots of `Reject` at a place of a slice, and answers the place behind.
+#[tactic(auto)]
+pub fn put_reject(buf: &mut [u8], at: usize, method: &Reject) -> usize
+    requires { HasRoom buf.old at (method_size (reject_method method.now)) (method_bytes (reject_method method.now)) }
+    ensures { Puts buf.old buf.new at (method_bytes (reject_method method.now)) result }
+{
+    put_fields(buf, at, &reject_fields(method)[1..])
+}
+
+/// Appends the method id and the slots of `Reject` to a vector.
+#[tactic(auto)]
+pub fn gen_reject(_alloc: Global, out: &mut Vec<u8>, method: &Reject) -> Result<(), GenError>
+    ensures { Appends out.old.items out.new.items (method_size (reject_method method.now)) (method_bytes (reject_method method.now)) result }
+{
+    gen_fields(out, &reject_fields(method)[1..])
+}
+
+/// The client asks for all messages again that it has not acknowledged, and waits for no answer.
+#[derive(Clone, Default, Debug, Drop, PartialEq)]
+pub struct RecoverAsync {
+    pub requeue: Boolean,
+}
+
+impl RecoverAsync {
+    /// The id of the class.
+    pub fn get_amqp_class_id(&self) -> Identifier
+        ensures { result ≡ 60 }
+    {
+        60
+    }
+
+    /// The id of the method in its class.
+    pub fn get_amqp_method_id(&self) -> Identifier
+        ensures { result ≡ 100 }
+    {
+        100
+    }
+}
+
+/// Reads the slots of `RecoverAsync`.
+pub fn parse_recover_async(_alloc: Global, i: &[u8]) -> Result<(usize, RecoverAsync), ParserError>
+    ensures parsed { Parses recover_async_method result i.now (judge_method 60 100) }
+    ensures memory { NeedsNoMemory result }
+{
+    let mut slots = SlotReader::new(i);
+    let flags = slots.flags::<1>()?;
+    let method = RecoverAsync {
+        requeue: flag_of_byte(flags, 0),
+    };
+    Ok((i.len() - slots.rest.len(), method))
+}
+
+/// Its ids and slots, in order.
+pub(super) fn recover_async_fields(method: &RecoverAsync) -> [Field<'_>; 3]
+    ensures { ListsMethod result (recover_async_method method.now) }
+{
+    [
+        Field::ShortUInt(60),
+        Field::ShortUInt(100),
+        Field::Flags(byte_of_flags(&[method.requeue])),
+    ]
+}
+
+/// The size of the method id and the slots of `RecoverAsync`.
+#[tactic(auto)]
+pub fn size_recover_async(method: &RecoverAsync) -> Result<u64, GenError>
+    ensures { Measures result (method_size (recover_async_method method.now)) }
+{
+    size_fields(&recover_async_fields(method)[1..])
+}
+
+/// Puts the method id and the slots of `RecoverAsync` at a place of a slice, and answers the place behind.
+#[tactic(auto)]
+pub fn put_recover_async(buf: &mut [u8], at: usize, method: &RecoverAsync) -> usize
+    requires { HasRoom buf.old at (method_size (recover_async_method method.now)) (method_bytes (recover_async_method method.now)) }
+    ensures { Puts buf.old buf.new at (method_bytes (recover_async_method method.now)) result }
+{
+    put_fields(buf, at, &recover_async_fields(method)[1..])
+}
+
+/// Appends the method id and the slots of `RecoverAsync` to a vector.
+#[tactic(auto)]
+pub fn gen_recover_async(
+    _alloc: Global,
+    out: &mut Vec<u8>,
+    method: &RecoverAsync,
+) -> Result<(), GenError>
+    ensures { Appends out.old.items out.new.items (method_size (recover_async_method method.now)) (method_bytes (recover_async_method method.now)) result }
+{
+    gen_fields(out, &recover_async_fields(method)[1..])
+}
+
+/// The client asks for all messages again that it has not acknowledged.
+#[derive(Clone, Default, Debug, Drop, PartialEq)]
+pub struct Recover {
+    pub requeue: Boolean,
+}
+
+impl Recover {
+    /// The id of the class.
+    pub fn get_amqp_class_id(&self) -> Identifier
+        ensures { result ≡ 60 }
+    {
+        60
+    }
+
+    /// The id of the method in its class.
+    pub fn get_amqp_method_id(&self) -> Identifier
+        ensures { result ≡ 110 }
+    {
+        110
+    }
+}
+
+/// Reads the slots of `Recover`.
+pub fn parse_recover(_alloc: Global, i: &[u8]) -> Result<(usize, Recover), ParserError>
+    ensures parsed { Parses recover_method result i.now (judge_method 60 110) }
+    ensures memory { NeedsNoMemory result }
+{
+    let mut slots = SlotReader::new(i);
+    let flags = slots.flags::<1>()?;
+    let method = Recover {
+        requeue: flag_of_byte(flags, 0),
+    };
+    Ok((i.len() - slots.rest.len(), method))
+}
+
+/// Its ids and slots, in order.
+pub(super) fn recover_fields(method: &Recover) -> [Field<'_>; 3]
+    ensures { ListsMethod result (recover_method method.now) }
+{
+    [
+        Field::ShortUInt(60),
+        Field::ShortUInt(110),
+        Field::Flags(byte_of_flags(&[method.requeue])),
+    ]
+}
+
+/// The size of the method id and the slots of `Recover`.
+#[tactic(auto)]
+pub fn size_recover(method: &Recover) -> Result<u64, GenError>
+    ensures { Measures result (method_size (recover_method method.now)) }
+{
+    size_fields(&recover_fields(method)[1..])
+}
+
+/// Puts the method id and the slots of `Recover` at a place of a slice, and answers the place behind.
+#[tactic(auto)]
+pub fn put_recover(buf: &mut [u8], at: usize, method: &Recover) -> usize
+    requires { HasRoom buf.old at (method_size (recover_method method.now)) (method_bytes (recover_method method.now)) }
+    ensures { Puts buf.old buf.new at (method_bytes (recover_method method.now)) result }
+{
+    put_fields(buf, at, &recover_fields(method)[1..])
+}
+
+/// Appends the method id and the slots of `Recover` to a vector.
+#[tactic(auto)]
+pub fn gen_recover(_alloc: Global, out: &mut Vec<u8>, method: &Recover) -> Result<(), GenError>
+    ensures { Appends out.old.items out.new.items (method_size (recover_method method.now)) (method_bytes (recover_method method.now)) result }
+{
+    gen_fields(out, &recover_fields(method)[1..])
+}
+
+/// The messages will be sent again.
+#[derive(Clone, Default, Debug, Drop, PartialEq)]
+pub struct RecoverOk {}
+
+impl RecoverOk {
+    /// The id of the class.
+    pub fn get_amqp_class_id(&self) -> Identifier
+        ensures { result ≡ 60 }
+    {
+        60
+    }
+
+    /// The id of the method in its class.
+    pub fn get_amqp_method_id(&self) -> Identifier
+        ensures { result ≡ 111 }
+    {
+        111
+    }
+}
+
+/// Reads the slots of `RecoverOk`.
+pub fn parse_recover_ok(_alloc: Global, i: &[u8]) -> Result<(usize, RecoverOk), ParserError>
+    ensures parsed { Parses recover_ok_method result i.now (judge_method 60 111) }
+    ensures memory { NeedsNoMemory result }
+{
+    let slots = SlotReader::new(i);
+    Ok((i.len() - slots.rest.len(), RecoverOk {}))
+}
+
+/// Its ids and slots, in order.
+pub(super) fn recover_ok_fields(_method: &RecoverOk) -> [Field<'_>; 2]
+    ensures { ListsMethod result (recover_ok_method _method.now) }
+{
+    [Field::ShortUInt(60), Field::ShortUInt(111)]
+}
+
+/// The size of the method id and the slots of `RecoverOk`.
+#[tactic(auto)]
+pub fn size_recover_ok(method: &RecoverOk) -> Result<u64, GenError>
+    ensures { Measures result (method_size (recover_ok_method method.now)) }
+{
+    size_fields(&recover_ok_fields(method)[1..])
+}
+
+/// Puts the method id and the slots of `RecoverOk` at a place of a slice, and answers the place behind.
+#[tactic(auto)]
+pub fn put_recover_ok(buf: &mut [u8], at: usize, method: &RecoverOk) -> usize
+    requires { HasRoom buf.old at (method_size (recover_ok_method method.now)) (method_bytes (recover_ok_method method.now)) }
+    ensures { Puts buf.old buf.new at (method_bytes (recover_ok_method method.now)) result }
+{
+    put_fields(buf, at, &recover_ok_fields(method)[1..])
+}
+
+/// Appends the method id and the slots of `RecoverOk` to a vector.
+#[tactic(auto)]
+pub fn gen_recover_ok(_alloc: Global, out: &mut Vec<u8>, method: &RecoverOk) -> Result<(), GenError>
+    ensures { Appends out.old.items out.new.items (method_size (recover_ok_method method.now)) (method_bytes (recover_ok_method method.now)) result }
+{
+    gen_fields(out, &recover_ok_fields(method)[1..])
+}
+
+/// A peer rejects messages.
+#[derive(Clone, Default, Debug, Drop, PartialEq)]
+pub struct Nack {
+    pub delivery_tag: LongLongUInt,
+    pub multiple: Boolean,
+    pub requeue: Boolean,
+}
+
+impl Nack {
+    /// The id of the class.
+    pub fn get_amqp_class_id(&self) -> Identifier
+        ensures { result ≡ 60 }
+    {
+        60
+    }
+
+    /// The id of the method in its class.
+    pub fn get_amqp_method_id(&self) -> Identifier
+        ensures { result ≡ 120 }
+    {
+        120
+    }
+}
+
+/// Reads the slots of `Nack`.
+pub fn parse_nack(_alloc: Global, i: &[u8]) -> Result<(usize, Nack), ParserError>
+    ensures parsed { Parses nack_method result i.now (judge_method 60 120) }
+    ensures memory { NeedsNoMemory result }
+{
+    let mut slots = SlotReader::new(i);
+    let delivery_tag = slots.long_long_uint()?;
+    let flags = slots.flags::<2>()?;
+    let method = Nack {
+        delivery_tag,
+        multiple: flag_of_byte(flags, 0),
+        requeue: flag_of_byte(flags, 1),
+    };
+    Ok((i.len() - slots.rest.len(), method))
+}
+
+/// Its ids and slots, in order.
+pub(super) fn nack_fields(method: &Nack) -> [Field<'_>; 4]
+    ensures { ListsMethod result (nack_method method.now) }
+{
+    [
+        Field::ShortUInt(60),
+        Field::ShortUInt(120),
+        Field::LongLongUInt(method.delivery_tag),
+        Field::Flags(byte_of_flags(&[method.multiple, method.requeue])),
+    ]
+}
+
+/// The size of the method id and the slots of `Nack`.
+#[tactic(auto)]
+pub fn size_nack(method: &Nack) -> Result<u64, GenError>
+    ensures { Measures result (method_size (nack_method method.now)) }
+{
+    size_fields(&nack_fields(method)[1..])
+}
+
+/// Puts the method id and the slots of `Nack` at a place of a slice, and answers the place behind.
+#[tactic(auto)]
+pub fn put_nack(buf: &mut [u8], at: usize, method: &Nack) -> usize
+    requires { HasRoom buf.old at (method_size (nack_method method.now)) (method_bytes (nack_method method.now)) }
+    ensures { Puts buf.old buf.new at (method_bytes (nack_method method.now)) result }
+{
+    put_fields(buf, at, &nack_fields(method)[1..])
+}
+
+/// Appends the method id and the slots of `Nack` to a vector.
+#[tactic(auto)]
+pub fn gen_nack(_alloc: Global, out: &mut Vec<u8>, method: &Nack) -> Result<(), GenError>
+    ensures { Appends out.old.items out.new.items (method_size (nack_method method.now)) (method_bytes (nack_method method.now)) result }
+{
+    gen_fields(out, &nack_fields(method)[1..])
+}

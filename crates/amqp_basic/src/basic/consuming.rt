@@ -1,0 +1,545 @@
+//! Methods of the class basic to receive messages.
+#![tactic(auto, using(amqp_types::proofs::Judged::refuses_next), unfolding(amqp_types::specs::Rows::rows_of, amqp_types::specs::Rows::slots_at, amqp_types::specs::SlotJudging::judge_slots, amqp_types::specs::Methods::judge_method, amqp_values::specs::Fields::field_bytes, amqp_values::specs::Fields::is_deep_field, amqp_values::specs::Fields::is_long_field, amqp_values::specs::Fields::fields_bytes, amqp_values::specs::Fields::any_deep_field, amqp_values::specs::Fields::any_long_field, amqp_values::specs::Fields::fields_size, amqp_types::specs::SlotBytes::form_bytes, amqp_types::specs::SlotBytes::slots_bytes, amqp_types::specs::SlotBytes::items_size, amqp_types::specs::Methods::method_bytes, amqp_types::specs::Methods::method_size, amqp_types::specs::Methods::payload_bytes, amqp_types::specs::Methods::payload_size))]
+
+ghost use Rattle.std.specs.Prelude.{◌≡◌, ◌∷◌, [], false, IfOk};
+ghost use Rattle.amqp_types.specs.Slots.{flag_item, text_item, entries_item};
+ghost use Rattle.amqp_types.specs.Calls.{Parses, NeedsNoMemory, Measures, HasRoom};
+ghost use Rattle.amqp_types.specs.Writing.{Puts, Appends};
+ghost use Rattle.amqp_types.specs.Methods.{method, judge_method, method_bytes, method_size};
+ghost use Rattle.amqp_values.specs.MethodFields.{ListsMethod};
+ghost use Rattle.amqp_basic.specs.Basic.{qos_method, qos_ok_method, consume_method, consume_ok_method, cancel_method, cancel_ok_method};
+
+use amqp_values::{
+    Boolean, Field, FieldTable, GenError, Identifier, NoMemory, ParserError, ShortString,
+    ShortUInt, SlotReader, byte_of_flags, flag_of_byte, gen_fields, put_fields, size_fields,
+};
+use std::alloc::Global;
+
+/// The client limits how many messages it is sent ahead.
+#[derive(Clone, Default, Debug, Drop, PartialEq)]
+pub struct Qos {
+    pub prefetch_count: ShortUInt,
+    pub global: Boolean,
+}
+
+impl Qos {
+    /// The id of the class.
+    pub fn get_amqp_class_id(&self) -> Identifier
+        ensures { result ≡ 60 }
+    {
+        60
+    }
+
+    /// The id of the method in its class.
+    pub fn get_amqp_method_id(&self) -> Identifier
+        ensures { result ≡ 10 }
+    {
+        10
+    }
+}
+
+/// Reads the slots of `Qos`.
+pub fn parse_qos(_alloc: Global, i: &[u8]) -> Result<(usize, Qos), ParserError>
+    ensures parsed { Parses qos_method result i.now (judge_method 60 10) }
+    ensures memory { NeedsNoMemory result }
+{
+    let mut slots = SlotReader::new(i);
+    slots.skip_long_uint()?;
+    let prefetch_count = slots.short_uint()?;
+    let flags = slots.flags::<1>()?;
+    let method = Qos {
+        prefetch_count,
+        global: flag_of_byte(flags, 0),
+    };
+    Ok((i.len() - slots.rest.len(), method))
+}
+
+/// Its ids and slots, in order.
+pub(super) fn qos_fields(method: &Qos) -> [Field<'_>; 5]
+    ensures { ListsMethod result (qos_method method.now) }
+{
+    [
+        Field::ShortUInt(60),
+        Field::ShortUInt(10),
+        Field::LongUInt(0), // reserved
+        Field::ShortUInt(method.prefetch_count),
+        Field::Flags(byte_of_flags(&[method.global])),
+    ]
+}
+
+/// The size of the method id and the slots of `Qos`.
+#[tactic(auto)]
+pub fn size_qos(method: &Qos) -> Result<u64, GenError>
+    ensures { Measures result (method_size (qos_method method.now)) }
+{
+    size_fields(&qos_fields(method)[1..])
+}
+
+/// Puts the method id and the slots of `Qos` at a place of a slice, and answers the place behind.
+#[tactic(auto)]
+pub fn put_qos(buf: &mut [u8], at: usize, method: &Qos) -> usize
+    requires { HasRoom buf.old at (method_size (qos_method method.now)) (method_bytes (qos_method method.now)) }
+    ensures { Puts buf.old buf.new at (method_bytes (qos_method method.now)) result }
+{
+    put_fields(buf, at, &qos_fields(method)[1..])
+}
+
+/// Appends the method id and the slots of `Qos` to a vector.
+#[tactic(auto)]
+pub fn gen_qos(_alloc: Global, out: &mut Vec<u8>, method: &Qos) -> Result<(), GenError>
+    ensures { Appends out.old.items out.new.items (method_size (qos_method method.now)) (method_bytes (qos_method method.now)) result }
+{
+    gen_fields(out, &qos_fields(method)[1..])
+}
+
+/// The limit holds.
+#[derive(Clone, Default, Debug, Drop, PartialEq)]
+pub struct QosOk {}
+
+impl QosOk {
+    /// The id of the class.
+    pub fn get_amqp_class_id(&self) -> Identifier
+        ensures { result ≡ 60 }
+    {
+        60
+    }
+
+    /// The id of the method in its class.
+    pub fn get_amqp_method_id(&self) -> Identifier
+        ensures { result ≡ 11 }
+    {
+        11
+    }
+}
+
+/// Reads the slots of `QosOk`.
+pub fn parse_qos_ok(_alloc: Global, i: &[u8]) -> Result<(usize, QosOk), ParserError>
+    ensures parsed { Parses qos_ok_method result i.now (judge_method 60 11) }
+    ensures memory { NeedsNoMemory result }
+{
+    let slots = SlotReader::new(i);
+    Ok((i.len() - slots.rest.len(), QosOk {}))
+}
+
+/// Its ids and slots, in order.
+pub(super) fn qos_ok_fields(_method: &QosOk) -> [Field<'_>; 2]
+    ensures { ListsMethod result (qos_ok_method _method.now) }
+{
+    [Field::ShortUInt(60), Field::ShortUInt(11)]
+}
+
+/// The size of the method id and the slots of `QosOk`.
+#[tactic(auto)]
+pub fn size_qos_ok(method: &QosOk) -> Result<u64, GenError>
+    ensures { Measures result (method_size (qos_ok_method method.now)) }
+{
+    size_fields(&qos_ok_fields(method)[1..])
+}
+
+/// Puts the method id and the slots of `QosOk` at a place of a slice, and answers the place behind.
+#[tactic(auto)]
+pub fn put_qos_ok(buf: &mut [u8], at: usize, method: &QosOk) -> usize
+    requires { HasRoom buf.old at (method_size (qos_ok_method method.now)) (method_bytes (qos_ok_method method.now)) }
+    ensures { Puts buf.old buf.new at (method_bytes (qos_ok_method method.now)) result }
+{
+    put_fields(buf, at, &qos_ok_fields(method)[1..])
+}
+
+/// Appends the method id and the slots of `QosOk` to a vector.
+#[tactic(auto)]
+pub fn gen_qos_ok(_alloc: Global, out: &mut Vec<u8>, method: &QosOk) -> Result<(), GenError>
+    ensures { Appends out.old.items out.new.items (method_size (qos_ok_method method.now)) (method_bytes (qos_ok_method method.now)) result }
+{
+    gen_fields(out, &qos_ok_fields(method)[1..])
+}
+
+/// The client starts to consume from a queue.
+#[derive(Debug, Drop, PartialEq)]
+pub struct Consume {
+    pub queue: ShortString,
+    pub consumer_tag: ShortString,
+    pub no_local: Boolean,
+    pub no_ack: Boolean,
+    pub exclusive: Boolean,
+    pub nowait: Boolean,
+    pub arguments: FieldTable,
+}
+
+impl Consume {
+    /// The id of the class.
+    pub fn get_amqp_class_id(&self) -> Identifier
+        ensures { result ≡ 60 }
+    {
+        60
+    }
+
+    /// The id of the method in its class.
+    pub fn get_amqp_method_id(&self) -> Identifier
+        ensures { result ≡ 20 }
+    {
+        20
+    }
+
+    /// The method whose fields are empty, zero and false.
+    pub fn empty(alloc: Global) -> Consume
+        ensures { consume_method result ≡ method 60 20 (text_item [] ∷ text_item [] ∷ flag_item false ∷ flag_item false ∷ flag_item false ∷ flag_item false ∷ entries_item [] ∷ []) }
+    {
+        Consume {
+            queue: ShortString::empty(alloc),
+            consumer_tag: ShortString::empty(alloc),
+            no_local: false,
+            no_ack: false,
+            exclusive: false,
+            nowait: false,
+            arguments: FieldTable::new(alloc),
+        }
+    }
+
+    /// An equal method of its own.
+    pub fn copy(&self, alloc: Global) -> Result<Consume, NoMemory>
+        ensures { IfOk result (λ copied. copied ≡ self.now) }
+    {
+        Ok(Consume {
+            queue: self.queue.copy(alloc)?,
+            consumer_tag: self.consumer_tag.copy(alloc)?,
+            no_local: self.no_local,
+            no_ack: self.no_ack,
+            exclusive: self.exclusive,
+            nowait: self.nowait,
+            arguments: self.arguments.copy(alloc)?,
+        })
+    }
+}
+
+/// Reads the slots of `Consume`.
+pub fn parse_consume(alloc: Global, i: &[u8]) -> Result<(usize, Consume), ParserError>
+    ensures { Parses consume_method result i.now (judge_method 60 20) }
+{
+    let mut slots = SlotReader::new(i);
+    slots.skip_short_uint()?;
+    let queue = slots.short_string(alloc)?;
+    let consumer_tag = slots.short_string(alloc)?;
+    let flags = slots.flags::<4>()?;
+    let arguments = slots.table(alloc)?;
+    let method = Consume {
+        queue,
+        consumer_tag,
+        no_local: flag_of_byte(flags, 0),
+        no_ack: flag_of_byte(flags, 1),
+        exclusive: flag_of_byte(flags, 2),
+        nowait: flag_of_byte(flags, 3),
+        arguments,
+    };
+    Ok((i.len() - slots.rest.len(), method))
+}
+
+/// Its ids and slots, in order.
+pub(super) fn consume_fields(method: &Consume) -> [Field<'_>; 7]
+    ensures { ListsMethod result (consume_method method.now) }
+{
+    [
+        Field::ShortUInt(60),
+        Field::ShortUInt(20),
+        Field::ShortUInt(0), // reserved
+        Field::ShortString(&method.queue),
+        Field::ShortString(&method.consumer_tag),
+        Field::Flags(byte_of_flags(&[
+            method.no_local,
+            method.no_ack,
+            method.exclusive,
+            method.nowait,
+        ])),
+        Field::Table(&method.arguments),
+    ]
+}
+
+/// The size of the method id and the slots of `Consume`.
+#[tactic(auto)]
+pub fn size_consume(method: &Consume) -> Result<u64, GenError>
+    ensures { Measures result (method_size (consume_method method.now)) }
+{
+    size_fields(&consume_fields(method)[1..])
+}
+
+/// Puts the method id and the slots of `Consume` at a place of a slice, and answers the place behind.
+#[tactic(auto)]
+pub fn put_consume(buf: &mut [u8], at: usize, method: &Consume) -> usize
+    requires { HasRoom buf.old at (method_size (consume_method method.now)) (method_bytes (consume_method method.now)) }
+    ensures { Puts buf.old buf.new at (method_bytes (consume_method method.now)) result }
+{
+    put_fields(buf, at, &consume_fields(method)[1..])
+}
+
+/// Appends the method id and the slots of `Consume` to a vector.
+#[tactic(auto)]
+pub fn gen_consume(_alloc: Global, out: &mut Vec<u8>, method: &Consume) -> Result<(), GenError>
+    ensures { Appends out.old.items out.new.items (method_size (consume_method method.now)) (method_bytes (consume_method method.now)) result }
+{
+    gen_fields(out, &consume_fields(method)[1..])
+}
+
+/// The consumer is known by this tag.
+#[derive(Debug, Drop, PartialEq)]
+pub struct ConsumeOk {
+    pub consumer_tag: ShortString,
+}
+
+impl ConsumeOk {
+    /// The id of the class.
+    pub fn get_amqp_class_id(&self) -> Identifier
+        ensures { result ≡ 60 }
+    {
+        60
+    }
+
+    /// The id of the method in its class.
+    pub fn get_amqp_method_id(&self) -> Identifier
+        ensures { result ≡ 21 }
+    {
+        21
+    }
+
+    /// The method whose fields are empty, zero and false.
+    pub fn empty(alloc: Global) -> ConsumeOk
+        ensures { consume_ok_method result ≡ method 60 21 (text_item [] ∷ []) }
+    {
+        ConsumeOk {
+            consumer_tag: ShortString::empty(alloc),
+        }
+    }
+
+    /// An equal method of its own.
+    pub fn copy(&self, alloc: Global) -> Result<ConsumeOk, NoMemory>
+        ensures { IfOk result (λ copied. copied ≡ self.now) }
+    {
+        Ok(ConsumeOk {
+            consumer_tag: self.consumer_tag.copy(alloc)?,
+        })
+    }
+}
+
+/// Reads the slots of `ConsumeOk`.
+pub fn parse_consume_ok(alloc: Global, i: &[u8]) -> Result<(usize, ConsumeOk), ParserError>
+    ensures { Parses consume_ok_method result i.now (judge_method 60 21) }
+{
+    let mut slots = SlotReader::new(i);
+    let consumer_tag = slots.short_string(alloc)?;
+    let method = ConsumeOk { consumer_tag };
+    Ok((i.len() - slots.rest.len(), method))
+}
+
+/// Its ids and slots, in order.
+pub(super) fn consume_ok_fields(method: &ConsumeOk) -> [Field<'_>; 3]
+    ensures { ListsMethod result (consume_ok_method method.now) }
+{
+    [
+        Field::ShortUInt(60),
+        Field::ShortUInt(21),
+        Field::ShortString(&method.consumer_tag),
+    ]
+}
+
+/// The size of the method id and the slots of `ConsumeOk`.
+#[tactic(auto)]
+pub fn size_consume_ok(method: &ConsumeOk) -> Result<u64, GenError>
+    ensures { Measures result (method_size (consume_ok_method method.now)) }
+{
+    size_fields(&consume_ok_fields(method)[1..])
+}
+
+/// Puts the method id and the slots of `ConsumeOk` at a place of a slice, and answers the place behind.
+#[tactic(auto)]
+pub fn put_consume_ok(buf: &mut [u8], at: usize, method: &ConsumeOk) -> usize
+    requires { HasRoom buf.old at (method_size (consume_ok_method method.now)) (method_bytes (consume_ok_method method.now)) }
+    ensures { Puts buf.old buf.new at (method_bytes (consume_ok_method method.now)) result }
+{
+    put_fields(buf, at, &consume_ok_fields(method)[1..])
+}
+
+/// Appends the method id and the slots of `ConsumeOk` to a vector.
+#[tactic(auto)]
+pub fn gen_consume_ok(_alloc: Global, out: &mut Vec<u8>, method: &ConsumeOk) -> Result<(), GenError>
+    ensures { Appends out.old.items out.new.items (method_size (consume_ok_method method.now)) (method_bytes (consume_ok_method method.now)) result }
+{
+    gen_fields(out, &consume_ok_fields(method)[1..])
+}
+
+/// A peer ends a consumer.
+#[derive(Debug, Drop, PartialEq)]
+pub struct Cancel {
+    pub consumer_tag: ShortString,
+    pub nowait: Boolean,
+}
+
+impl Cancel {
+    /// The id of the class.
+    pub fn get_amqp_class_id(&self) -> Identifier
+        ensures { result ≡ 60 }
+    {
+        60
+    }
+
+    /// The id of the method in its class.
+    pub fn get_amqp_method_id(&self) -> Identifier
+        ensures { result ≡ 30 }
+    {
+        30
+    }
+
+    /// The method whose fields are empty, zero and false.
+    pub fn empty(alloc: Global) -> Cancel
+        ensures { cancel_method result ≡ method 60 30 (text_item [] ∷ flag_item false ∷ []) }
+    {
+        Cancel {
+            consumer_tag: ShortString::empty(alloc),
+            nowait: false,
+        }
+    }
+
+    /// An equal method of its own.
+    pub fn copy(&self, alloc: Global) -> Result<Cancel, NoMemory>
+        ensures { IfOk result (λ copied. copied ≡ self.now) }
+    {
+        Ok(Cancel {
+            consumer_tag: self.consumer_tag.copy(alloc)?,
+            nowait: self.nowait,
+        })
+    }
+}
+
+/// Reads the slots of `Cancel`.
+pub fn parse_cancel(alloc: Global, i: &[u8]) -> Result<(usize, Cancel), ParserError>
+    ensures { Parses cancel_method result i.now (judge_method 60 30) }
+{
+    let mut slots = SlotReader::new(i);
+    let consumer_tag = slots.short_string(alloc)?;
+    let flags = slots.flags::<1>()?;
+    let method = Cancel {
+        consumer_tag,
+        nowait: flag_of_byte(flags, 0),
+    };
+    Ok((i.len() - slots.rest.len(), method))
+}
+
+/// Its ids and slots, in order.
+pub(super) fn cancel_fields(method: &Cancel) -> [Field<'_>; 4]
+    ensures { ListsMethod result (cancel_method method.now) }
+{
+    [
+        Field::ShortUInt(60),
+        Field::ShortUInt(30),
+        Field::ShortString(&method.consumer_tag),
+        Field::Flags(byte_of_flags(&[method.nowait])),
+    ]
+}
+
+/// The size of the method id and the slots of `Cancel`.
+#[tactic(auto)]
+pub fn size_cancel(method: &Cancel) -> Result<u64, GenError>
+    ensures { Measures result (method_size (cancel_method method.now)) }
+{
+    size_fields(&cancel_fields(method)[1..])
+}
+
+/// Puts the method id and the slots of `Cancel` at a place of a slice, and answers the place behind.
+#[tactic(auto)]
+pub fn put_cancel(buf: &mut [u8], at: usize, method: &Cancel) -> usize
+    requires { HasRoom buf.old at (method_size (cancel_method method.now)) (method_bytes (cancel_method method.now)) }
+    ensures { Puts buf.old buf.new at (method_bytes (cancel_method method.now)) result }
+{
+    put_fields(buf, at, &cancel_fields(method)[1..])
+}
+
+/// Appends the method id and the slots of `Cancel` to a vector.
+#[tactic(auto)]
+pub fn gen_cancel(_alloc: Global, out: &mut Vec<u8>, method: &Cancel) -> Result<(), GenError>
+    ensures { Appends out.old.items out.new.items (method_size (cancel_method method.now)) (method_bytes (cancel_method method.now)) result }
+{
+    gen_fields(out, &cancel_fields(method)[1..])
+}
+
+/// The consumer has ended.
+#[derive(Debug, Drop, PartialEq)]
+pub struct CancelOk {
+    pub consumer_tag: ShortString,
+}
+
+impl CancelOk {
+    /// The id of the class.
+    pub fn get_amqp_class_id(&self) -> Identifier
+        ensures { result ≡ 60 }
+    {
+        60
+    }
+
+    /// The id of the method in its class.
+    pub fn get_amqp_method_id(&self) -> Identifier
+        ensures { result ≡ 31 }
+    {
+        31
+    }
+
+    /// The method whose fields are empty, zero and false.
+    pub fn empty(alloc: Global) -> CancelOk
+        ensures { cancel_ok_method result ≡ method 60 31 (text_item [] ∷ []) }
+    {
+        CancelOk {
+            consumer_tag: ShortString::empty(alloc),
+        }
+    }
+
+    /// An equal method of its own.
+    pub fn copy(&self, alloc: Global) -> Result<CancelOk, NoMemory>
+        ensures { IfOk result (λ copied. copied ≡ self.now) }
+    {
+        Ok(CancelOk {
+            consumer_tag: self.consumer_tag.copy(alloc)?,
+        })
+    }
+}
+
+/// Reads the slots of `CancelOk`.
+pub fn parse_cancel_ok(alloc: Global, i: &[u8]) -> Result<(usize, CancelOk), ParserError>
+    ensures { Parses cancel_ok_method result i.now (judge_method 60 31) }
+{
+    let mut slots = SlotReader::new(i);
+    let consumer_tag = slots.short_string(alloc)?;
+    let method = CancelOk { consumer_tag };
+    Ok((i.len() - slots.rest.len(), method))
+}
+
+/// Its ids and slots, in order.
+pub(super) fn cancel_ok_fields(method: &CancelOk) -> [Field<'_>; 3]
+    ensures { ListsMethod result (cancel_ok_method method.now) }
+{
+    [
+        Field::ShortUInt(60),
+        Field::ShortUInt(31),
+        Field::ShortString(&method.consumer_tag),
+    ]
+}
+
+/// The size of the method id and the slots of `CancelOk`.
+#[tactic(auto)]
+pub fn size_cancel_ok(method: &CancelOk) -> Result<u64, GenError>
+    ensures { Measures result (method_size (cancel_ok_method method.now)) }
+{
+    size_fields(&cancel_ok_fields(method)[1..])
+}
+
+/// Puts the method id and the slots of `CancelOk` at a place of a slice, and answers the place behind.
+#[tactic(auto)]
+pub fn put_cancel_ok(buf: &mut [u8], at: usize, method: &CancelOk) -> usize
+    requires { HasRoom buf.old at (method_size (cancel_ok_method method.now)) (method_bytes (cancel_ok_method method.now)) }
+    ensures { Puts buf.old buf.new at (method_bytes (cancel_ok_method method.now)) result }
+{
+    put_fields(buf, at, &cancel_ok_fields(method)[1..])
+}
+
+/// Appends the method id and the slots of `CancelOk` to a vector.
+#[tactic(auto)]
+pub fn gen_cancel_ok(_alloc: Global, out: &mut Vec<u8>, method: &CancelOk) -> Result<(), GenError>
+    ensures { Appends out.old.items out.new.items (method_size (cancel_ok_method method.now)) (method_bytes (cancel_ok_method method.now)) result }
+{
+    gen_fields(out, &cancel_ok_fields(method)[1..])
+}

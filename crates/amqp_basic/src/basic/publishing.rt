@@ -1,0 +1,615 @@
+//! Methods of the class basic that carry messages, and to get one.
+#![tactic(auto, using(amqp_types::proofs::Judged::refuses_next), unfolding(amqp_types::specs::Rows::rows_of, amqp_types::specs::Rows::slots_at, amqp_types::specs::SlotJudging::judge_slots, amqp_types::specs::Methods::judge_method, amqp_values::specs::Fields::field_bytes, amqp_values::specs::Fields::is_deep_field, amqp_values::specs::Fields::is_long_field, amqp_values::specs::Fields::fields_bytes, amqp_values::specs::Fields::any_deep_field, amqp_values::specs::Fields::any_long_field, amqp_values::specs::Fields::fields_size, amqp_types::specs::SlotBytes::form_bytes, amqp_types::specs::SlotBytes::slots_bytes, amqp_types::specs::SlotBytes::items_size, amqp_types::specs::Methods::method_bytes, amqp_types::specs::Methods::method_size, amqp_types::specs::Methods::payload_bytes, amqp_types::specs::Methods::payload_size))]
+
+ghost use Rattle.std.specs.Prelude.{◌≡◌, ◌∷◌, [], false, IfOk};
+ghost use Rattle.amqp_types.specs.Slots.{number_item, flag_item, text_item};
+ghost use Rattle.amqp_types.specs.Calls.{Parses, NeedsNoMemory, Measures, HasRoom};
+ghost use Rattle.amqp_types.specs.Writing.{Puts, Appends};
+ghost use Rattle.amqp_types.specs.Methods.{method, judge_method, method_bytes, method_size};
+ghost use Rattle.amqp_values.specs.MethodFields.{ListsMethod};
+ghost use Rattle.amqp_basic.specs.Basic.{publish_method, return_method, deliver_method, get_method, get_ok_method, get_empty_method};
+
+use amqp_values::{
+    Boolean, Field, GenError, Identifier, LongLongUInt, LongUInt, NoMemory, ParserError,
+    ShortString, ShortUInt, SlotReader, byte_of_flags, flag_of_byte, gen_fields, put_fields,
+    size_fields,
+};
+use std::alloc::Global;
+
+/// The client publishes the message that follows.
+#[derive(Debug, Drop, PartialEq)]
+pub struct Publish {
+    pub exchange: ShortString,
+    pub routing_key: ShortString,
+    pub mandatory: Boolean,
+    pub immediate: Boolean,
+}
+
+impl Publish {
+    /// The id of the class.
+    pub fn get_amqp_class_id(&self) -> Identifier
+        ensures { result ≡ 60 }
+    {
+        60
+    }
+
+    /// The id of the method in its class.
+    pub fn get_amqp_method_id(&self) -> Identifier
+        ensures { result ≡ 40 }
+    {
+        40
+    }
+
+    /// The method whose fields are empty, zero and false.
+    pub fn empty(alloc: Global) -> Publish
+        ensures { publish_method result ≡ method 60 40 (text_item [] ∷ text_item [] ∷ flag_item false ∷ flag_item false ∷ []) }
+    {
+        Publish {
+            exchange: ShortString::empty(alloc),
+            routing_key: ShortString::empty(alloc),
+            mandatory: false,
+            immediate: false,
+        }
+    }
+
+    /// An equal method of its own.
+    pub fn copy(&self, alloc: Global) -> Result<Publish, NoMemory>
+        ensures { IfOk result (λ copied. copied ≡ self.now) }
+    {
+        Ok(Publish {
+            exchange: self.exchange.copy(alloc)?,
+            routing_key: self.routing_key.copy(alloc)?,
+            mandatory: self.mandatory,
+            immediate: self.immediate,
+        })
+    }
+}
+
+/// Reads the slots of `Publish`.
+pub fn parse_publish(alloc: Global, i: &[u8]) -> Result<(usize, Publish), ParserError>
+    ensures { Parses publish_method result i.now (judge_method 60 40) }
+{
+    let mut slots = SlotReader::new(i);
+    slots.skip_short_uint()?;
+    let exchange = slots.short_string(alloc)?;
+    let routing_key = slots.short_string(alloc)?;
+    let flags = slots.flags::<2>()?;
+    let method = Publish {
+        exchange,
+        routing_key,
+        mandatory: flag_of_byte(flags, 0),
+        immediate: flag_of_byte(flags, 1),
+    };
+    Ok((i.len() - slots.rest.len(), method))
+}
+
+/// Its ids and slots, in order.
+pub(super) fn publish_fields(method: &Publish) -> [Field<'_>; 6]
+    ensures { ListsMethod result (publish_method method.now) }
+{
+    [
+        Field::ShortUInt(60),
+        Field::ShortUInt(40),
+        Field::ShortUInt(0), // reserved
+        Field::ShortString(&method.exchange),
+        Field::ShortString(&method.routing_key),
+        Field::Flags(byte_of_flags(&[method.mandatory, method.immediate])),
+    ]
+}
+
+/// The size of the method id and the slots of `Publish`.
+#[tactic(auto)]
+pub fn size_publish(method: &Publish) -> Result<u64, GenError>
+    ensures { Measures result (method_size (publish_method method.now)) }
+{
+    size_fields(&publish_fields(method)[1..])
+}
+
+/// Puts the method id and the slots of `Publish` at a place of a slice, and answers the place behind.
+#[tactic(auto)]
+pub fn put_publish(buf: &mut [u8], at: usize, method: &Publish) -> usize
+    requires { HasRoom buf.old at (method_size (publish_method method.now)) (method_bytes (publish_method method.now)) }
+    ensures { Puts buf.old buf.new at (method_bytes (publish_method method.now)) result }
+{
+    put_fields(buf, at, &publish_fields(method)[1..])
+}
+
+/// Appends the method id and the slots of `Publish` to a vector.
+#[tactic(auto)]
+pub fn gen_publish(_alloc: Global, out: &mut Vec<u8>, method: &Publish) -> Result<(), GenError>
+    ensures { Appends out.old.items out.new.items (method_size (publish_method method.now)) (method_bytes (publish_method method.now)) result }
+{
+    gen_fields(out, &publish_fields(method)[1..])
+}
+
+/// The server hands back the message that follows, which it could not deliver.
+#[derive(Debug, Drop, PartialEq)]
+pub struct Return {
+    pub reply_code: ShortUInt,
+    pub reply_text: ShortString,
+    pub exchange: ShortString,
+    pub routing_key: ShortString,
+}
+
+impl Return {
+    /// The id of the class.
+    pub fn get_amqp_class_id(&self) -> Identifier
+        ensures { result ≡ 60 }
+    {
+        60
+    }
+
+    /// The id of the method in its class.
+    pub fn get_amqp_method_id(&self) -> Identifier
+        ensures { result ≡ 50 }
+    {
+        50
+    }
+
+    /// The method whose fields are empty, zero and false.
+    pub fn empty(alloc: Global) -> Return
+        ensures { return_method result ≡ method 60 50 (number_item 0 ∷ text_item [] ∷ text_item [] ∷ text_item [] ∷ []) }
+    {
+        Return {
+            reply_code: 0,
+            reply_text: ShortString::empty(alloc),
+            exchange: ShortString::empty(alloc),
+            routing_key: ShortString::empty(alloc),
+        }
+    }
+
+    /// An equal method of its own.
+    pub fn copy(&self, alloc: Global) -> Result<Return, NoMemory>
+        ensures { IfOk result (λ copied. copied ≡ self.now) }
+    {
+        Ok(Return {
+            reply_code: self.reply_code,
+            reply_text: self.reply_text.copy(alloc)?,
+            exchange: self.exchange.copy(alloc)?,
+            routing_key: self.routing_key.copy(alloc)?,
+        })
+    }
+}
+
+/// Reads the slots of `Return`.
+pub fn parse_return(alloc: Global, i: &[u8]) -> Result<(usize, Return), ParserError>
+    ensures { Parses return_method result i.now (judge_method 60 50) }
+{
+    let mut slots = SlotReader::new(i);
+    let reply_code = slots.short_uint()?;
+    let reply_text = slots.short_string(alloc)?;
+    let exchange = slots.short_string(alloc)?;
+    let routing_key = slots.short_string(alloc)?;
+    let method = Return {
+        reply_code,
+        reply_text,
+        exchange,
+        routing_key,
+    };
+    Ok((i.len() - slots.rest.len(), method))
+}
+
+/// Its ids and slots, in order.
+pub(super) fn return_fields(method: &Return) -> [Field<'_>; 6]
+    ensures { ListsMethod result (return_method method.now) }
+{
+    [
+        Field::ShortUInt(60),
+        Field::ShortUInt(50),
+        Field::ShortUInt(method.reply_code),
+        Field::ShortString(&method.reply_text),
+        Field::ShortString(&method.exchange),
+        Field::ShortString(&method.routing_key),
+    ]
+}
+
+/// The size of the method id and the slots of `Return`.
+#[tactic(auto)]
+pub fn size_return(method: &Return) -> Result<u64, GenError>
+    ensures { Measures result (method_size (return_method method.now)) }
+{
+    size_fields(&return_fields(method)[1..])
+}
+
+/// Puts the method id and the slots of `Return` at a place of a slice, and answers the place behind.
+#[tactic(auto)]
+pub fn put_return(buf: &mut [u8], at: usize, method: &Return) -> usize
+    requires { HasRoom buf.old at (method_size (return_method method.now)) (method_bytes (return_method method.now)) }
+    ensures { Puts buf.old buf.new at (method_bytes (return_method method.now)) result }
+{
+    put_fields(buf, at, &return_fields(method)[1..])
+}
+
+/// Appends the method id and the slots of `Return` to a vector.
+#[tactic(auto)]
+pub fn gen_return(_alloc: Global, out: &mut Vec<u8>, method: &Return) -> Result<(), GenError>
+    ensures { Appends out.old.items out.new.items (method_size (return_method method.now)) (method_bytes (return_method method.now)) result }
+{
+    gen_fields(out, &return_fields(method)[1..])
+}
+
+/// The server sends the message that follows to a consumer.
+#[derive(Debug, Drop, PartialEq)]
+pub struct Deliver {
+    pub consumer_tag: ShortString,
+    pub delivery_tag: LongLongUInt,
+    pub redelivered: Boolean,
+    pub exchange: ShortString,
+    pub routing_key: ShortString,
+}
+
+impl Deliver {
+    /// The id of the class.
+    pub fn get_amqp_class_id(&self) -> Identifier
+        ensures { result ≡ 60 }
+    {
+        60
+    }
+
+    /// The id of the method in its class.
+    pub fn get_amqp_method_id(&self) -> Identifier
+        ensures { result ≡ 60 }
+    {
+        60
+    }
+
+    /// The method whose fields are empty, zero and false.
+    pub fn empty(alloc: Global) -> Deliver
+        ensures { deliver_method result ≡ method 60 60 (text_item [] ∷ number_item 0 ∷ flag_item false ∷ text_item [] ∷ text_item [] ∷ []) }
+    {
+        Deliver {
+            consumer_tag: ShortString::empty(alloc),
+            delivery_tag: 0,
+            redelivered: false,
+            exchange: ShortString::empty(alloc),
+            routing_key: ShortString::empty(alloc),
+        }
+    }
+
+    /// An equal method of its own.
+    pub fn copy(&self, alloc: Global) -> Result<Deliver, NoMemory>
+        ensures { IfOk result (λ copied. copied ≡ self.now) }
+    {
+        Ok(Deliver {
+            consumer_tag: self.consumer_tag.copy(alloc)?,
+            delivery_tag: self.delivery_tag,
+            redelivered: self.redelivered,
+            exchange: self.exchange.copy(alloc)?,
+            routing_key: self.routing_key.copy(alloc)?,
+        })
+    }
+}
+
+/// Reads the slots of `Deliver`.
+pub fn parse_deliver(alloc: Global, i: &[u8]) -> Result<(usize, Deliver), ParserError>
+    ensures { Parses deliver_method result i.now (judge_method 60 60) }
+{
+    let mut slots = SlotReader::new(i);
+    let consumer_tag = slots.short_string(alloc)?;
+    let delivery_tag = slots.long_long_uint()?;
+    let flags = slots.flags::<1>()?;
+    let exchange = slots.short_string(alloc)?;
+    let routing_key = slots.short_string(alloc)?;
+    let method = Deliver {
+        consumer_tag,
+        delivery_tag,
+        redelivered: flag_of_byte(flags, 0),
+        exchange,
+        routing_key,
+    };
+    Ok((i.len() - slots.rest.len(), method))
+}
+
+/// Its ids and slots, in order.
+pub(super) fn deliver_fields(method: &Deliver) -> [Field<'_>; 7]
+    ensures { ListsMethod result (deliver_method method.now) }
+{
+    [
+        Field::ShortUInt(60),
+        Field::ShortUInt(60),
+        Field::ShortString(&method.consumer_tag),
+        Field::LongLongUInt(method.delivery_tag),
+        Field::Flags(byte_of_flags(&[method.redelivered])),
+        Field::ShortString(&method.exchange),
+        Field::ShortString(&method.routing_key),
+    ]
+}
+
+/// The size of the method id and the slots of `Deliver`.
+#[tactic(auto)]
+pub fn size_deliver(method: &Deliver) -> Result<u64, GenError>
+    ensures { Measures result (method_size (deliver_method method.now)) }
+{
+    size_fields(&deliver_fields(method)[1..])
+}
+
+/// Puts the method id and the slots of `Deliver` at a place of a slice, and answers the place behind.
+#[tactic(auto)]
+pub fn put_deliver(buf: &mut [u8], at: usize, method: &Deliver) -> usize
+    requires { HasRoom buf.old at (method_size (deliver_method method.now)) (method_bytes (deliver_method method.now)) }
+    ensures { Puts buf.old buf.new at (method_bytes (deliver_method method.now)) result }
+{
+    put_fields(buf, at, &deliver_fields(method)[1..])
+}
+
+/// Appends the method id and the slots of `Deliver` to a vector.
+#[tactic(auto)]
+pub fn gen_deliver(_alloc: Global, out: &mut Vec<u8>, method: &Deliver) -> Result<(), GenError>
+    ensures { Appends out.old.items out.new.items (method_size (deliver_method method.now)) (method_bytes (deliver_method method.now)) result }
+{
+    gen_fields(out, &deliver_fields(method)[1..])
+}
+
+/// The client asks a queue for one message.
+#[derive(Debug, Drop, PartialEq)]
+pub struct Get {
+    pub queue: ShortString,
+    pub no_ack: Boolean,
+}
+
+impl Get {
+    /// The id of the class.
+    pub fn get_amqp_class_id(&self) -> Identifier
+        ensures { result ≡ 60 }
+    {
+        60
+    }
+
+    /// The id of the method in its class.
+    pub fn get_amqp_method_id(&self) -> Identifier
+        ensures { result ≡ 70 }
+    {
+        70
+    }
+
+    /// The method whose fields are empty, zero and false.
+    pub fn empty(alloc: Global) -> Get
+        ensures { get_method result ≡ method 60 70 (text_item [] ∷ flag_item false ∷ []) }
+    {
+        Get {
+            queue: ShortString::empty(alloc),
+            no_ack: false,
+        }
+    }
+
+    /// An equal method of its own.
+    pub fn copy(&self, alloc: Global) -> Result<Get, NoMemory>
+        ensures { IfOk result (λ copied. copied ≡ self.now) }
+    {
+        Ok(Get {
+            queue: self.queue.copy(alloc)?,
+            no_ack: self.no_ack,
+        })
+    }
+}
+
+/// Reads the slots of `Get`.
+pub fn parse_get(alloc: Global, i: &[u8]) -> Result<(usize, Get), ParserError>
+    ensures { Parses get_method result i.now (judge_method 60 70) }
+{
+    let mut slots = SlotReader::new(i);
+    slots.skip_short_uint()?;
+    let queue = slots.short_string(alloc)?;
+    let flags = slots.flags::<1>()?;
+    let method = Get {
+        queue,
+        no_ack: flag_of_byte(flags, 0),
+    };
+    Ok((i.len() - slots.rest.len(), method))
+}
+
+/// Its ids and slots, in order.
+pub(super) fn get_fields(method: &Get) -> [Field<'_>; 5]
+    ensures { ListsMethod result (get_method method.now) }
+{
+    [
+        Field::ShortUInt(60),
+        Field::ShortUInt(70),
+        Field::ShortUInt(0), // reserved
+        Field::ShortString(&method.queue),
+        Field::Flags(byte_of_flags(&[method.no_ack])),
+    ]
+}
+
+/// The size of the method id and the slots of `Get`.
+#[tactic(auto)]
+pub fn size_get(method: &Get) -> Result<u64, GenError>
+    ensures { Measures result (method_size (get_method method.now)) }
+{
+    size_fields(&get_fields(method)[1..])
+}
+
+/// Puts the method id and the slots of `Get` at a place of a slice, and answers the place behind.
+#[tactic(auto)]
+pub fn put_get(buf: &mut [u8], at: usize, method: &Get) -> usize
+    requires { HasRoom buf.old at (method_size (get_method method.now)) (method_bytes (get_method method.now)) }
+    ensures { Puts buf.old buf.new at (method_bytes (get_method method.now)) result }
+{
+    put_fields(buf, at, &get_fields(method)[1..])
+}
+
+/// Appends the method id and the slots of `Get` to a vector.
+#[tactic(auto)]
+pub fn gen_get(_alloc: Global, out: &mut Vec<u8>, method: &Get) -> Result<(), GenError>
+    ensures { Appends out.old.items out.new.items (method_size (get_method method.now)) (method_bytes (get_method method.now)) result }
+{
+    gen_fields(out, &get_fields(method)[1..])
+}
+
+/// The server sends the message that follows, which was asked for.
+#[derive(Debug, Drop, PartialEq)]
+pub struct GetOk {
+    pub delivery_tag: LongLongUInt,
+    pub redelivered: Boolean,
+    pub exchange: ShortString,
+    pub routing_key: ShortString,
+    pub message_count: LongUInt,
+}
+
+impl GetOk {
+    /// The id of the class.
+    pub fn get_amqp_class_id(&self) -> Identifier
+        ensures { result ≡ 60 }
+    {
+        60
+    }
+
+    /// The id of the method in its class.
+    pub fn get_amqp_method_id(&self) -> Identifier
+        ensures { result ≡ 71 }
+    {
+        71
+    }
+
+    /// The method whose fields are empty, zero and false.
+    pub fn empty(alloc: Global) -> GetOk
+        ensures { get_ok_method result ≡ method 60 71 (number_item 0 ∷ flag_item false ∷ text_item [] ∷ text_item [] ∷ number_item 0 ∷ []) }
+    {
+        GetOk {
+            delivery_tag: 0,
+            redelivered: false,
+            exchange: ShortString::empty(alloc),
+            routing_key: ShortString::empty(alloc),
+            message_count: 0,
+        }
+    }
+
+    /// An equal method of its own.
+    pub fn copy(&self, alloc: Global) -> Result<GetOk, NoMemory>
+        ensures { IfOk result (λ copied. copied ≡ self.now) }
+    {
+        Ok(GetOk {
+            delivery_tag: self.delivery_tag,
+            redelivered: self.redelivered,
+            exchange: self.exchange.copy(alloc)?,
+            routing_key: self.routing_key.copy(alloc)?,
+            message_count: self.message_count,
+        })
+    }
+}
+
+/// Reads the slots of `GetOk`.
+pub fn parse_get_ok(alloc: Global, i: &[u8]) -> Result<(usize, GetOk), ParserError>
+    ensures { Parses get_ok_method result i.now (judge_method 60 71) }
+{
+    let mut slots = SlotReader::new(i);
+    let delivery_tag = slots.long_long_uint()?;
+    let flags = slots.flags::<1>()?;
+    let exchange = slots.short_string(alloc)?;
+    let routing_key = slots.short_string(alloc)?;
+    let message_count = slots.long_uint()?;
+    let method = GetOk {
+        delivery_tag,
+        redelivered: flag_of_byte(flags, 0),
+        exchange,
+        routing_key,
+        message_count,
+    };
+    Ok((i.len() - slots.rest.len(), method))
+}
+
+/// Its ids and slots, in order.
+pub(super) fn get_ok_fields(method: &GetOk) -> [Field<'_>; 7]
+    ensures { ListsMethod result (get_ok_method method.now) }
+{
+    [
+        Field::ShortUInt(60),
+        Field::ShortUInt(71),
+        Field::LongLongUInt(method.delivery_tag),
+        Field::Flags(byte_of_flags(&[method.redelivered])),
+        Field::ShortString(&method.exchange),
+        Field::ShortString(&method.routing_key),
+        Field::LongUInt(method.message_count),
+    ]
+}
+
+/// The size of the method id and the slots of `GetOk`.
+#[tactic(auto)]
+pub fn size_get_ok(method: &GetOk) -> Result<u64, GenError>
+    ensures { Measures result (method_size (get_ok_method method.now)) }
+{
+    size_fields(&get_ok_fields(method)[1..])
+}
+
+/// Puts the method id and the slots of `GetOk` at a place of a slice, and answers the place behind.
+#[tactic(auto)]
+pub fn put_get_ok(buf: &mut [u8], at: usize, method: &GetOk) -> usize
+    requires { HasRoom buf.old at (method_size (get_ok_method method.now)) (method_bytes (get_ok_method method.now)) }
+    ensures { Puts buf.old buf.new at (method_bytes (get_ok_method method.now)) result }
+{
+    put_fields(buf, at, &get_ok_fields(method)[1..])
+}
+
+/// Appends the method id and the slots of `GetOk` to a vector.
+#[tactic(auto)]
+pub fn gen_get_ok(_alloc: Global, out: &mut Vec<u8>, method: &GetOk) -> Result<(), GenError>
+    ensures { Appends out.old.items out.new.items (method_size (get_ok_method method.now)) (method_bytes (get_ok_method method.now)) result }
+{
+    gen_fields(out, &get_ok_fields(method)[1..])
+}
+
+/// The queue has no message.
+#[derive(Clone, Default, Debug, Drop, PartialEq)]
+pub struct GetEmpty {}
+
+impl GetEmpty {
+    /// The id of the class.
+    pub fn get_amqp_class_id(&self) -> Identifier
+        ensures { result ≡ 60 }
+    {
+        60
+    }
+
+    /// The id of the method in its class.
+    pub fn get_amqp_method_id(&self) -> Identifier
+        ensures { result ≡ 72 }
+    {
+        72
+    }
+}
+
+/// Reads the slots of `GetEmpty`.
+pub fn parse_get_empty(_alloc: Global, i: &[u8]) -> Result<(usize, GetEmpty), ParserError>
+    ensures parsed { Parses get_empty_method result i.now (judge_method 60 72) }
+    ensures memory { NeedsNoMemory result }
+{
+    let mut slots = SlotReader::new(i);
+    slots.skip_short_string()?;
+    Ok((i.len() - slots.rest.len(), GetEmpty {}))
+}
+
+/// Its ids and slots, in order.
+pub(super) fn get_empty_fields(_method: &GetEmpty) -> [Field<'_>; 3]
+    ensures { ListsMethod result (get_empty_method _method.now) }
+{
+    [
+        Field::ShortUInt(60),
+        Field::ShortUInt(72),
+        Field::ShortShortUInt(0), // reserved, no text
+    ]
+}
+
+/// The size of the method id and the slots of `GetEmpty`.
+#[tactic(auto)]
+pub fn size_get_empty(method: &GetEmpty) -> Result<u64, GenError>
+    ensures { Measures result (method_size (get_empty_method method.now)) }
+{
+    size_fields(&get_empty_fields(method)[1..])
+}
+
+/// Puts the method id and the slots of `GetEmpty` at a place of a slice, and answers the place behind.
+#[tactic(auto)]
+pub fn put_get_empty(buf: &mut [u8], at: usize, method: &GetEmpty) -> usize
+    requires { HasRoom buf.old at (method_size (get_empty_method method.now)) (method_bytes (get_empty_method method.now)) }
+    ensures { Puts buf.old buf.new at (method_bytes (get_empty_method method.now)) result }
+{
+    put_fields(buf, at, &get_empty_fields(method)[1..])
+}
+
+/// Appends the method id and the slots of `GetEmpty` to a vector.
+#[tactic(auto)]
+pub fn gen_get_empty(_alloc: Global, out: &mut Vec<u8>, method: &GetEmpty) -> Result<(), GenError>
+    ensures { Appends out.old.items out.new.items (method_size (get_empty_method method.now)) (method_bytes (get_empty_method method.now)) result }
+{
+    gen_fields(out, &get_empty_fields(method)[1..])
+}

@@ -1,0 +1,18 @@
+-- The methods of the class confirm, and what their slots give.
+use Rattle.std.specs.Prelude.{[], ◌∷◌}
+use Rattle.amqp_types.specs.Slots.{flag_item}
+use Rattle.amqp_types.specs.Methods.{Method, method}
+use Rattle.amqp_channel.specs.declared.confirm.Select.{Select}
+use Rattle.amqp_channel.specs.declared.confirm.SelectOk.{SelectOk}
+use Rattle.amqp_channel.specs.declared.confirm.AMQPMethod.{AMQPMethod}
+use Rattle.amqp_channel.specs.declared.confirm.AMQPMethod.TheVariants as variant
+
+abbrev pub select_method : Select → Method
+select_method m = method 85 10 (flag_item m.nowait ∷ [])
+
+abbrev pub select_ok_method : SelectOk → Method
+select_ok_method m = method 85 11 ([])
+
+abbrev pub method_of : AMQPMethod → Method
+method_of (variant.Select m) = select_method m
+method_of (variant.SelectOk m) = select_ok_method m

@@ -1,0 +1,606 @@
+//! The methods of the class channel, 20.
+#![tactic(auto, using(amqp_types::proofs::Judged::refuses_next), unfolding(amqp_types::specs::Rows::rows_of, amqp_types::specs::Rows::slots_at, amqp_types::specs::SlotJudging::judge_slots, amqp_types::specs::Methods::judge_method, amqp_values::specs::Fields::field_bytes, amqp_values::specs::Fields::is_deep_field, amqp_values::specs::Fields::is_long_field, amqp_values::specs::Fields::fields_bytes, amqp_values::specs::Fields::any_deep_field, amqp_values::specs::Fields::any_long_field, amqp_values::specs::Fields::fields_size, amqp_types::specs::SlotBytes::form_bytes, amqp_types::specs::SlotBytes::slots_bytes, amqp_types::specs::SlotBytes::items_size, amqp_types::specs::Methods::method_bytes, amqp_types::specs::Methods::method_size, amqp_types::specs::Methods::payload_bytes, amqp_types::specs::Methods::payload_size))]
+
+ghost use Rattle.std.specs.Prelude.{◌≡◌, ◌∷◌, [], IfOk};
+ghost use Rattle.amqp_types.specs.Slots.{number_item, text_item};
+ghost use Rattle.amqp_types.specs.Calls.{Parses, NeedsNoMemory, Measures, HasRoom};
+ghost use Rattle.amqp_types.specs.Writing.{Puts, Appends};
+ghost use Rattle.amqp_types.specs.Methods.{method, judge_method, judge_in_class, method_bytes, method_size, payload_bytes, payload_size};
+ghost use Rattle.amqp_values.specs.MethodFields.{ListsMethod};
+ghost use Rattle.amqp_channel.specs.Channel.{open_method, open_ok_method, flow_method, flow_ok_method, close_method, close_ok_method, method_of};
+
+use amqp_values::{
+    Boolean, Field, GenError, Identifier, NoMemory, ParserError, ShortString, ShortUInt,
+    SlotReader, byte_of_flags, flag_of_byte, gen_fields, parse_id, put_fields, size_fields,
+};
+use std::alloc::Global;
+
+/// The client opens a channel.
+#[derive(Clone, Default, Debug, Drop, PartialEq)]
+pub struct Open {}
+
+impl Open {
+    /// The id of the class.
+    pub fn get_amqp_class_id(&self) -> Identifier
+        ensures { result ≡ 20 }
+    {
+        20
+    }
+
+    /// The id of the method in its class.
+    pub fn get_amqp_method_id(&self) -> Identifier
+        ensures { result ≡ 10 }
+    {
+        10
+    }
+}
+
+/// Reads the slots of `Open`.
+pub fn parse_open(_alloc: Global, i: &[u8]) -> Result<(usize, Open), ParserError>
+    ensures parsed { Parses open_method result i.now (judge_method 20 10) }
+    ensures memory { NeedsNoMemory result }
+{
+    let mut slots = SlotReader::new(i);
+    slots.skip_short_string()?;
+    Ok((i.len() - slots.rest.len(), Open {}))
+}
+
+/// Its ids and slots, in order.
+fn open_fields(_method: &Open) -> [Field<'_>; 3]
+    ensures { ListsMethod result (open_method _method.now) }
+{
+    [
+        Field::ShortUInt(20),
+        Field::ShortUInt(10),
+        Field::ShortShortUInt(0), // reserved, no text
+    ]
+}
+
+/// The size of the method id and the slots of `Open`.
+#[tactic(auto)]
+pub fn size_open(method: &Open) -> Result<u64, GenError>
+    ensures { Measures result (method_size (open_method method.now)) }
+{
+    size_fields(&open_fields(method)[1..])
+}
+
+/// Puts the method id and the slots of `Open` at a place of a slice, and answers the place behind.
+#[tactic(auto)]
+pub fn put_open(buf: &mut [u8], at: usize, method: &Open) -> usize
+    requires { HasRoom buf.old at (method_size (open_method method.now)) (method_bytes (open_method method.now)) }
+    ensures { Puts buf.old buf.new at (method_bytes (open_method method.now)) result }
+{
+    put_fields(buf, at, &open_fields(method)[1..])
+}
+
+/// Appends the method id and the slots of `Open` to a vector.
+#[tactic(auto)]
+pub fn gen_open(_alloc: Global, out: &mut Vec<u8>, method: &Open) -> Result<(), GenError>
+    ensures { Appends out.old.items out.new.items (method_size (open_method method.now)) (method_bytes (open_method method.now)) result }
+{
+    gen_fields(out, &open_fields(method)[1..])
+}
+
+/// The channel is open.
+#[derive(Clone, Default, Debug, Drop, PartialEq)]
+pub struct OpenOk {}
+
+impl OpenOk {
+    /// The id of the class.
+    pub fn get_amqp_class_id(&self) -> Identifier
+        ensures { result ≡ 20 }
+    {
+        20
+    }
+
+    /// The id of the method in its class.
+    pub fn get_amqp_method_id(&self) -> Identifier
+        ensures { result ≡ 11 }
+    {
+        11
+    }
+}
+
+/// Reads the slots of `OpenOk`.
+pub fn parse_open_ok(_alloc: Global, i: &[u8]) -> Result<(usize, OpenOk), ParserError>
+    ensures parsed { Parses open_ok_method result i.now (judge_method 20 11) }
+    ensures memory { NeedsNoMemory result }
+{
+    let mut slots = SlotReader::new(i);
+    slots.skip_long_string()?;
+    Ok((i.len() - slots.rest.len(), OpenOk {}))
+}
+
+/// Its ids and slots, in order.
+fn open_ok_fields(_method: &OpenOk) -> [Field<'_>; 3]
+    ensures { ListsMethod result (open_ok_method _method.now) }
+{
+    [
+        Field::ShortUInt(20),
+        Field::ShortUInt(11),
+        Field::LongUInt(0), // reserved, no text
+    ]
+}
+
+/// The size of the method id and the slots of `OpenOk`.
+#[tactic(auto)]
+pub fn size_open_ok(method: &OpenOk) -> Result<u64, GenError>
+    ensures { Measures result (method_size (open_ok_method method.now)) }
+{
+    size_fields(&open_ok_fields(method)[1..])
+}
+
+/// Puts the method id and the slots of `OpenOk` at a place of a slice, and answers the place behind.
+#[tactic(auto)]
+pub fn put_open_ok(buf: &mut [u8], at: usize, method: &OpenOk) -> usize
+    requires { HasRoom buf.old at (method_size (open_ok_method method.now)) (method_bytes (open_ok_method method.now)) }
+    ensures { Puts buf.old buf.new at (method_bytes (open_ok_method method.now)) result }
+{
+    put_fields(buf, at, &open_ok_fields(method)[1..])
+}
+
+/// Appends the method id and the slots of `OpenOk` to a vector.
+#[tactic(auto)]
+pub fn gen_open_ok(_alloc: Global, out: &mut Vec<u8>, method: &OpenOk) -> Result<(), GenError>
+    ensures { Appends out.old.items out.new.items (method_size (open_ok_method method.now)) (method_bytes (open_ok_method method.now)) result }
+{
+    gen_fields(out, &open_ok_fields(method)[1..])
+}
+
+/// A peer asks the other to stop sending content, or to go on.
+#[derive(Clone, Default, Debug, Drop, PartialEq)]
+pub struct Flow {
+    pub active: Boolean,
+}
+
+impl Flow {
+    /// The id of the class.
+    pub fn get_amqp_class_id(&self) -> Identifier
+        ensures { result ≡ 20 }
+    {
+        20
+    }
+
+    /// The id of the method in its class.
+    pub fn get_amqp_method_id(&self) -> Identifier
+        ensures { result ≡ 20 }
+    {
+        20
+    }
+}
+
+/// Reads the slots of `Flow`.
+pub fn parse_flow(_alloc: Global, i: &[u8]) -> Result<(usize, Flow), ParserError>
+    ensures parsed { Parses flow_method result i.now (judge_method 20 20) }
+    ensures memory { NeedsNoMemory result }
+{
+    let mut slots = SlotReader::new(i);
+    let flags = slots.flags::<1>()?;
+    let method = Flow {
+        active: flag_of_byte(flags, 0),
+    };
+    Ok((i.len() - slots.rest.len(), method))
+}
+
+/// Its ids and slots, in order.
+fn flow_fields(method: &Flow) -> [Field<'_>; 3]
+    ensures { ListsMethod result (flow_method method.now) }
+{
+    [
+        Field::ShortUInt(20),
+        Field::ShortUInt(20),
+        Field::Flags(byte_of_flags(&[method.active])),
+    ]
+}
+
+/// The size of the method id and the slots of `Flow`.
+#[tactic(auto)]
+pub fn size_flow(method: &Flow) -> Result<u64, GenError>
+    ensures { Measures result (method_size (flow_method method.now)) }
+{
+    size_fields(&flow_fields(method)[1..])
+}
+
+/// Puts the method id and the slots of `Flow` at a place of a slice, and answers the place behind.
+#[tactic(auto)]
+pub fn put_flow(buf: &mut [u8], at: usize, method: &Flow) -> usize
+    requires { HasRoom buf.old at (method_size (flow_method method.now)) (method_bytes (flow_method method.now)) }
+    ensures { Puts buf.old buf.new at (method_bytes (flow_method method.now)) result }
+{
+    put_fields(buf, at, &flow_fields(method)[1..])
+}
+
+/// Appends the method id and the slots of `Flow` to a vector.
+#[tactic(auto)]
+pub fn gen_flow(_alloc: Global, out: &mut Vec<u8>, method: &Flow) -> Result<(), GenError>
+    ensures { Appends out.old.items out.new.items (method_size (flow_method method.now)) (method_bytes (flow_method method.now)) result }
+{
+    gen_fields(out, &flow_fields(method)[1..])
+}
+
+/// The other peer says whether it sends content.
+#[derive(Clone, Default, Debug, Drop, PartialEq)]
+pub struct FlowOk {
+    pub active: Boolean,
+}
+
+impl FlowOk {
+    /// The id of the class.
+    pub fn get_amqp_class_id(&self) -> Identifier
+        ensures { result ≡ 20 }
+    {
+        20
+    }
+
+    /// The id of the method in its class.
+    pub fn get_amqp_method_id(&self) -> Identifier
+        ensures { result ≡ 21 }
+    {
+        21
+    }
+}
+
+/// Reads the slots of `FlowOk`.
+pub fn parse_flow_ok(_alloc: Global, i: &[u8]) -> Result<(usize, FlowOk), ParserError>
+    ensures parsed { Parses flow_ok_method result i.now (judge_method 20 21) }
+    ensures memory { NeedsNoMemory result }
+{
+    let mut slots = SlotReader::new(i);
+    let flags = slots.flags::<1>()?;
+    let method = FlowOk {
+        active: flag_of_byte(flags, 0),
+    };
+    Ok((i.len() - slots.rest.len(), method))
+}
+
+/// Its ids and slots, in order.
+fn flow_ok_fields(method: &FlowOk) -> [Field<'_>; 3]
+    ensures { ListsMethod result (flow_ok_method method.now) }
+{
+    [
+        Field::ShortUInt(20),
+        Field::ShortUInt(21),
+        Field::Flags(byte_of_flags(&[method.active])),
+    ]
+}
+
+/// The size of the method id and the slots of `FlowOk`.
+#[tactic(auto)]
+pub fn size_flow_ok(method: &FlowOk) -> Result<u64, GenError>
+    ensures { Measures result (method_size (flow_ok_method method.now)) }
+{
+    size_fields(&flow_ok_fields(method)[1..])
+}
+
+/// Puts the method id and the slots of `FlowOk` at a place of a slice, and answers the place behind.
+#[tactic(auto)]
+pub fn put_flow_ok(buf: &mut [u8], at: usize, method: &FlowOk) -> usize
+    requires { HasRoom buf.old at (method_size (flow_ok_method method.now)) (method_bytes (flow_ok_method method.now)) }
+    ensures { Puts buf.old buf.new at (method_bytes (flow_ok_method method.now)) result }
+{
+    put_fields(buf, at, &flow_ok_fields(method)[1..])
+}
+
+/// Appends the method id and the slots of `FlowOk` to a vector.
+#[tactic(auto)]
+pub fn gen_flow_ok(_alloc: Global, out: &mut Vec<u8>, method: &FlowOk) -> Result<(), GenError>
+    ensures { Appends out.old.items out.new.items (method_size (flow_ok_method method.now)) (method_bytes (flow_ok_method method.now)) result }
+{
+    gen_fields(out, &flow_ok_fields(method)[1..])
+}
+
+/// A peer closes the channel, and says why.
+#[derive(Debug, Drop, PartialEq)]
+pub struct Close {
+    pub reply_code: ShortUInt,
+    pub reply_text: ShortString,
+    pub class_id: ShortUInt,
+    pub method_id: ShortUInt,
+}
+
+impl Close {
+    /// The id of the class.
+    pub fn get_amqp_class_id(&self) -> Identifier
+        ensures { result ≡ 20 }
+    {
+        20
+    }
+
+    /// The id of the method in its class.
+    pub fn get_amqp_method_id(&self) -> Identifier
+        ensures { result ≡ 40 }
+    {
+        40
+    }
+
+    /// The method whose fields are empty, zero and false.
+    pub fn empty(alloc: Global) -> Close
+        ensures { close_method result ≡ method 20 40 (number_item 0 ∷ text_item [] ∷ number_item 0 ∷ number_item 0 ∷ []) }
+    {
+        Close {
+            reply_code: 0,
+            reply_text: ShortString::empty(alloc),
+            class_id: 0,
+            method_id: 0,
+        }
+    }
+
+    /// An equal method of its own.
+    pub fn copy(&self, alloc: Global) -> Result<Close, NoMemory>
+        ensures { IfOk result (λ copied. copied ≡ self.now) }
+    {
+        Ok(Close {
+            reply_code: self.reply_code,
+            reply_text: self.reply_text.copy(alloc)?,
+            class_id: self.class_id,
+            method_id: self.method_id,
+        })
+    }
+}
+
+/// Reads the slots of `Close`.
+pub fn parse_close(alloc: Global, i: &[u8]) -> Result<(usize, Close), ParserError>
+    ensures { Parses close_method result i.now (judge_method 20 40) }
+{
+    let mut slots = SlotReader::new(i);
+    let reply_code = slots.short_uint()?;
+    let reply_text = slots.short_string(alloc)?;
+    let class_id = slots.short_uint()?;
+    let method_id = slots.short_uint()?;
+    let method = Close {
+        reply_code,
+        reply_text,
+        class_id,
+        method_id,
+    };
+    Ok((i.len() - slots.rest.len(), method))
+}
+
+/// Its ids and slots, in order.
+fn close_fields(method: &Close) -> [Field<'_>; 6]
+    ensures { ListsMethod result (close_method method.now) }
+{
+    [
+        Field::ShortUInt(20),
+        Field::ShortUInt(40),
+        Field::ShortUInt(method.reply_code),
+        Field::ShortString(&method.reply_text),
+        Field::ShortUInt(method.class_id),
+        Field::ShortUInt(method.method_id),
+    ]
+}
+
+/// The size of the method id and the slots of `Close`.
+#[tactic(auto)]
+pub fn size_close(method: &Close) -> Result<u64, GenError>
+    ensures { Measures result (method_size (close_method method.now)) }
+{
+    size_fields(&close_fields(method)[1..])
+}
+
+/// Puts the method id and the slots of `Close` at a place of a slice, and answers the place behind.
+#[tactic(auto)]
+pub fn put_close(buf: &mut [u8], at: usize, method: &Close) -> usize
+    requires { HasRoom buf.old at (method_size (close_method method.now)) (method_bytes (close_method method.now)) }
+    ensures { Puts buf.old buf.new at (method_bytes (close_method method.now)) result }
+{
+    put_fields(buf, at, &close_fields(method)[1..])
+}
+
+/// Appends the method id and the slots of `Close` to a vector.
+#[tactic(auto)]
+pub fn gen_close(_alloc: Global, out: &mut Vec<u8>, method: &Close) -> Result<(), GenError>
+    ensures { Appends out.old.items out.new.items (method_size (close_method method.now)) (method_bytes (close_method method.now)) result }
+{
+    gen_fields(out, &close_fields(method)[1..])
+}
+
+/// The other peer has heard that the channel is closed.
+#[derive(Clone, Default, Debug, Drop, PartialEq)]
+pub struct CloseOk {}
+
+impl CloseOk {
+    /// The id of the class.
+    pub fn get_amqp_class_id(&self) -> Identifier
+        ensures { result ≡ 20 }
+    {
+        20
+    }
+
+    /// The id of the method in its class.
+    pub fn get_amqp_method_id(&self) -> Identifier
+        ensures { result ≡ 41 }
+    {
+        41
+    }
+}
+
+/// Reads the slots of `CloseOk`.
+pub fn parse_close_ok(_alloc: Global, i: &[u8]) -> Result<(usize, CloseOk), ParserError>
+    ensures parsed { Parses close_ok_method result i.now (judge_method 20 41) }
+    ensures memory { NeedsNoMemory result }
+{
+    let slots = SlotReader::new(i);
+    Ok((i.len() - slots.rest.len(), CloseOk {}))
+}
+
+/// Its ids and slots, in order.
+fn close_ok_fields(_method: &CloseOk) -> [Field<'_>; 2]
+    ensures { ListsMethod result (close_ok_method _method.now) }
+{
+    [Field::ShortUInt(20), Field::ShortUInt(41)]
+}
+
+/// The size of the method id and the slots of `CloseOk`.
+#[tactic(auto)]
+pub fn size_close_ok(method: &CloseOk) -> Result<u64, GenError>
+    ensures { Measures result (method_size (close_ok_method method.now)) }
+{
+    size_fields(&close_ok_fields(method)[1..])
+}
+
+/// Puts the method id and the slots of `CloseOk` at a place of a slice, and answers the place behind.
+#[tactic(auto)]
+pub fn put_close_ok(buf: &mut [u8], at: usize, method: &CloseOk) -> usize
+    requires { HasRoom buf.old at (method_size (close_ok_method method.now)) (method_bytes (close_ok_method method.now)) }
+    ensures { Puts buf.old buf.new at (method_bytes (close_ok_method method.now)) result }
+{
+    put_fields(buf, at, &close_ok_fields(method)[1..])
+}
+
+/// Appends the method id and the slots of `CloseOk` to a vector.
+#[tactic(auto)]
+pub fn gen_close_ok(_alloc: Global, out: &mut Vec<u8>, method: &CloseOk) -> Result<(), GenError>
+    ensures { Appends out.old.items out.new.items (method_size (close_ok_method method.now)) (method_bytes (close_ok_method method.now)) result }
+{
+    gen_fields(out, &close_ok_fields(method)[1..])
+}
+
+/// A method of the class.
+#[derive(Debug, Drop, PartialEq)]
+pub enum AMQPMethod {
+    /// The client opens a channel.
+    Open(Open),
+
+    /// The channel is open.
+    OpenOk(OpenOk),
+
+    /// A peer asks the other to stop sending content, or to go on.
+    Flow(Flow),
+
+    /// The other peer says whether it sends content.
+    FlowOk(FlowOk),
+
+    /// A peer closes the channel, and says why.
+    Close(Close),
+
+    /// The other peer has heard that the channel is closed.
+    CloseOk(CloseOk),
+}
+
+impl AMQPMethod {
+    /// The id of the class.
+    pub fn get_amqp_class_id(&self) -> Identifier
+        ensures { result ≡ 20 }
+    {
+        20
+    }
+
+    /// The id of the method in its class.
+    pub fn get_amqp_method_id(&self) -> Identifier
+        ensures { result ≡ (method_of self.now).id }
+    {
+        match self {
+            AMQPMethod::Open(_) => 10,
+            AMQPMethod::OpenOk(_) => 11,
+            AMQPMethod::Flow(_) => 20,
+            AMQPMethod::FlowOk(_) => 21,
+            AMQPMethod::Close(_) => 40,
+            AMQPMethod::CloseOk(_) => 41,
+        }
+    }
+
+    /// An equal method of its own.
+    pub fn copy(&self, alloc: Global) -> Result<AMQPMethod, NoMemory>
+        ensures { IfOk result (λ copied. copied ≡ self.now) }
+    {
+        match self {
+            AMQPMethod::Open(method) => Ok(AMQPMethod::Open(method.clone()?)),
+            AMQPMethod::OpenOk(method) => Ok(AMQPMethod::OpenOk(method.clone()?)),
+            AMQPMethod::Flow(method) => Ok(AMQPMethod::Flow(method.clone()?)),
+            AMQPMethod::FlowOk(method) => Ok(AMQPMethod::FlowOk(method.clone()?)),
+            AMQPMethod::Close(method) => Ok(AMQPMethod::Close(method.copy(alloc)?)),
+            AMQPMethod::CloseOk(method) => Ok(AMQPMethod::CloseOk(method.clone()?)),
+        }
+    }
+}
+
+/// Reads the slots of the method with this id.
+#[tactic(auto, using(amqp_types::proofs::Judged::refuses_next), unfolding(amqp_types::specs::Rows::rows_of, amqp_types::specs::Rows::slots_at, amqp_types::specs::Methods::judge_method))]
+fn parse_method(alloc: Global, id: Identifier, i: &[u8]) -> Result<(usize, AMQPMethod), ParserError>
+    ensures { Parses method_of result i.now (judge_method 20 id) }
+{
+    match id {
+        10 => {
+            let (used, method) = parse_open(alloc, i)?;
+            Ok((used, AMQPMethod::Open(method)))
+        }
+        11 => {
+            let (used, method) = parse_open_ok(alloc, i)?;
+            Ok((used, AMQPMethod::OpenOk(method)))
+        }
+        20 => {
+            let (used, method) = parse_flow(alloc, i)?;
+            Ok((used, AMQPMethod::Flow(method)))
+        }
+        21 => {
+            let (used, method) = parse_flow_ok(alloc, i)?;
+            Ok((used, AMQPMethod::FlowOk(method)))
+        }
+        40 => {
+            let (used, method) = parse_close(alloc, i)?;
+            Ok((used, AMQPMethod::Close(method)))
+        }
+        41 => {
+            let (used, method) = parse_close_ok(alloc, i)?;
+            Ok((used, AMQPMethod::CloseOk(method)))
+        }
+        _ => Err(ParserError::UnknownMethod),
+    }
+}
+
+/// Reads a method id and the slots of that method.
+#[tactic(auto, using(amqp_types::proofs::Judged::refuses_next), unfolding(amqp_types::specs::Rows::rows_of, amqp_types::specs::Methods::judge_in_class))]
+pub fn parse_channel(alloc: Global, i: &[u8]) -> Result<(usize, AMQPMethod), ParserError>
+    ensures { Parses method_of result i.now (judge_in_class 20) }
+{
+    let (n, id) = parse_id(i)?;
+    let (used, method) = parse_method(alloc, id, &i[n..])?;
+    Ok((n + used, method))
+}
+
+/// The size of the class id, the method id and the slots.
+#[tactic(auto)]
+pub fn size_channel(method: &AMQPMethod) -> Result<u64, GenError>
+    ensures { Measures result (payload_size (method_of method.now)) }
+{
+    match method {
+        AMQPMethod::Open(method) => size_fields(&open_fields(method)),
+        AMQPMethod::OpenOk(method) => size_fields(&open_ok_fields(method)),
+        AMQPMethod::Flow(method) => size_fields(&flow_fields(method)),
+        AMQPMethod::FlowOk(method) => size_fields(&flow_ok_fields(method)),
+        AMQPMethod::Close(method) => size_fields(&close_fields(method)),
+        AMQPMethod::CloseOk(method) => size_fields(&close_ok_fields(method)),
+    }
+}
+
+/// Puts the class id, the method id and the slots at a place of a slice, and answers the place behind.
+#[tactic(auto)]
+pub fn put_channel(buf: &mut [u8], at: usize, method: &AMQPMethod) -> usize
+    requires { HasRoom buf.old at (payload_size (method_of method.now)) (payload_bytes (method_of method.now)) }
+    ensures { Puts buf.old buf.new at (payload_bytes (method_of method.now)) result }
+{
+    match method {
+        AMQPMethod::Open(method) => put_fields(buf, at, &open_fields(method)),
+        AMQPMethod::OpenOk(method) => put_fields(buf, at, &open_ok_fields(method)),
+        AMQPMethod::Flow(method) => put_fields(buf, at, &flow_fields(method)),
+        AMQPMethod::FlowOk(method) => put_fields(buf, at, &flow_ok_fields(method)),
+        AMQPMethod::Close(method) => put_fields(buf, at, &close_fields(method)),
+        AMQPMethod::CloseOk(method) => put_fields(buf, at, &close_ok_fields(method)),
+    }
+}
+
+/// Appends the class id, the method id and the slots to a vector.
+#[tactic(auto)]
+pub fn gen_channel(_alloc: Global, out: &mut Vec<u8>, method: &AMQPMethod) -> Result<(), GenError>
+    ensures { Appends out.old.items out.new.items (payload_size (method_of method.now)) (payload_bytes (method_of method.now)) result }
+{
+    match method {
+        AMQPMethod::Open(method) => gen_fields(out, &open_fields(method)),
+        AMQPMethod::OpenOk(method) => gen_fields(out, &open_ok_fields(method)),
+        AMQPMethod::Flow(method) => gen_fields(out, &flow_fields(method)),
+        AMQPMethod::FlowOk(method) => gen_fields(out, &flow_ok_fields(method)),
+        AMQPMethod::Close(method) => gen_fields(out, &close_fields(method)),
+        AMQPMethod::CloseOk(method) => gen_fields(out, &close_ok_fields(method)),
+    }
+}

@@ -1,0 +1,248 @@
+//! The methods of the class confirm, 85.
+#![tactic(auto, using(amqp_types::proofs::Judged::refuses_next), unfolding(amqp_types::specs::Rows::rows_of, amqp_types::specs::Rows::slots_at, amqp_types::specs::SlotJudging::judge_slots, amqp_types::specs::Methods::judge_method, amqp_values::specs::Fields::field_bytes, amqp_values::specs::Fields::is_deep_field, amqp_values::specs::Fields::is_long_field, amqp_values::specs::Fields::fields_bytes, amqp_values::specs::Fields::any_deep_field, amqp_values::specs::Fields::any_long_field, amqp_values::specs::Fields::fields_size, amqp_types::specs::SlotBytes::form_bytes, amqp_types::specs::SlotBytes::slots_bytes, amqp_types::specs::SlotBytes::items_size, amqp_types::specs::Methods::method_bytes, amqp_types::specs::Methods::method_size, amqp_types::specs::Methods::payload_bytes, amqp_types::specs::Methods::payload_size))]
+
+ghost use Rattle.std.specs.Prelude.{◌≡◌, IfOk};
+ghost use Rattle.amqp_types.specs.Calls.{Parses, NeedsNoMemory, Measures, HasRoom};
+ghost use Rattle.amqp_types.specs.Writing.{Puts, Appends};
+ghost use Rattle.amqp_types.specs.Methods.{judge_method, judge_in_class, method_bytes, method_size, payload_bytes, payload_size};
+ghost use Rattle.amqp_values.specs.MethodFields.{ListsMethod};
+ghost use Rattle.amqp_channel.specs.Confirm.{select_method, select_ok_method, method_of};
+
+use amqp_values::{
+    Boolean, Field, GenError, Identifier, NoMemory, ParserError, SlotReader, byte_of_flags,
+    flag_of_byte, gen_fields, parse_id, put_fields, size_fields,
+};
+use std::alloc::Global;
+
+/// The client asks for confirms of what it publishes on the channel.
+#[derive(Clone, Default, Debug, Drop, PartialEq)]
+pub struct Select {
+    pub nowait: Boolean,
+}
+
+impl Select {
+    /// The id of the class.
+    pub fn get_amqp_class_id(&self) -> Identifier
+        ensures { result ≡ 85 }
+    {
+        85
+    }
+
+    /// The id of the method in its class.
+    pub fn get_amqp_method_id(&self) -> Identifier
+        ensures { result ≡ 10 }
+    {
+        10
+    }
+}
+
+/// Reads the slots of `Select`.
+pub fn parse_select(_alloc: Global, i: &[u8]) -> Result<(usize, Select), ParserError>
+    ensures parsed { Parses select_method result i.now (judge_method 85 10) }
+    ensures memory { NeedsNoMemory result }
+{
+    let mut slots = SlotReader::new(i);
+    let flags = slots.flags::<1>()?;
+    let method = Select {
+        nowait: flag_of_byte(flags, 0),
+    };
+    Ok((i.len() - slots.rest.len(), method))
+}
+
+/// Its ids and slots, in order.
+fn select_fields(method: &Select) -> [Field<'_>; 3]
+    ensures { ListsMethod result (select_method method.now) }
+{
+    [
+        Field::ShortUInt(85),
+        Field::ShortUInt(10),
+        Field::Flags(byte_of_flags(&[method.nowait])),
+    ]
+}
+
+/// The size of the method id and the slots of `Select`.
+#[tactic(auto)]
+pub fn size_select(method: &Select) -> Result<u64, GenError>
+    ensures { Measures result (method_size (select_method method.now)) }
+{
+    size_fields(&select_fields(method)[1..])
+}
+
+/// Puts the method id and the slots of `Select` at a place of a slice, and answers the place behind.
+#[tactic(auto)]
+pub fn put_select(buf: &mut [u8], at: usize, method: &Select) -> usize
+    requires { HasRoom buf.old at (method_size (select_method method.now)) (method_bytes (select_method method.now)) }
+    ensures { Puts buf.old buf.new at (method_bytes (select_method method.now)) result }
+{
+    put_fields(buf, at, &select_fields(method)[1..])
+}
+
+/// Appends the method id and the slots of `Select` to a vector.
+#[tactic(auto)]
+pub fn gen_select(_alloc: Global, out: &mut Vec<u8>, method: &Select) -> Result<(), GenError>
+    ensures { Appends out.old.items out.new.items (method_size (select_method method.now)) (method_bytes (select_method method.now)) result }
+{
+    gen_fields(out, &select_fields(method)[1..])
+}
+
+/// The channel confirms what is published.
+#[derive(Clone, Default, Debug, Drop, PartialEq)]
+pub struct SelectOk {}
+
+impl SelectOk {
+    /// The id of the class.
+    pub fn get_amqp_class_id(&self) -> Identifier
+        ensures { result ≡ 85 }
+    {
+        85
+    }
+
+    /// The id of the method in its class.
+    pub fn get_amqp_method_id(&self) -> Identifier
+        ensures { result ≡ 11 }
+    {
+        11
+    }
+}
+
+/// Reads the slots of `SelectOk`.
+pub fn parse_select_ok(_alloc: Global, i: &[u8]) -> Result<(usize, SelectOk), ParserError>
+    ensures parsed { Parses select_ok_method result i.now (judge_method 85 11) }
+    ensures memory { NeedsNoMemory result }
+{
+    let slots = SlotReader::new(i);
+    Ok((i.len() - slots.rest.len(), SelectOk {}))
+}
+
+/// Its ids and slots, in order.
+fn select_ok_fields(_method: &SelectOk) -> [Field<'_>; 2]
+    ensures { ListsMethod result (select_ok_method _method.now) }
+{
+    [Field::ShortUInt(85), Field::ShortUInt(11)]
+}
+
+/// The size of the method id and the slots of `SelectOk`.
+#[tactic(auto)]
+pub fn size_select_ok(method: &SelectOk) -> Result<u64, GenError>
+    ensures { Measures result (method_size (select_ok_method method.now)) }
+{
+    size_fields(&select_ok_fields(method)[1..])
+}
+
+/// Puts the method id and the slots of `SelectOk` at a place of a slice, and answers the place behind.
+#[tactic(auto)]
+pub fn put_select_ok(buf: &mut [u8], at: usize, method: &SelectOk) -> usize
+    requires { HasRoom buf.old at (method_size (select_ok_method method.now)) (method_bytes (select_ok_method method.now)) }
+    ensures { Puts buf.old buf.new at (method_bytes (select_ok_method method.now)) result }
+{
+    put_fields(buf, at, &select_ok_fields(method)[1..])
+}
+
+/// Appends the method id and the slots of `SelectOk` to a vector.
+#[tactic(auto)]
+pub fn gen_select_ok(_alloc: Global, out: &mut Vec<u8>, method: &SelectOk) -> Result<(), GenError>
+    ensures { Appends out.old.items out.new.items (method_size (select_ok_method method.now)) (method_bytes (select_ok_method method.now)) result }
+{
+    gen_fields(out, &select_ok_fields(method)[1..])
+}
+
+/// A method of the class.
+#[derive(Debug, Drop, PartialEq)]
+pub enum AMQPMethod {
+    /// The client asks for confirms of what it publishes on the channel.
+    Select(Select),
+
+    /// The channel confirms what is published.
+    SelectOk(SelectOk),
+}
+
+impl AMQPMethod {
+    /// The id of the class.
+    pub fn get_amqp_class_id(&self) -> Identifier
+        ensures { result ≡ 85 }
+    {
+        85
+    }
+
+    /// The id of the method in its class.
+    pub fn get_amqp_method_id(&self) -> Identifier
+        ensures { result ≡ (method_of self.now).id }
+    {
+        match self {
+            AMQPMethod::Select(_) => 10,
+            AMQPMethod::SelectOk(_) => 11,
+        }
+    }
+
+    /// An equal method of its own.
+    pub fn copy(&self, _alloc: Global) -> Result<AMQPMethod, NoMemory>
+        ensures { IfOk result (λ copied. copied ≡ self.now) }
+    {
+        match self {
+            AMQPMethod::Select(method) => Ok(AMQPMethod::Select(method.clone()?)),
+            AMQPMethod::SelectOk(method) => Ok(AMQPMethod::SelectOk(method.clone()?)),
+        }
+    }
+}
+
+/// Reads the slots of the method with this id.
+#[tactic(auto, using(amqp_types::proofs::Judged::refuses_next), unfolding(amqp_types::specs::Rows::rows_of, amqp_types::specs::Rows::slots_at, amqp_types::specs::Methods::judge_method))]
+fn parse_method(alloc: Global, id: Identifier, i: &[u8]) -> Result<(usize, AMQPMethod), ParserError>
+    ensures { Parses method_of result i.now (judge_method 85 id) }
+{
+    match id {
+        10 => {
+            let (used, method) = parse_select(alloc, i)?;
+            Ok((used, AMQPMethod::Select(method)))
+        }
+        11 => {
+            let (used, method) = parse_select_ok(alloc, i)?;
+            Ok((used, AMQPMethod::SelectOk(method)))
+        }
+        _ => Err(ParserError::UnknownMethod),
+    }
+}
+
+/// Reads a method id and the slots of that method.
+#[tactic(auto, using(amqp_types::proofs::Judged::refuses_next), unfolding(amqp_types::specs::Rows::rows_of, amqp_types::specs::Methods::judge_in_class))]
+pub fn parse_confirm(alloc: Global, i: &[u8]) -> Result<(usize, AMQPMethod), ParserError>
+    ensures { Parses method_of result i.now (judge_in_class 85) }
+{
+    let (n, id) = parse_id(i)?;
+    let (used, method) = parse_method(alloc, id, &i[n..])?;
+    Ok((n + used, method))
+}
+
+/// The size of the class id, the method id and the slots.
+#[tactic(auto)]
+pub fn size_confirm(method: &AMQPMethod) -> Result<u64, GenError>
+    ensures { Measures result (payload_size (method_of method.now)) }
+{
+    match method {
+        AMQPMethod::Select(method) => size_fields(&select_fields(method)),
+        AMQPMethod::SelectOk(method) => size_fields(&select_ok_fields(method)),
+    }
+}
+
+/// Puts the class id, the method id and the slots at a place of a slice, and answers the place behind.
+#[tactic(auto)]
+pub fn put_confirm(buf: &mut [u8], at: usize, method: &AMQPMethod) -> usize
+    requires { HasRoom buf.old at (payload_size (method_of method.now)) (payload_bytes (method_of method.now)) }
+    ensures { Puts buf.old buf.new at (payload_bytes (method_of method.now)) result }
+{
+    match method {
+        AMQPMethod::Select(method) => put_fields(buf, at, &select_fields(method)),
+        AMQPMethod::SelectOk(method) => put_fields(buf, at, &select_ok_fields(method)),
+    }
+}
+
+/// Appends the class id, the method id and the slots to a vector.
+#[tactic(auto)]
+pub fn gen_confirm(_alloc: Global, out: &mut Vec<u8>, method: &AMQPMethod) -> Result<(), GenError>
+    ensures { Appends out.old.items out.new.items (payload_size (method_of method.now)) (payload_bytes (method_of method.now)) result }
+{
+    match method {
+        AMQPMethod::Select(method) => gen_fields(out, &select_fields(method)),
+        AMQPMethod::SelectOk(method) => gen_fields(out, &select_ok_fields(method)),
+    }
+}

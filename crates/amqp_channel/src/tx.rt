@@ -1,0 +1,534 @@
+//! The methods of the class tx, 90.
+#![tactic(auto, using(amqp_types::proofs::Judged::refuses_next), unfolding(amqp_types::specs::Rows::rows_of, amqp_types::specs::Rows::slots_at, amqp_types::specs::SlotJudging::judge_slots, amqp_types::specs::Methods::judge_method, amqp_values::specs::Fields::field_bytes, amqp_values::specs::Fields::is_deep_field, amqp_values::specs::Fields::is_long_field, amqp_values::specs::Fields::fields_bytes, amqp_values::specs::Fields::any_deep_field, amqp_values::specs::Fields::any_long_field, amqp_values::specs::Fields::fields_size, amqp_types::specs::SlotBytes::form_bytes, amqp_types::specs::SlotBytes::slots_bytes, amqp_types::specs::SlotBytes::items_size, amqp_types::specs::Methods::method_bytes, amqp_types::specs::Methods::method_size, amqp_types::specs::Methods::payload_bytes, amqp_types::specs::Methods::payload_size))]
+
+ghost use Rattle.std.specs.Prelude.{◌≡◌, IfOk};
+ghost use Rattle.amqp_types.specs.Calls.{Parses, NeedsNoMemory, Measures, HasRoom};
+ghost use Rattle.amqp_types.specs.Writing.{Puts, Appends};
+ghost use Rattle.amqp_types.specs.Methods.{judge_method, judge_in_class, method_bytes, method_size, payload_bytes, payload_size};
+ghost use Rattle.amqp_values.specs.MethodFields.{ListsMethod};
+ghost use Rattle.amqp_channel.specs.Tx.{select_method, select_ok_method, commit_method, commit_ok_method, rollback_method, rollback_ok_method, method_of};
+
+use amqp_values::{
+    Field, GenError, Identifier, NoMemory, ParserError, SlotReader, gen_fields, parse_id,
+    put_fields, size_fields,
+};
+use std::alloc::Global;
+
+/// The client asks for transactions on the channel.
+#[derive(Clone, Default, Debug, Drop, PartialEq)]
+pub struct Select {}
+
+impl Select {
+    /// The id of the class.
+    pub fn get_amqp_class_id(&self) -> Identifier
+        ensures { result ≡ 90 }
+    {
+        90
+    }
+
+    /// The id of the method in its class.
+    pub fn get_amqp_method_id(&self) -> Identifier
+        ensures { result ≡ 10 }
+    {
+        10
+    }
+}
+
+/// Reads the slots of `Select`.
+pub fn parse_select(_alloc: Global, i: &[u8]) -> Result<(usize, Select), ParserError>
+    ensures parsed { Parses select_method result i.now (judge_method 90 10) }
+    ensures memory { NeedsNoMemory result }
+{
+    let slots = SlotReader::new(i);
+    Ok((i.len() - slots.rest.len(), Select {}))
+}
+
+/// Its ids and slots, in order.
+fn select_fields(_method: &Select) -> [Field<'_>; 2]
+    ensures { ListsMethod result (select_method _method.now) }
+{
+    [Field::ShortUInt(90), Field::ShortUInt(10)]
+}
+
+/// The size of the method id and the slots of `Select`.
+#[tactic(auto)]
+pub fn size_select(method: &Select) -> Result<u64, GenError>
+    ensures { Measures result (method_size (select_method method.now)) }
+{
+    size_fields(&select_fields(method)[1..])
+}
+
+/// Puts the method id and the slots of `Select` at a place of a slice, and answers the place behind.
+#[tactic(auto)]
+pub fn put_select(buf: &mut [u8], at: usize, method: &Select) -> usize
+    requires { HasRoom buf.old at (method_size (select_method method.now)) (method_bytes (select_method method.now)) }
+    ensures { Puts buf.old buf.new at (method_bytes (select_method method.now)) result }
+{
+    put_fields(buf, at, &select_fields(method)[1..])
+}
+
+/// Appends the method id and the slots of `Select` to a vector.
+#[tactic(auto)]
+pub fn gen_select(_alloc: Global, out: &mut Vec<u8>, method: &Select) -> Result<(), GenError>
+    ensures { Appends out.old.items out.new.items (method_size (select_method method.now)) (method_bytes (select_method method.now)) result }
+{
+    gen_fields(out, &select_fields(method)[1..])
+}
+
+/// The channel has transactions.
+#[derive(Clone, Default, Debug, Drop, PartialEq)]
+pub struct SelectOk {}
+
+impl SelectOk {
+    /// The id of the class.
+    pub fn get_amqp_class_id(&self) -> Identifier
+        ensures { result ≡ 90 }
+    {
+        90
+    }
+
+    /// The id of the method in its class.
+    pub fn get_amqp_method_id(&self) -> Identifier
+        ensures { result ≡ 11 }
+    {
+        11
+    }
+}
+
+/// Reads the slots of `SelectOk`.
+pub fn parse_select_ok(_alloc: Global, i: &[u8]) -> Result<(usize, SelectOk), ParserError>
+    ensures parsed { Parses select_ok_method result i.now (judge_method 90 11) }
+    ensures memory { NeedsNoMemory result }
+{
+    let slots = SlotReader::new(i);
+    Ok((i.len() - slots.rest.len(), SelectOk {}))
+}
+
+/// Its ids and slots, in order.
+fn select_ok_fields(_method: &SelectOk) -> [Field<'_>; 2]
+    ensures { ListsMethod result (select_ok_method _method.now) }
+{
+    [Field::ShortUInt(90), Field::ShortUInt(11)]
+}
+
+/// The size of the method id and the slots of `SelectOk`.
+#[tactic(auto)]
+pub fn size_select_ok(method: &SelectOk) -> Result<u64, GenError>
+    ensures { Measures result (method_size (select_ok_method method.now)) }
+{
+    size_fields(&select_ok_fields(method)[1..])
+}
+
+/// Puts the method id and the slots of `SelectOk` at a place of a slice, and answers the place behind.
+#[tactic(auto)]
+pub fn put_select_ok(buf: &mut [u8], at: usize, method: &SelectOk) -> usize
+    requires { HasRoom buf.old at (method_size (select_ok_method method.now)) (method_bytes (select_ok_method method.now)) }
+    ensures { Puts buf.old buf.new at (method_bytes (select_ok_method method.now)) result }
+{
+    put_fields(buf, at, &select_ok_fields(method)[1..])
+}
+
+/// Appends the method id and the slots of `SelectOk` to a vector.
+#[tactic(auto)]
+pub fn gen_select_ok(_alloc: Global, out: &mut Vec<u8>, method: &SelectOk) -> Result<(), GenError>
+    ensures { Appends out.old.items out.new.items (method_size (select_ok_method method.now)) (method_bytes (select_ok_method method.now)) result }
+{
+    gen_fields(out, &select_ok_fields(method)[1..])
+}
+
+/// The client commits the transaction.
+#[derive(Clone, Default, Debug, Drop, PartialEq)]
+pub struct Commit {}
+
+impl Commit {
+    /// The id of the class.
+    pub fn get_amqp_class_id(&self) -> Identifier
+        ensures { result ≡ 90 }
+    {
+        90
+    }
+
+    /// The id of the method in its class.
+    pub fn get_amqp_method_id(&self) -> Identifier
+        ensures { result ≡ 20 }
+    {
+        20
+    }
+}
+
+/// Reads the slots of `Commit`.
+pub fn parse_commit(_alloc: Global, i: &[u8]) -> Result<(usize, Commit), ParserError>
+    ensures parsed { Parses commit_method result i.now (judge_method 90 20) }
+    ensures memory { NeedsNoMemory result }
+{
+    let slots = SlotReader::new(i);
+    Ok((i.len() - slots.rest.len(), Commit {}))
+}
+
+/// Its ids and slots, in order.
+fn commit_fields(_method: &Commit) -> [Field<'_>; 2]
+    ensures { ListsMethod result (commit_method _method.now) }
+{
+    [Field::ShortUInt(90), Field::ShortUInt(20)]
+}
+
+/// The size of the method id and the slots of `Commit`.
+#[tactic(auto)]
+pub fn size_commit(method: &Commit) -> Result<u64, GenError>
+    ensures { Measures result (method_size (commit_method method.now)) }
+{
+    size_fields(&commit_fields(method)[1..])
+}
+
+/// Puts the method id and the slots of `Commit` at a place of a slice, and answers the place behind.
+#[tactic(auto)]
+pub fn put_commit(buf: &mut [u8], at: usize, method: &Commit) -> usize
+    requires { HasRoom buf.old at (method_size (commit_method method.now)) (method_bytes (commit_method method.now)) }
+    ensures { Puts buf.old buf.new at (method_bytes (commit_method method.now)) result }
+{
+    put_fields(buf, at, &commit_fields(method)[1..])
+}
+
+/// Appends the method id and the slots of `Commit` to a vector.
+#[tactic(auto)]
+pub fn gen_commit(_alloc: Global, out: &mut Vec<u8>, method: &Commit) -> Result<(), GenError>
+    ensures { Appends out.old.items out.new.items (method_size (commit_method method.now)) (method_bytes (commit_method method.now)) result }
+{
+    gen_fields(out, &commit_fields(method)[1..])
+}
+
+/// The transaction is committed.
+#[derive(Clone, Default, Debug, Drop, PartialEq)]
+pub struct CommitOk {}
+
+impl CommitOk {
+    /// The id of the class.
+    pub fn get_amqp_class_id(&self) -> Identifier
+        ensures { result ≡ 90 }
+    {
+        90
+    }
+
+    /// The id of the method in its class.
+    pub fn get_amqp_method_id(&self) -> Identifier
+        ensures { result ≡ 21 }
+    {
+        21
+    }
+}
+
+/// Reads the slots of `CommitOk`.
+pub fn parse_commit_ok(_alloc: Global, i: &[u8]) -> Result<(usize, CommitOk), ParserError>
+    ensures parsed { Parses commit_ok_method result i.now (judge_method 90 21) }
+    ensures memory { NeedsNoMemory result }
+{
+    let slots = SlotReader::new(i);
+    Ok((i.len() - slots.rest.len(), CommitOk {}))
+}
+
+/// Its ids and slots, in order.
+fn commit_ok_fields(_method: &CommitOk) -> [Field<'_>; 2]
+    ensures { ListsMethod result (commit_ok_method _method.now) }
+{
+    [Field::ShortUInt(90), Field::ShortUInt(21)]
+}
+
+/// The size of the method id and the slots of `CommitOk`.
+#[tactic(auto)]
+pub fn size_commit_ok(method: &CommitOk) -> Result<u64, GenError>
+    ensures { Measures result (method_size (commit_ok_method method.now)) }
+{
+    size_fields(&commit_ok_fields(method)[1..])
+}
+
+/// Puts the method id and the slots of `CommitOk` at a place of a slice, and answers the place behind.
+#[tactic(auto)]
+pub fn put_commit_ok(buf: &mut [u8], at: usize, method: &CommitOk) -> usize
+    requires { HasRoom buf.old at (method_size (commit_ok_method method.now)) (method_bytes (commit_ok_method method.now)) }
+    ensures { Puts buf.old buf.new at (method_bytes (commit_ok_method method.now)) result }
+{
+    put_fields(buf, at, &commit_ok_fields(method)[1..])
+}
+
+/// Appends the method id and the slots of `CommitOk` to a vector.
+#[tactic(auto)]
+pub fn gen_commit_ok(_alloc: Global, out: &mut Vec<u8>, method: &CommitOk) -> Result<(), GenError>
+    ensures { Appends out.old.items out.new.items (method_size (commit_ok_method method.now)) (method_bytes (commit_ok_method method.now)) result }
+{
+    gen_fields(out, &commit_ok_fields(method)[1..])
+}
+
+/// The client abandons the transaction.
+#[derive(Clone, Default, Debug, Drop, PartialEq)]
+pub struct Rollback {}
+
+impl Rollback {
+    /// The id of the class.
+    pub fn get_amqp_class_id(&self) -> Identifier
+        ensures { result ≡ 90 }
+    {
+        90
+    }
+
+    /// The id of the method in its class.
+    pub fn get_amqp_method_id(&self) -> Identifier
+        ensures { result ≡ 30 }
+    {
+        30
+    }
+}
+
+/// Reads the slots of `Rollback`.
+pub fn parse_rollback(_alloc: Global, i: &[u8]) -> Result<(usize, Rollback), ParserError>
+    ensures parsed { Parses rollback_method result i.now (judge_method 90 30) }
+    ensures memory { NeedsNoMemory result }
+{
+    let slots = SlotReader::new(i);
+    Ok((i.len() - slots.rest.len(), Rollback {}))
+}
+
+/// Its ids and slots, in order.
+fn rollback_fields(_method: &Rollback) -> [Field<'_>; 2]
+    ensures { ListsMethod result (rollback_method _method.now) }
+{
+    [Field::ShortUInt(90), Field::ShortUInt(30)]
+}
+
+/// The size of the method id and the slots of `Rollback`.
+#[tactic(auto)]
+pub fn size_rollback(method: &Rollback) -> Result<u64, GenError>
+    ensures { Measures result (method_size (rollback_method method.now)) }
+{
+    size_fields(&rollback_fields(method)[1..])
+}
+
+/// Puts the method id and the slots of `Rollback` at a place of a slice, and answers the place behind.
+#[tactic(auto)]
+pub fn put_rollback(buf: &mut [u8], at: usize, method: &Rollback) -> usize
+    requires { HasRoom buf.old at (method_size (rollback_method method.now)) (method_bytes (rollback_method method.now)) }
+    ensures { Puts buf.old buf.new at (method_bytes (rollback_method method.now)) result }
+{
+    put_fields(buf, at, &rollback_fields(method)[1..])
+}
+
+/// Appends the method id and the slots of `Rollback` to a vector.
+#[tactic(auto)]
+pub fn gen_rollback(_alloc: Global, out: &mut Vec<u8>, method: &Rollback) -> Result<(), GenError>
+    ensures { Appends out.old.items out.new.items (method_size (rollback_method method.now)) (method_bytes (rollback_method method.now)) result }
+{
+    gen_fields(out, &rollback_fields(method)[1..])
+}
+
+/// The transaction is abandoned.
+#[derive(Clone, Default, Debug, Drop, PartialEq)]
+pub struct RollbackOk {}
+
+impl RollbackOk {
+    /// The id of the class.
+    pub fn get_amqp_class_id(&self) -> Identifier
+        ensures { result ≡ 90 }
+    {
+        90
+    }
+
+    /// The id of the method in its class.
+    pub fn get_amqp_method_id(&self) -> Identifier
+        ensures { result ≡ 31 }
+    {
+        31
+    }
+}
+
+/// Reads the slots of `RollbackOk`.
+pub fn parse_rollback_ok(_alloc: Global, i: &[u8]) -> Result<(usize, RollbackOk), ParserError>
+    ensures parsed { Parses rollback_ok_method result i.now (judge_method 90 31) }
+    ensures memory { NeedsNoMemory result }
+{
+    let slots = SlotReader::new(i);
+    Ok((i.len() - slots.rest.len(), RollbackOk {}))
+}
+
+/// Its ids and slots, in order.
+fn rollback_ok_fields(_method: &RollbackOk) -> [Field<'_>; 2]
+    ensures { ListsMethod result (rollback_ok_method _method.now) }
+{
+    [Field::ShortUInt(90), Field::ShortUInt(31)]
+}
+
+/// The size of the method id and the slots of `RollbackOk`.
+#[tactic(auto)]
+pub fn size_rollback_ok(method: &RollbackOk) -> Result<u64, GenError>
+    ensures { Measures result (method_size (rollback_ok_method method.now)) }
+{
+    size_fields(&rollback_ok_fields(method)[1..])
+}
+
+/// Puts the method id and the slots of `RollbackOk` at a place of a slice, and answers the place behind.
+#[tactic(auto)]
+pub fn put_rollback_ok(buf: &mut [u8], at: usize, method: &RollbackOk) -> usize
+    requires { HasRoom buf.old at (method_size (rollback_ok_method method.now)) (method_bytes (rollback_ok_method method.now)) }
+    ensures { Puts buf.old buf.new at (method_bytes (rollback_ok_method method.now)) result }
+{
+    put_fields(buf, at, &rollback_ok_fields(method)[1..])
+}
+
+/// Appends the method id and the slots of `RollbackOk` to a vector.
+#[tactic(auto)]
+pub fn gen_rollback_ok(
+    _alloc: Global,
+    out: &mut Vec<u8>,
+    method: &RollbackOk,
+) -> Result<(), GenError>
+    ensures { Appends out.old.items out.new.items (method_size (rollback_ok_method method.now)) (method_bytes (rollback_ok_method method.now)) result }
+{
+    gen_fields(out, &rollback_ok_fields(method)[1..])
+}
+
+/// A method of the class.
+#[derive(Debug, Drop, PartialEq)]
+pub enum AMQPMethod {
+    /// The client asks for transactions on the channel.
+    Select(Select),
+
+    /// The channel has transactions.
+    SelectOk(SelectOk),
+
+    /// The client commits the transaction.
+    Commit(Commit),
+
+    /// The transaction is committed.
+    CommitOk(CommitOk),
+
+    /// The client abandons the transaction.
+    Rollback(Rollback),
+
+    /// The transaction is abandoned.
+    RollbackOk(RollbackOk),
+}
+
+impl AMQPMethod {
+    /// The id of the class.
+    pub fn get_amqp_class_id(&self) -> Identifier
+        ensures { result ≡ 90 }
+    {
+        90
+    }
+
+    /// The id of the method in its class.
+    pub fn get_amqp_method_id(&self) -> Identifier
+        ensures { result ≡ (method_of self.now).id }
+    {
+        match self {
+            AMQPMethod::Select(_) => 10,
+            AMQPMethod::SelectOk(_) => 11,
+            AMQPMethod::Commit(_) => 20,
+            AMQPMethod::CommitOk(_) => 21,
+            AMQPMethod::Rollback(_) => 30,
+            AMQPMethod::RollbackOk(_) => 31,
+        }
+    }
+
+    /// An equal method of its own.
+    pub fn copy(&self, _alloc: Global) -> Result<AMQPMethod, NoMemory>
+        ensures { IfOk result (λ copied. copied ≡ self.now) }
+    {
+        match self {
+            AMQPMethod::Select(method) => Ok(AMQPMethod::Select(method.clone()?)),
+            AMQPMethod::SelectOk(method) => Ok(AMQPMethod::SelectOk(method.clone()?)),
+            AMQPMethod::Commit(method) => Ok(AMQPMethod::Commit(method.clone()?)),
+            AMQPMethod::CommitOk(method) => Ok(AMQPMethod::CommitOk(method.clone()?)),
+            AMQPMethod::Rollback(method) => Ok(AMQPMethod::Rollback(method.clone()?)),
+            AMQPMethod::RollbackOk(method) => Ok(AMQPMethod::RollbackOk(method.clone()?)),
+        }
+    }
+}
+
+/// Reads the slots of the method with this id.
+#[tactic(auto, using(amqp_types::proofs::Judged::refuses_next), unfolding(amqp_types::specs::Rows::rows_of, amqp_types::specs::Rows::slots_at, amqp_types::specs::Methods::judge_method))]
+fn parse_method(alloc: Global, id: Identifier, i: &[u8]) -> Result<(usize, AMQPMethod), ParserError>
+    ensures { Parses method_of result i.now (judge_method 90 id) }
+{
+    match id {
+        10 => {
+            let (used, method) = parse_select(alloc, i)?;
+            Ok((used, AMQPMethod::Select(method)))
+        }
+        11 => {
+            let (used, method) = parse_select_ok(alloc, i)?;
+            Ok((used, AMQPMethod::SelectOk(method)))
+        }
+        20 => {
+            let (used, method) = parse_commit(alloc, i)?;
+            Ok((used, AMQPMethod::Commit(method)))
+        }
+        21 => {
+            let (used, method) = parse_commit_ok(alloc, i)?;
+            Ok((used, AMQPMethod::CommitOk(method)))
+        }
+        30 => {
+            let (used, method) = parse_rollback(alloc, i)?;
+            Ok((used, AMQPMethod::Rollback(method)))
+        }
+        31 => {
+            let (used, method) = parse_rollback_ok(alloc, i)?;
+            Ok((used, AMQPMethod::RollbackOk(method)))
+        }
+        _ => Err(ParserError::UnknownMethod),
+    }
+}
+
+/// Reads a method id and the slots of that method.
+#[tactic(auto, using(amqp_types::proofs::Judged::refuses_next), unfolding(amqp_types::specs::Rows::rows_of, amqp_types::specs::Methods::judge_in_class))]
+pub fn parse_tx(alloc: Global, i: &[u8]) -> Result<(usize, AMQPMethod), ParserError>
+    ensures { Parses method_of result i.now (judge_in_class 90) }
+{
+    let (n, id) = parse_id(i)?;
+    let (used, method) = parse_method(alloc, id, &i[n..])?;
+    Ok((n + used, method))
+}
+
+/// The size of the class id, the method id and the slots.
+#[tactic(auto)]
+pub fn size_tx(method: &AMQPMethod) -> Result<u64, GenError>
+    ensures { Measures result (payload_size (method_of method.now)) }
+{
+    match method {
+        AMQPMethod::Select(method) => size_fields(&select_fields(method)),
+        AMQPMethod::SelectOk(method) => size_fields(&select_ok_fields(method)),
+        AMQPMethod::Commit(method) => size_fields(&commit_fields(method)),
+        AMQPMethod::CommitOk(method) => size_fields(&commit_ok_fields(method)),
+        AMQPMethod::Rollback(method) => size_fields(&rollback_fields(method)),
+        AMQPMethod::RollbackOk(method) => size_fields(&rollback_ok_fields(method)),
+    }
+}
+
+/// Puts the class id, the method id and the slots at a place of a slice, and answers the place behind.
+#[tactic(auto)]
+pub fn put_tx(buf: &mut [u8], at: usize, method: &AMQPMethod) -> usize
+    requires { HasRoom buf.old at (payload_size (method_of method.now)) (payload_bytes (method_of method.now)) }
+    ensures { Puts buf.old buf.new at (payload_bytes (method_of method.now)) result }
+{
+    match method {
+        AMQPMethod::Select(method) => put_fields(buf, at, &select_fields(method)),
+        AMQPMethod::SelectOk(method) => put_fields(buf, at, &select_ok_fields(method)),
+        AMQPMethod::Commit(method) => put_fields(buf, at, &commit_fields(method)),
+        AMQPMethod::CommitOk(method) => put_fields(buf, at, &commit_ok_fields(method)),
+        AMQPMethod::Rollback(method) => put_fields(buf, at, &rollback_fields(method)),
+        AMQPMethod::RollbackOk(method) => put_fields(buf, at, &rollback_ok_fields(method)),
+    }
+}
+
+/// Appends the class id, the method id and the slots to a vector.
+#[tactic(auto)]
+pub fn gen_tx(_alloc: Global, out: &mut Vec<u8>, method: &AMQPMethod) -> Result<(), GenError>
+    ensures { Appends out.old.items out.new.items (payload_size (method_of method.now)) (payload_bytes (method_of method.now)) result }
+{
+    match method {
+        AMQPMethod::Select(method) => gen_fields(out, &select_fields(method)),
+        AMQPMethod::SelectOk(method) => gen_fields(out, &select_ok_fields(method)),
+        AMQPMethod::Commit(method) => gen_fields(out, &commit_fields(method)),
+        AMQPMethod::CommitOk(method) => gen_fields(out, &commit_ok_fields(method)),
+        AMQPMethod::Rollback(method) => gen_fields(out, &rollback_fields(method)),
+        AMQPMethod::RollbackOk(method) => gen_fields(out, &rollback_ok_fields(method)),
+    }
+}

@@ -1,0 +1,299 @@
+//! The methods of the class access, 30.
+#![tactic(auto, using(amqp_types::proofs::Judged::refuses_next), unfolding(amqp_types::specs::Rows::rows_of, amqp_types::specs::Rows::slots_at, amqp_types::specs::SlotJudging::judge_slots, amqp_types::specs::Methods::judge_method, amqp_values::specs::Fields::field_bytes, amqp_values::specs::Fields::is_deep_field, amqp_values::specs::Fields::is_long_field, amqp_values::specs::Fields::fields_bytes, amqp_values::specs::Fields::any_deep_field, amqp_values::specs::Fields::any_long_field, amqp_values::specs::Fields::fields_size, amqp_types::specs::SlotBytes::form_bytes, amqp_types::specs::SlotBytes::slots_bytes, amqp_types::specs::SlotBytes::items_size, amqp_types::specs::Methods::method_bytes, amqp_types::specs::Methods::method_size, amqp_types::specs::Methods::payload_bytes, amqp_types::specs::Methods::payload_size))]
+
+ghost use Rattle.std.specs.Prelude.{◌≡◌, ◌∷◌, [], false, IfOk};
+ghost use Rattle.amqp_types.specs.Slots.{flag_item, text_item};
+ghost use Rattle.amqp_types.specs.Calls.{Parses, NeedsNoMemory, Measures, HasRoom};
+ghost use Rattle.amqp_types.specs.Writing.{Puts, Appends};
+ghost use Rattle.amqp_types.specs.Methods.{method, judge_method, judge_in_class, method_bytes, method_size, payload_bytes, payload_size};
+ghost use Rattle.amqp_values.specs.MethodFields.{ListsMethod};
+ghost use Rattle.amqp_connection.specs.Access.{request_method, request_ok_method, method_of};
+
+use amqp_values::{
+    Boolean, Field, GenError, Identifier, NoMemory, ParserError, ShortString, SlotReader,
+    byte_of_flags, flag_of_byte, gen_fields, parse_id, put_fields, size_fields,
+};
+use std::alloc::Global;
+
+/// The client asks for access to a realm.
+#[derive(Debug, Drop, PartialEq)]
+pub struct Request {
+    pub realm: ShortString,
+    pub exclusive: Boolean,
+    pub passive: Boolean,
+    pub active: Boolean,
+    pub write: Boolean,
+    pub read: Boolean,
+}
+
+impl Request {
+    /// The id of the class.
+    pub fn get_amqp_class_id(&self) -> Identifier
+        ensures { result ≡ 30 }
+    {
+        30
+    }
+
+    /// The id of the method in its class.
+    pub fn get_amqp_method_id(&self) -> Identifier
+        ensures { result ≡ 10 }
+    {
+        10
+    }
+
+    /// The method whose fields are empty, zero and false.
+    pub fn empty(alloc: Global) -> Request
+        ensures { request_method result ≡ method 30 10 (text_item [] ∷ flag_item false ∷ flag_item false ∷ flag_item false ∷ flag_item false ∷ flag_item false ∷ []) }
+    {
+        Request {
+            realm: ShortString::empty(alloc),
+            exclusive: false,
+            passive: false,
+            active: false,
+            write: false,
+            read: false,
+        }
+    }
+
+    /// An equal method of its own.
+    pub fn copy(&self, alloc: Global) -> Result<Request, NoMemory>
+        ensures { IfOk result (λ copied. copied ≡ self.now) }
+    {
+        Ok(Request {
+            realm: self.realm.copy(alloc)?,
+            exclusive: self.exclusive,
+            passive: self.passive,
+            active: self.active,
+            write: self.write,
+            read: self.read,
+        })
+    }
+}
+
+/// Reads the slots of `Request`.
+pub fn parse_request(alloc: Global, i: &[u8]) -> Result<(usize, Request), ParserError>
+    ensures { Parses request_method result i.now (judge_method 30 10) }
+{
+    let mut slots = SlotReader::new(i);
+    let realm = slots.short_string(alloc)?;
+    let flags = slots.flags::<5>()?;
+    let method = Request {
+        realm,
+        exclusive: flag_of_byte(flags, 0),
+        passive: flag_of_byte(flags, 1),
+        active: flag_of_byte(flags, 2),
+        write: flag_of_byte(flags, 3),
+        read: flag_of_byte(flags, 4),
+    };
+    Ok((i.len() - slots.rest.len(), method))
+}
+
+/// Its ids and slots, in order.
+fn request_fields(method: &Request) -> [Field<'_>; 4]
+    ensures { ListsMethod result (request_method method.now) }
+{
+    [
+        Field::ShortUInt(30),
+        Field::ShortUInt(10),
+        Field::ShortString(&method.realm),
+        Field::Flags(byte_of_flags(&[
+            method.exclusive,
+            method.passive,
+            method.active,
+            method.write,
+            method.read,
+        ])),
+    ]
+}
+
+/// The size of the method id and the slots of `Request`.
+#[tactic(auto)]
+pub fn size_request(method: &Request) -> Result<u64, GenError>
+    ensures { Measures result (method_size (request_method method.now)) }
+{
+    size_fields(&request_fields(method)[1..])
+}
+
+/// Puts the method id and the slots of `Request` at a place of a slice, and answers the place behind.
+#[tactic(auto)]
+pub fn put_request(buf: &mut [u8], at: usize, method: &Request) -> usize
+    requires { HasRoom buf.old at (method_size (request_method method.now)) (method_bytes (request_method method.now)) }
+    ensures { Puts buf.old buf.new at (method_bytes (request_method method.now)) result }
+{
+    put_fields(buf, at, &request_fields(method)[1..])
+}
+
+/// Appends the method id and the slots of `Request` to a vector.
+#[tactic(auto)]
+pub fn gen_request(_alloc: Global, out: &mut Vec<u8>, method: &Request) -> Result<(), GenError>
+    ensures { Appends out.old.items out.new.items (method_size (request_method method.now)) (method_bytes (request_method method.now)) result }
+{
+    gen_fields(out, &request_fields(method)[1..])
+}
+
+/// The access is granted. The ticket, which is reserved, is written as 1.
+#[derive(Clone, Default, Debug, Drop, PartialEq)]
+pub struct RequestOk {}
+
+impl RequestOk {
+    /// The id of the class.
+    pub fn get_amqp_class_id(&self) -> Identifier
+        ensures { result ≡ 30 }
+    {
+        30
+    }
+
+    /// The id of the method in its class.
+    pub fn get_amqp_method_id(&self) -> Identifier
+        ensures { result ≡ 11 }
+    {
+        11
+    }
+}
+
+/// Reads the slots of `RequestOk`.
+pub fn parse_request_ok(_alloc: Global, i: &[u8]) -> Result<(usize, RequestOk), ParserError>
+    ensures parsed { Parses request_ok_method result i.now (judge_method 30 11) }
+    ensures memory { NeedsNoMemory result }
+{
+    let mut slots = SlotReader::new(i);
+    slots.skip_short_uint()?;
+    Ok((i.len() - slots.rest.len(), RequestOk {}))
+}
+
+/// Its ids and slots, in order.
+fn request_ok_fields(_method: &RequestOk) -> [Field<'_>; 3]
+    ensures { ListsMethod result (request_ok_method _method.now) }
+{
+    [
+        Field::ShortUInt(30),
+        Field::ShortUInt(11),
+        Field::ShortUInt(1), // reserved
+    ]
+}
+
+/// The size of the method id and the slots of `RequestOk`.
+#[tactic(auto)]
+pub fn size_request_ok(method: &RequestOk) -> Result<u64, GenError>
+    ensures { Measures result (method_size (request_ok_method method.now)) }
+{
+    size_fields(&request_ok_fields(method)[1..])
+}
+
+/// Puts the method id and the slots of `RequestOk` at a place of a slice, and answers the place behind.
+#[tactic(auto)]
+pub fn put_request_ok(buf: &mut [u8], at: usize, method: &RequestOk) -> usize
+    requires { HasRoom buf.old at (method_size (request_ok_method method.now)) (method_bytes (request_ok_method method.now)) }
+    ensures { Puts buf.old buf.new at (method_bytes (request_ok_method method.now)) result }
+{
+    put_fields(buf, at, &request_ok_fields(method)[1..])
+}
+
+/// Appends the method id and the slots of `RequestOk` to a vector.
+#[tactic(auto)]
+pub fn gen_request_ok(_alloc: Global, out: &mut Vec<u8>, method: &RequestOk) -> Result<(), GenError>
+    ensures { Appends out.old.items out.new.items (method_size (request_ok_method method.now)) (method_bytes (request_ok_method method.now)) result }
+{
+    gen_fields(out, &request_ok_fields(method)[1..])
+}
+
+/// A method of the class.
+#[derive(Debug, Drop, PartialEq)]
+pub enum AMQPMethod {
+    /// The client asks for access to a realm.
+    Request(Request),
+
+    /// The access is granted. The ticket, which is reserved, is written as 1.
+    RequestOk(RequestOk),
+}
+
+impl AMQPMethod {
+    /// The id of the class.
+    pub fn get_amqp_class_id(&self) -> Identifier
+        ensures { result ≡ 30 }
+    {
+        30
+    }
+
+    /// The id of the method in its class.
+    pub fn get_amqp_method_id(&self) -> Identifier
+        ensures { result ≡ (method_of self.now).id }
+    {
+        match self {
+            AMQPMethod::Request(_) => 10,
+            AMQPMethod::RequestOk(_) => 11,
+        }
+    }
+
+    /// An equal method of its own.
+    pub fn copy(&self, alloc: Global) -> Result<AMQPMethod, NoMemory>
+        ensures { IfOk result (λ copied. copied ≡ self.now) }
+    {
+        match self {
+            AMQPMethod::Request(method) => Ok(AMQPMethod::Request(method.copy(alloc)?)),
+            AMQPMethod::RequestOk(method) => Ok(AMQPMethod::RequestOk(method.clone()?)),
+        }
+    }
+}
+
+/// Reads the slots of the method with this id.
+#[tactic(auto, using(amqp_types::proofs::Judged::refuses_next), unfolding(amqp_types::specs::Rows::rows_of, amqp_types::specs::Rows::slots_at, amqp_types::specs::Methods::judge_method))]
+fn parse_method(alloc: Global, id: Identifier, i: &[u8]) -> Result<(usize, AMQPMethod), ParserError>
+    ensures { Parses method_of result i.now (judge_method 30 id) }
+{
+    match id {
+        10 => {
+            let (used, method) = parse_request(alloc, i)?;
+            Ok((used, AMQPMethod::Request(method)))
+        }
+        11 => {
+            let (used, method) = parse_request_ok(alloc, i)?;
+            Ok((used, AMQPMethod::RequestOk(method)))
+        }
+        _ => Err(ParserError::UnknownMethod),
+    }
+}
+
+/// Reads a method id and the slots of that method.
+#[tactic(auto, using(amqp_types::proofs::Judged::refuses_next), unfolding(amqp_types::specs::Rows::rows_of, amqp_types::specs::Methods::judge_in_class))]
+pub fn parse_access(alloc: Global, i: &[u8]) -> Result<(usize, AMQPMethod), ParserError>
+    ensures { Parses method_of result i.now (judge_in_class 30) }
+{
+    let (n, id) = parse_id(i)?;
+    let (used, method) = parse_method(alloc, id, &i[n..])?;
+    Ok((n + used, method))
+}
+
+/// The size of the class id, the method id and the slots.
+#[tactic(auto)]
+pub fn size_access(method: &AMQPMethod) -> Result<u64, GenError>
+    ensures { Measures result (payload_size (method_of method.now)) }
+{
+    match method {
+        AMQPMethod::Request(method) => size_fields(&request_fields(method)),
+        AMQPMethod::RequestOk(method) => size_fields(&request_ok_fields(method)),
+    }
+}
+
+/// Puts the class id, the method id and the slots at a place of a slice, and answers the place behind.
+#[tactic(auto)]
+pub fn put_access(buf: &mut [u8], at: usize, method: &AMQPMethod) -> usize
+    requires { HasRoom buf.old at (payload_size (method_of method.now)) (payload_bytes (method_of method.now)) }
+    ensures { Puts buf.old buf.new at (payload_bytes (method_of method.now)) result }
+{
+    match method {
+        AMQPMethod::Request(method) => put_fields(buf, at, &request_fields(method)),
+        AMQPMethod::RequestOk(method) => put_fields(buf, at, &request_ok_fields(method)),
+    }
+}
+
+/// Appends the class id, the method id and the slots to a vector.
+#[tactic(auto)]
+pub fn gen_access(_alloc: Global, out: &mut Vec<u8>, method: &AMQPMethod) -> Result<(), GenError>
+    ensures { Appends out.old.items out.new.items (payload_size (method_of method.now)) (payload_bytes (method_of method.now)) result }
+{
+    match method {
+        AMQPMethod::Request(method) => gen_fields(out, &request_fields(method)),
+        AMQPMethod::RequestOk(method) => gen_fields(out, &request_ok_fields(method)),
+    }
+}

@@ -1,0 +1,293 @@
+//! The methods of the class connection, 10.
+
+mod negotiating;
+mod opening;
+
+ghost use Rattle.std.specs.Prelude.{◌≡◌, IfOk};
+ghost use Rattle.amqp_types.specs.Calls.{Parses, Measures, HasRoom};
+ghost use Rattle.amqp_types.specs.Writing.{Puts, Appends};
+ghost use Rattle.amqp_types.specs.Methods.{judge_method, judge_in_class, payload_bytes, payload_size};
+ghost use Rattle.amqp_connection.specs.Connection.{method_of};
+
+use amqp_values::{
+    GenError, Identifier, NoMemory, ParserError, gen_fields, parse_id, put_fields, size_fields,
+};
+pub use negotiating::{
+    Secure, SecureOk, Start, StartOk, Tune, TuneOk, gen_secure, gen_secure_ok, gen_start,
+    gen_start_ok, gen_tune, gen_tune_ok, parse_secure, parse_secure_ok, parse_start,
+    parse_start_ok, parse_tune, parse_tune_ok, put_secure, put_secure_ok, put_start, put_start_ok,
+    put_tune, put_tune_ok, size_secure, size_secure_ok, size_start, size_start_ok, size_tune,
+    size_tune_ok,
+};
+pub use opening::{
+    Blocked, Close, CloseOk, Open, OpenOk, Unblocked, UpdateSecret, UpdateSecretOk, gen_blocked,
+    gen_close, gen_close_ok, gen_open, gen_open_ok, gen_unblocked, gen_update_secret,
+    gen_update_secret_ok, parse_blocked, parse_close, parse_close_ok, parse_open, parse_open_ok,
+    parse_unblocked, parse_update_secret, parse_update_secret_ok, put_blocked, put_close,
+    put_close_ok, put_open, put_open_ok, put_unblocked, put_update_secret, put_update_secret_ok,
+    size_blocked, size_close, size_close_ok, size_open, size_open_ok, size_unblocked,
+    size_update_secret, size_update_secret_ok,
+};
+use std::alloc::Global;
+
+/// A method of the class.
+#[derive(Debug, Drop, PartialEq)]
+pub enum AMQPMethod {
+    /// The server begins a connection, and says what it can do.
+    Start(Start),
+
+    /// The client chooses how it proves who it is.
+    StartOk(StartOk),
+
+    /// The server asks the client for more proof of who it is.
+    Secure(Secure),
+
+    /// The client answers what the server asked.
+    SecureOk(SecureOk),
+
+    /// The server proposes limits for the connection.
+    Tune(Tune),
+
+    /// The client settles the limits.
+    TuneOk(TuneOk),
+
+    /// The client opens the connection to a virtual host.
+    Open(Open),
+
+    /// The connection is open.
+    OpenOk(OpenOk),
+
+    /// A peer closes the connection, and says why.
+    Close(Close),
+
+    /// The other peer has heard that the connection is closed.
+    CloseOk(CloseOk),
+
+    /// The server takes no messages for now.
+    Blocked(Blocked),
+
+    /// The server takes messages again.
+    Unblocked(Unblocked),
+
+    /// The client renews the secret that it proved itself by.
+    UpdateSecret(UpdateSecret),
+
+    /// The new secret is taken.
+    UpdateSecretOk(UpdateSecretOk),
+}
+
+impl AMQPMethod {
+    /// The id of the class.
+    pub fn get_amqp_class_id(&self) -> Identifier
+        ensures { result ≡ 10 }
+    {
+        10
+    }
+
+    /// The id of the method in its class.
+    pub fn get_amqp_method_id(&self) -> Identifier
+        ensures { result ≡ (method_of self.now).id }
+    {
+        match self {
+            AMQPMethod::Start(_) => 10,
+            AMQPMethod::StartOk(_) => 11,
+            AMQPMethod::Secure(_) => 20,
+            AMQPMethod::SecureOk(_) => 21,
+            AMQPMethod::Tune(_) => 30,
+            AMQPMethod::TuneOk(_) => 31,
+            AMQPMethod::Open(_) => 40,
+            AMQPMethod::OpenOk(_) => 41,
+            AMQPMethod::Close(_) => 50,
+            AMQPMethod::CloseOk(_) => 51,
+            AMQPMethod::Blocked(_) => 60,
+            AMQPMethod::Unblocked(_) => 61,
+            AMQPMethod::UpdateSecret(_) => 70,
+            AMQPMethod::UpdateSecretOk(_) => 71,
+        }
+    }
+
+    /// An equal method of its own.
+    pub fn copy(&self, alloc: Global) -> Result<AMQPMethod, NoMemory>
+        ensures { IfOk result (λ copied. copied ≡ self.now) }
+    {
+        match self {
+            AMQPMethod::Start(method) => Ok(AMQPMethod::Start(method.copy(alloc)?)),
+            AMQPMethod::StartOk(method) => Ok(AMQPMethod::StartOk(method.copy(alloc)?)),
+            AMQPMethod::Secure(method) => Ok(AMQPMethod::Secure(method.copy(alloc)?)),
+            AMQPMethod::SecureOk(method) => Ok(AMQPMethod::SecureOk(method.copy(alloc)?)),
+            AMQPMethod::Tune(method) => Ok(AMQPMethod::Tune(method.clone()?)),
+            AMQPMethod::TuneOk(method) => Ok(AMQPMethod::TuneOk(method.clone()?)),
+            AMQPMethod::Open(method) => Ok(AMQPMethod::Open(method.copy(alloc)?)),
+            AMQPMethod::OpenOk(method) => Ok(AMQPMethod::OpenOk(method.clone()?)),
+            AMQPMethod::Close(method) => Ok(AMQPMethod::Close(method.copy(alloc)?)),
+            AMQPMethod::CloseOk(method) => Ok(AMQPMethod::CloseOk(method.clone()?)),
+            AMQPMethod::Blocked(method) => Ok(AMQPMethod::Blocked(method.copy(alloc)?)),
+            AMQPMethod::Unblocked(method) => Ok(AMQPMethod::Unblocked(method.clone()?)),
+            AMQPMethod::UpdateSecret(method) => Ok(AMQPMethod::UpdateSecret(method.copy(alloc)?)),
+            AMQPMethod::UpdateSecretOk(method) => Ok(AMQPMethod::UpdateSecretOk(method.clone()?)),
+        }
+    }
+}
+
+/// Reads the slots of the method with this id.
+#[tactic(auto, using(amqp_types::proofs::Judged::refuses_next), unfolding(amqp_types::specs::Rows::rows_of, amqp_types::specs::Rows::slots_at, amqp_types::specs::Methods::judge_method))]
+fn parse_method(alloc: Global, id: Identifier, i: &[u8]) -> Result<(usize, AMQPMethod), ParserError>
+    ensures { Parses method_of result i.now (judge_method 10 id) }
+{
+    match id {
+        10 => {
+            let (used, method) = parse_start(alloc, i)?;
+            Ok((used, AMQPMethod::Start(method)))
+        }
+        11 => {
+            let (used, method) = parse_start_ok(alloc, i)?;
+            Ok((used, AMQPMethod::StartOk(method)))
+        }
+        20 => {
+            let (used, method) = parse_secure(alloc, i)?;
+            Ok((used, AMQPMethod::Secure(method)))
+        }
+        21 => {
+            let (used, method) = parse_secure_ok(alloc, i)?;
+            Ok((used, AMQPMethod::SecureOk(method)))
+        }
+        30 => {
+            let (used, method) = parse_tune(alloc, i)?;
+            Ok((used, AMQPMethod::Tune(method)))
+        }
+        31 => {
+            let (used, method) = parse_tune_ok(alloc, i)?;
+            Ok((used, AMQPMethod::TuneOk(method)))
+        }
+        40 => {
+            let (used, method) = parse_open(alloc, i)?;
+            Ok((used, AMQPMethod::Open(method)))
+        }
+        41 => {
+            let (used, method) = parse_open_ok(alloc, i)?;
+            Ok((used, AMQPMethod::OpenOk(method)))
+        }
+        50 => {
+            let (used, method) = parse_close(alloc, i)?;
+            Ok((used, AMQPMethod::Close(method)))
+        }
+        51 => {
+            let (used, method) = parse_close_ok(alloc, i)?;
+            Ok((used, AMQPMethod::CloseOk(method)))
+        }
+        60 => {
+            let (used, method) = parse_blocked(alloc, i)?;
+            Ok((used, AMQPMethod::Blocked(method)))
+        }
+        61 => {
+            let (used, method) = parse_unblocked(alloc, i)?;
+            Ok((used, AMQPMethod::Unblocked(method)))
+        }
+        70 => {
+            let (used, method) = parse_update_secret(alloc, i)?;
+            Ok((used, AMQPMethod::UpdateSecret(method)))
+        }
+        71 => {
+            let (used, method) = parse_update_secret_ok(alloc, i)?;
+            Ok((used, AMQPMethod::UpdateSecretOk(method)))
+        }
+        _ => Err(ParserError::UnknownMethod),
+    }
+}
+
+/// Reads a method id and the slots of that method.
+#[tactic(auto, using(amqp_types::proofs::Judged::refuses_next), unfolding(amqp_types::specs::Rows::rows_of, amqp_types::specs::Methods::judge_in_class))]
+pub fn parse_connection(alloc: Global, i: &[u8]) -> Result<(usize, AMQPMethod), ParserError>
+    ensures { Parses method_of result i.now (judge_in_class 10) }
+{
+    let (n, id) = parse_id(i)?;
+    let (used, method) = parse_method(alloc, id, &i[n..])?;
+    Ok((n + used, method))
+}
+
+/// The size of the class id, the method id and the slots.
+#[tactic(auto)]
+pub fn size_connection(method: &AMQPMethod) -> Result<u64, GenError>
+    ensures { Measures result (payload_size (method_of method.now)) }
+{
+    match method {
+        AMQPMethod::Start(method) => size_fields(&negotiating::start_fields(method)),
+        AMQPMethod::StartOk(method) => size_fields(&negotiating::start_ok_fields(method)),
+        AMQPMethod::Secure(method) => size_fields(&negotiating::secure_fields(method)),
+        AMQPMethod::SecureOk(method) => size_fields(&negotiating::secure_ok_fields(method)),
+        AMQPMethod::Tune(method) => size_fields(&negotiating::tune_fields(method)),
+        AMQPMethod::TuneOk(method) => size_fields(&negotiating::tune_ok_fields(method)),
+        AMQPMethod::Open(method) => size_fields(&opening::open_fields(method)),
+        AMQPMethod::OpenOk(method) => size_fields(&opening::open_ok_fields(method)),
+        AMQPMethod::Close(method) => size_fields(&opening::close_fields(method)),
+        AMQPMethod::CloseOk(method) => size_fields(&opening::close_ok_fields(method)),
+        AMQPMethod::Blocked(method) => size_fields(&opening::blocked_fields(method)),
+        AMQPMethod::Unblocked(method) => size_fields(&opening::unblocked_fields(method)),
+        AMQPMethod::UpdateSecret(method) => size_fields(&opening::update_secret_fields(method)),
+        AMQPMethod::UpdateSecretOk(method) => size_fields(&opening::update_secret_ok_fields(
+            method,
+        )),
+    }
+}
+
+/// Puts the class id, the method id and the slots at a place of a slice, and answers the place behind.
+#[tactic(auto)]
+pub fn put_connection(buf: &mut [u8], at: usize, method: &AMQPMethod) -> usize
+    requires { HasRoom buf.old at (payload_size (method_of method.now)) (payload_bytes (method_of method.now)) }
+    ensures { Puts buf.old buf.new at (payload_bytes (method_of method.now)) result }
+{
+    match method {
+        AMQPMethod::Start(method) => put_fields(buf, at, &negotiating::start_fields(method)),
+        AMQPMethod::StartOk(method) => put_fields(buf, at, &negotiating::start_ok_fields(method)),
+        AMQPMethod::Secure(method) => put_fields(buf, at, &negotiating::secure_fields(method)),
+        AMQPMethod::SecureOk(method) => put_fields(buf, at, &negotiating::secure_ok_fields(method)),
+        AMQPMethod::Tune(method) => put_fields(buf, at, &negotiating::tune_fields(method)),
+        AMQPMethod::TuneOk(method) => put_fields(buf, at, &negotiating::tune_ok_fields(method)),
+        AMQPMethod::Open(method) => put_fields(buf, at, &opening::open_fields(method)),
+        AMQPMethod::OpenOk(method) => put_fields(buf, at, &opening::open_ok_fields(method)),
+        AMQPMethod::Close(method) => put_fields(buf, at, &opening::close_fields(method)),
+        AMQPMethod::CloseOk(method) => put_fields(buf, at, &opening::close_ok_fields(method)),
+        AMQPMethod::Blocked(method) => put_fields(buf, at, &opening::blocked_fields(method)),
+        AMQPMethod::Unblocked(method) => put_fields(buf, at, &opening::unblocked_fields(method)),
+        AMQPMethod::UpdateSecret(method) => put_fields(
+            buf,
+            at,
+            &opening::update_secret_fields(method),
+        ),
+        AMQPMethod::UpdateSecretOk(method) => put_fields(
+            buf,
+            at,
+            &opening::update_secret_ok_fields(method),
+        ),
+    }
+}
+
+/// Appends the class id, the method id and the slots to a vector.
+#[tactic(auto)]
+pub fn gen_connection(
+    _alloc: Global,
+    out: &mut Vec<u8>,
+    method: &AMQPMethod,
+) -> Result<(), GenError>
+    ensures { Appends out.old.items out.new.items (payload_size (method_of method.now)) (payload_bytes (method_of method.now)) result }
+{
+    match method {
+        AMQPMethod::Start(method) => gen_fields(out, &negotiating::start_fields(method)),
+        AMQPMethod::StartOk(method) => gen_fields(out, &negotiating::start_ok_fields(method)),
+        AMQPMethod::Secure(method) => gen_fields(out, &negotiating::secure_fields(method)),
+        AMQPMethod::SecureOk(method) => gen_fields(out, &negotiating::secure_ok_fields(method)),
+        AMQPMethod::Tune(method) => gen_fields(out, &negotiating::tune_fields(method)),
+        AMQPMethod::TuneOk(method) => gen_fields(out, &negotiating::tune_ok_fields(method)),
+        AMQPMethod::Open(method) => gen_fields(out, &opening::open_fields(method)),
+        AMQPMethod::OpenOk(method) => gen_fields(out, &opening::open_ok_fields(method)),
+        AMQPMethod::Close(method) => gen_fields(out, &opening::close_fields(method)),
+        AMQPMethod::CloseOk(method) => gen_fields(out, &opening::close_ok_fields(method)),
+        AMQPMethod::Blocked(method) => gen_fields(out, &opening::blocked_fields(method)),
+        AMQPMethod::Unblocked(method) => gen_fields(out, &opening::unblocked_fields(method)),
+        AMQPMethod::UpdateSecret(method) => gen_fields(out, &opening::update_secret_fields(method)),
+        AMQPMethod::UpdateSecretOk(method) => gen_fields(
+            out,
+            &opening::update_secret_ok_fields(method),
+        ),
+    }
+}

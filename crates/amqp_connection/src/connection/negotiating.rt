@@ -1,0 +1,564 @@
+//! Methods of the class connection by which peers agree on a connection.
+#![tactic(auto, using(amqp_types::proofs::Judged::refuses_next), unfolding(amqp_types::specs::Rows::rows_of, amqp_types::specs::Rows::slots_at, amqp_types::specs::SlotJudging::judge_slots, amqp_types::specs::Methods::judge_method, amqp_values::specs::Fields::field_bytes, amqp_values::specs::Fields::is_deep_field, amqp_values::specs::Fields::is_long_field, amqp_values::specs::Fields::fields_bytes, amqp_values::specs::Fields::any_deep_field, amqp_values::specs::Fields::any_long_field, amqp_values::specs::Fields::fields_size, amqp_types::specs::SlotBytes::form_bytes, amqp_types::specs::SlotBytes::slots_bytes, amqp_types::specs::SlotBytes::items_size, amqp_types::specs::Methods::method_bytes, amqp_types::specs::Methods::method_size, amqp_types::specs::Methods::payload_bytes, amqp_types::specs::Methods::payload_size))]
+
+ghost use Rattle.std.specs.Prelude.{◌≡◌, ◌∷◌, [], IfOk};
+ghost use Rattle.amqp_types.specs.Slots.{number_item, text_item, bytes_item, entries_item};
+ghost use Rattle.amqp_types.specs.Calls.{Parses, NeedsNoMemory, Measures, HasRoom};
+ghost use Rattle.amqp_types.specs.Writing.{Puts, Appends};
+ghost use Rattle.amqp_types.specs.Methods.{method, judge_method, method_bytes, method_size};
+ghost use Rattle.amqp_values.specs.MethodFields.{ListsMethod};
+ghost use Rattle.amqp_connection.specs.Connection.{start_method, start_ok_method, secure_method, secure_ok_method, tune_method, tune_ok_method};
+
+use amqp_values::{
+    Field, FieldTable, GenError, Identifier, LongString, LongUInt, NoMemory, ParserError,
+    ShortShortUInt, ShortString, ShortUInt, SlotReader, gen_fields, put_fields, size_fields,
+};
+use std::alloc::Global;
+
+/// The server begins a connection, and says what it can do.
+#[derive(Debug, Drop, PartialEq)]
+pub struct Start {
+    pub version_major: ShortShortUInt,
+    pub version_minor: ShortShortUInt,
+    pub server_properties: FieldTable,
+    pub mechanisms: LongString,
+    pub locales: LongString,
+}
+
+impl Start {
+    /// The id of the class.
+    pub fn get_amqp_class_id(&self) -> Identifier
+        ensures { result ≡ 10 }
+    {
+        10
+    }
+
+    /// The id of the method in its class.
+    pub fn get_amqp_method_id(&self) -> Identifier
+        ensures { result ≡ 10 }
+    {
+        10
+    }
+
+    /// The method whose fields are empty, zero and false.
+    pub fn empty(alloc: Global) -> Start
+        ensures { start_method result ≡ method 10 10 (number_item 0 ∷ number_item 0 ∷ entries_item [] ∷ bytes_item [] ∷ bytes_item [] ∷ []) }
+    {
+        Start {
+            version_major: 0,
+            version_minor: 0,
+            server_properties: FieldTable::new(alloc),
+            mechanisms: LongString::empty(alloc),
+            locales: LongString::empty(alloc),
+        }
+    }
+
+    /// An equal method of its own.
+    pub fn copy(&self, alloc: Global) -> Result<Start, NoMemory>
+        ensures { IfOk result (λ copied. copied ≡ self.now) }
+    {
+        Ok(Start {
+            version_major: self.version_major,
+            version_minor: self.version_minor,
+            server_properties: self.server_properties.copy(alloc)?,
+            mechanisms: self.mechanisms.copy(alloc)?,
+            locales: self.locales.copy(alloc)?,
+        })
+    }
+}
+
+/// Reads the slots of `Start`.
+pub fn parse_start(alloc: Global, i: &[u8]) -> Result<(usize, Start), ParserError>
+    ensures { Parses start_method result i.now (judge_method 10 10) }
+{
+    let mut slots = SlotReader::new(i);
+    let version_major = slots.short_short_uint()?;
+    let version_minor = slots.short_short_uint()?;
+    let server_properties = slots.table(alloc)?;
+    let mechanisms = slots.long_string(alloc)?;
+    let locales = slots.long_string(alloc)?;
+    let method = Start {
+        version_major,
+        version_minor,
+        server_properties,
+        mechanisms,
+        locales,
+    };
+    Ok((i.len() - slots.rest.len(), method))
+}
+
+/// Its ids and slots, in order.
+pub(super) fn start_fields(method: &Start) -> [Field<'_>; 7]
+    ensures { ListsMethod result (start_method method.now) }
+{
+    [
+        Field::ShortUInt(10),
+        Field::ShortUInt(10),
+        Field::ShortShortUInt(method.version_major),
+        Field::ShortShortUInt(method.version_minor),
+        Field::Table(&method.server_properties),
+        Field::LongString(&method.mechanisms),
+        Field::LongString(&method.locales),
+    ]
+}
+
+/// The size of the method id and the slots of `Start`.
+#[tactic(auto)]
+pub fn size_start(method: &Start) -> Result<u64, GenError>
+    ensures { Measures result (method_size (start_method method.now)) }
+{
+    size_fields(&start_fields(method)[1..])
+}
+
+/// Puts the method id and the slots of `Start` at a place of a slice, and answers the place behind.
+#[tactic(auto)]
+pub fn put_start(buf: &mut [u8], at: usize, method: &Start) -> usize
+    requires { HasRoom buf.old at (method_size (start_method method.now)) (method_bytes (start_method method.now)) }
+    ensures { Puts buf.old buf.new at (method_bytes (start_method method.now)) result }
+{
+    put_fields(buf, at, &start_fields(method)[1..])
+}
+
+/// Appends the method id and the slots of `Start` to a vector.
+#[tactic(auto)]
+pub fn gen_start(_alloc: Global, out: &mut Vec<u8>, method: &Start) -> Result<(), GenError>
+    ensures { Appends out.old.items out.new.items (method_size (start_method method.now)) (method_bytes (start_method method.now)) result }
+{
+    gen_fields(out, &start_fields(method)[1..])
+}
+
+/// The client chooses how it proves who it is.
+#[derive(Debug, Drop, PartialEq)]
+pub struct StartOk {
+    pub client_properties: FieldTable,
+    pub mechanism: ShortString,
+    pub response: LongString,
+    pub locale: ShortString,
+}
+
+impl StartOk {
+    /// The id of the class.
+    pub fn get_amqp_class_id(&self) -> Identifier
+        ensures { result ≡ 10 }
+    {
+        10
+    }
+
+    /// The id of the method in its class.
+    pub fn get_amqp_method_id(&self) -> Identifier
+        ensures { result ≡ 11 }
+    {
+        11
+    }
+
+    /// The method whose fields are empty, zero and false.
+    pub fn empty(alloc: Global) -> StartOk
+        ensures { start_ok_method result ≡ method 10 11 (entries_item [] ∷ text_item [] ∷ bytes_item [] ∷ text_item [] ∷ []) }
+    {
+        StartOk {
+            client_properties: FieldTable::new(alloc),
+            mechanism: ShortString::empty(alloc),
+            response: LongString::empty(alloc),
+            locale: ShortString::empty(alloc),
+        }
+    }
+
+    /// An equal method of its own.
+    pub fn copy(&self, alloc: Global) -> Result<StartOk, NoMemory>
+        ensures { IfOk result (λ copied. copied ≡ self.now) }
+    {
+        Ok(StartOk {
+            client_properties: self.client_properties.copy(alloc)?,
+            mechanism: self.mechanism.copy(alloc)?,
+            response: self.response.copy(alloc)?,
+            locale: self.locale.copy(alloc)?,
+        })
+    }
+}
+
+/// Reads the slots of `StartOk`.
+pub fn parse_start_ok(alloc: Global, i: &[u8]) -> Result<(usize, StartOk), ParserError>
+    ensures { Parses start_ok_method result i.now (judge_method 10 11) }
+{
+    let mut slots = SlotReader::new(i);
+    let client_properties = slots.table(alloc)?;
+    let mechanism = slots.short_string(alloc)?;
+    let response = slots.long_string(alloc)?;
+    let locale = slots.short_string(alloc)?;
+    let method = StartOk {
+        client_properties,
+        mechanism,
+        response,
+        locale,
+    };
+    Ok((i.len() - slots.rest.len(), method))
+}
+
+/// Its ids and slots, in order.
+pub(super) fn start_ok_fields(method: &StartOk) -> [Field<'_>; 6]
+    ensures { ListsMethod result (start_ok_method method.now) }
+{
+    [
+        Field::ShortUInt(10),
+        Field::ShortUInt(11),
+        Field::Table(&method.client_properties),
+        Field::ShortString(&method.mechanism),
+        Field::LongString(&method.response),
+        Field::ShortString(&method.locale),
+    ]
+}
+
+/// The size of the method id and the slots of `StartOk`.
+#[tactic(auto)]
+pub fn size_start_ok(method: &StartOk) -> Result<u64, GenError>
+    ensures { Measures result (method_size (start_ok_method method.now)) }
+{
+    size_fields(&start_ok_fields(method)[1..])
+}
+
+/// Puts the method id and the slots of `StartOk` at a place of a slice, and answers the place behind.
+#[tactic(auto)]
+pub fn put_start_ok(buf: &mut [u8], at: usize, method: &StartOk) -> usize
+    requires { HasRoom buf.old at (method_size (start_ok_method method.now)) (method_bytes (start_ok_method method.now)) }
+    ensures { Puts buf.old buf.new at (method_bytes (start_ok_method method.now)) result }
+{
+    put_fields(buf, at, &start_ok_fields(method)[1..])
+}
+
+/// Appends the method id and the slots of `StartOk` to a vector.
+#[tactic(auto)]
+pub fn gen_start_ok(_alloc: Global, out: &mut Vec<u8>, method: &StartOk) -> Result<(), GenError>
+    ensures { Appends out.old.items out.new.items (method_size (start_ok_method method.now)) (method_bytes (start_ok_method method.now)) result }
+{
+    gen_fields(out, &start_ok_fields(method)[1..])
+}
+
+/// The server asks the client for more proof of who it is.
+#[derive(Debug, Drop, PartialEq)]
+pub struct Secure {
+    pub challenge: LongString,
+}
+
+impl Secure {
+    /// The id of the class.
+    pub fn get_amqp_class_id(&self) -> Identifier
+        ensures { result ≡ 10 }
+    {
+        10
+    }
+
+    /// The id of the method in its class.
+    pub fn get_amqp_method_id(&self) -> Identifier
+        ensures { result ≡ 20 }
+    {
+        20
+    }
+
+    /// The method whose fields are empty, zero and false.
+    pub fn empty(alloc: Global) -> Secure
+        ensures { secure_method result ≡ method 10 20 (bytes_item [] ∷ []) }
+    {
+        Secure {
+            challenge: LongString::empty(alloc),
+        }
+    }
+
+    /// An equal method of its own.
+    pub fn copy(&self, alloc: Global) -> Result<Secure, NoMemory>
+        ensures { IfOk result (λ copied. copied ≡ self.now) }
+    {
+        Ok(Secure {
+            challenge: self.challenge.copy(alloc)?,
+        })
+    }
+}
+
+/// Reads the slots of `Secure`.
+pub fn parse_secure(alloc: Global, i: &[u8]) -> Result<(usize, Secure), ParserError>
+    ensures { Parses secure_method result i.now (judge_method 10 20) }
+{
+    let mut slots = SlotReader::new(i);
+    let challenge = slots.long_string(alloc)?;
+    let method = Secure { challenge };
+    Ok((i.len() - slots.rest.len(), method))
+}
+
+/// Its ids and slots, in order.
+pub(super) fn secure_fields(method: &Secure) -> [Field<'_>; 3]
+    ensures { ListsMethod result (secure_method method.now) }
+{
+    [
+        Field::ShortUInt(10),
+        Field::ShortUInt(20),
+        Field::LongString(&method.challenge),
+    ]
+}
+
+/// The size of the method id and the slots of `Secure`.
+#[tactic(auto)]
+pub fn size_secure(method: &Secure) -> Result<u64, GenError>
+    ensures { Measures result (method_size (secure_method method.now)) }
+{
+    size_fields(&secure_fields(method)[1..])
+}
+
+/// Puts the method id and the slots of `Secure` at a place of a slice, and answers the place behind.
+#[tactic(auto)]
+pub fn put_secure(buf: &mut [u8], at: usize, method: &Secure) -> usize
+    requires { HasRoom buf.old at (method_size (secure_method method.now)) (method_bytes (secure_method method.now)) }
+    ensures { Puts buf.old buf.new at (method_bytes (secure_method method.now)) result }
+{
+    put_fields(buf, at, &secure_fields(method)[1..])
+}
+
+/// Appends the method id and the slots of `Secure` to a vector.
+#[tactic(auto)]
+pub fn gen_secure(_alloc: Global, out: &mut Vec<u8>, method: &Secure) -> Result<(), GenError>
+    ensures { Appends out.old.items out.new.items (method_size (secure_method method.now)) (method_bytes (secure_method method.now)) result }
+{
+    gen_fields(out, &secure_fields(method)[1..])
+}
+
+/// The client answers what the server asked.
+#[derive(Debug, Drop, PartialEq)]
+pub struct SecureOk {
+    pub response: LongString,
+}
+
+impl SecureOk {
+    /// The id of the class.
+    pub fn get_amqp_class_id(&self) -> Identifier
+        ensures { result ≡ 10 }
+    {
+        10
+    }
+
+    /// The id of the method in its class.
+    pub fn get_amqp_method_id(&self) -> Identifier
+        ensures { result ≡ 21 }
+    {
+        21
+    }
+
+    /// The method whose fields are empty, zero and false.
+    pub fn empty(alloc: Global) -> SecureOk
+        ensures { secure_ok_method result ≡ method 10 21 (bytes_item [] ∷ []) }
+    {
+        SecureOk {
+            response: LongString::empty(alloc),
+        }
+    }
+
+    /// An equal method of its own.
+    pub fn copy(&self, alloc: Global) -> Result<SecureOk, NoMemory>
+        ensures { IfOk result (λ copied. copied ≡ self.now) }
+    {
+        Ok(SecureOk {
+            response: self.response.copy(alloc)?,
+        })
+    }
+}
+
+/// Reads the slots of `SecureOk`.
+pub fn parse_secure_ok(alloc: Global, i: &[u8]) -> Result<(usize, SecureOk), ParserError>
+    ensures { Parses secure_ok_method result i.now (judge_method 10 21) }
+{
+    let mut slots = SlotReader::new(i);
+    let response = slots.long_string(alloc)?;
+    let method = SecureOk { response };
+    Ok((i.len() - slots.rest.len(), method))
+}
+
+/// Its ids and slots, in order.
+pub(super) fn secure_ok_fields(method: &SecureOk) -> [Field<'_>; 3]
+    ensures { ListsMethod result (secure_ok_method method.now) }
+{
+    [
+        Field::ShortUInt(10),
+        Field::ShortUInt(21),
+        Field::LongString(&method.response),
+    ]
+}
+
+/// The size of the method id and the slots of `SecureOk`.
+#[tactic(auto)]
+pub fn size_secure_ok(method: &SecureOk) -> Result<u64, GenError>
+    ensures { Measures result (method_size (secure_ok_method method.now)) }
+{
+    size_fields(&secure_ok_fields(method)[1..])
+}
+
+/// Puts the method id and the slots of `SecureOk` at a place of a slice, and answers the place behind.
+#[tactic(auto)]
+pub fn put_secure_ok(buf: &mut [u8], at: usize, method: &SecureOk) -> usize
+    requires { HasRoom buf.old at (method_size (secure_ok_method method.now)) (method_bytes (secure_ok_method method.now)) }
+    ensures { Puts buf.old buf.new at (method_bytes (secure_ok_method method.now)) result }
+{
+    put_fields(buf, at, &secure_ok_fields(method)[1..])
+}
+
+/// Appends the method id and the slots of `SecureOk` to a vector.
+#[tactic(auto)]
+pub fn gen_secure_ok(_alloc: Global, out: &mut Vec<u8>, method: &SecureOk) -> Result<(), GenError>
+    ensures { Appends out.old.items out.new.items (method_size (secure_ok_method method.now)) (method_bytes (secure_ok_method method.now)) result }
+{
+    gen_fields(out, &secure_ok_fields(method)[1..])
+}
+
+/// The server proposes limits for the connection.
+#[derive(Clone, Default, Debug, Drop, PartialEq)]
+pub struct Tune {
+    pub channel_max: ShortUInt,
+    pub frame_max: LongUInt,
+    pub heartbeat: ShortUInt,
+}
+
+impl Tune {
+    /// The id of the class.
+    pub fn get_amqp_class_id(&self) -> Identifier
+        ensures { result ≡ 10 }
+    {
+        10
+    }
+
+    /// The id of the method in its class.
+    pub fn get_amqp_method_id(&self) -> Identifier
+        ensures { result ≡ 30 }
+    {
+        30
+    }
+}
+
+/// Reads the slots of `Tune`.
+pub fn parse_tune(_alloc: Global, i: &[u8]) -> Result<(usize, Tune), ParserError>
+    ensures parsed { Parses tune_method result i.now (judge_method 10 30) }
+    ensures memory { NeedsNoMemory result }
+{
+    let mut slots = SlotReader::new(i);
+    let channel_max = slots.short_uint()?;
+    let frame_max = slots.long_uint()?;
+    let heartbeat = slots.short_uint()?;
+    let method = Tune {
+        channel_max,
+        frame_max,
+        heartbeat,
+    };
+    Ok((i.len() - slots.rest.len(), method))
+}
+
+/// Its ids and slots, in order.
+pub(super) fn tune_fields(method: &Tune) -> [Field<'_>; 5]
+    ensures { ListsMethod result (tune_method method.now) }
+{
+    [
+        Field::ShortUInt(10),
+        Field::ShortUInt(30),
+        Field::ShortUInt(method.channel_max),
+        Field::LongUInt(method.frame_max),
+        Field::ShortUInt(method.heartbeat),
+    ]
+}
+
+/// The size of the method id and the slots of `Tune`.
+#[tactic(auto)]
+pub fn size_tune(method: &Tune) -> Result<u64, GenError>
+    ensures { Measures result (method_size (tune_method method.now)) }
+{
+    size_fields(&tune_fields(method)[1..])
+}
+
+/// Puts the method id and the slots of `Tune` at a place of a slice, and answers the place behind.
+#[tactic(auto)]
+pub fn put_tune(buf: &mut [u8], at: usize, method: &Tune) -> usize
+    requires { HasRoom buf.old at (method_size (tune_method method.now)) (method_bytes (tune_method method.now)) }
+    ensures { Puts buf.old buf.new at (method_bytes (tune_method method.now)) result }
+{
+    put_fields(buf, at, &tune_fields(method)[1..])
+}
+
+/// Appends the method id and the slots of `Tune` to a vector.
+#[tactic(auto)]
+pub fn gen_tune(_alloc: Global, out: &mut Vec<u8>, method: &Tune) -> Result<(), GenError>
+    ensures { Appends out.old.items out.new.items (method_size (tune_method method.now)) (method_bytes (tune_method method.now)) result }
+{
+    gen_fields(out, &tune_fields(method)[1..])
+}
+
+/// The client settles the limits.
+#[derive(Clone, Default, Debug, Drop, PartialEq)]
+pub struct TuneOk {
+    pub channel_max: ShortUInt,
+    pub frame_max: LongUInt,
+    pub heartbeat: ShortUInt,
+}
+
+impl TuneOk {
+    /// The id of the class.
+    pub fn get_amqp_class_id(&self) -> Identifier
+        ensures { result ≡ 10 }
+    {
+        10
+    }
+
+    /// The id of the method in its class.
+    pub fn get_amqp_method_id(&self) -> Identifier
+        ensures { result ≡ 31 }
+    {
+        31
+    }
+}
+
+/// Reads the slots of `TuneOk`.
+pub fn parse_tune_ok(_alloc: Global, i: &[u8]) -> Result<(usize, TuneOk), ParserError>
+    ensures parsed { Parses tune_ok_method result i.now (judge_method 10 31) }
+    ensures memory { NeedsNoMemory result }
+{
+    let mut slots = SlotReader::new(i);
+    let channel_max = slots.short_uint()?;
+    let frame_max = slots.long_uint()?;
+    let heartbeat = slots.short_uint()?;
+    let method = TuneOk {
+        channel_max,
+        frame_max,
+        heartbeat,
+    };
+    Ok((i.len() - slots.rest.len(), method))
+}
+
+/// Its ids and slots, in order.
+pub(super) fn tune_ok_fields(method: &TuneOk) -> [Field<'_>; 5]
+    ensures { ListsMethod result (tune_ok_method method.now) }
+{
+    [
+        Field::ShortUInt(10),
+        Field::ShortUInt(31),
+        Field::ShortUInt(method.channel_max),
+        Field::LongUInt(method.frame_max),
+        Field::ShortUInt(method.heartbeat),
+    ]
+}
+
+/// The size of the method id and the slots of `TuneOk`.
+#[tactic(auto)]
+pub fn size_tune_ok(method: &TuneOk) -> Result<u64, GenError>
+    ensures { Measures result (method_size (tune_ok_method method.now)) }
+{
+    size_fields(&tune_ok_fields(method)[1..])
+}
+
+/// Puts the method id and the slots of `TuneOk` at a place of a slice, and answers the place behind.
+#[tactic(auto)]
+pub fn put_tune_ok(buf: &mut [u8], at: usize, method: &TuneOk) -> usize
+    requires { HasRoom buf.old at (method_size (tune_ok_method method.now)) (method_bytes (tune_ok_method method.now)) }
+    ensures { Puts buf.old buf.new at (method_bytes (tune_ok_method method.now)) result }
+{
+    put_fields(buf, at, &tune_ok_fields(method)[1..])
+}
+
+/// Appends the method id and the slots of `TuneOk` to a vector.
+#[tactic(auto)]
+pub fn gen_tune_ok(_alloc: Global, out: &mut Vec<u8>, method: &TuneOk) -> Result<(), GenError>
+    ensures { Appends out.old.items out.new.items (method_size (tune_ok_method method.now)) (method_bytes (tune_ok_method method.now)) result }
+{
+    gen_fields(out, &tune_ok_fields(method)[1..])
+}

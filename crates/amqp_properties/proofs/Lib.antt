@@ -1,0 +1,5 @@
+pub mod Steps
+pub mod Masks
+pub mod Options
+pub mod PropertyLaws
+pub mod HeaderLaws

@@ -1,0 +1,5 @@
+use Rattle.amqp_properties.proofs.HeaderLaws.{content_headers_lawful}
+use Rattle.amqp_properties.proofs.laws.content_headers_are_lawful.Goals as goal
+
+pub returns : goal.returns
+returns c = content_headers_lawful

@@ -1,0 +1,5 @@
+use Rattle.amqp_properties.proofs.HeaderLaws.{content_headers_read_back}
+use Rattle.amqp_properties.proofs.laws.held_content_headers_are_read_back.Goals as goal
+
+pub returns : goal.returns
+returns c = content_headers_read_back

@@ -1,0 +1,5 @@
+use Rattle.amqp_properties.proofs.PropertyLaws.{properties_lawful}
+use Rattle.amqp_properties.proofs.laws.properties_are_lawful.Goals as goal
+
+pub returns : goal.returns
+returns c = properties_lawful

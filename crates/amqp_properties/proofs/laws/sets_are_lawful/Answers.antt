@@ -1,0 +1,5 @@
+use Rattle.amqp_properties.proofs.Options.{sets_lawful}
+use Rattle.amqp_properties.proofs.laws.sets_are_lawful.Goals as goal
+
+pub returns : goal.returns
+returns c = sets_lawful

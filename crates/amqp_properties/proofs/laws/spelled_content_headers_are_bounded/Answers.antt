@@ -1,0 +1,5 @@
+use Rattle.amqp_properties.proofs.HeaderLaws.{content_headers_bounded}
+use Rattle.amqp_properties.proofs.laws.spelled_content_headers_are_bounded.Goals as goal
+
+pub returns : goal.returns
+returns c = content_headers_bounded

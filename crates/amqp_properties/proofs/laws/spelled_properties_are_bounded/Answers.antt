@@ -1,0 +1,5 @@
+use Rattle.amqp_properties.proofs.PropertyLaws.{properties_bounded}
+use Rattle.amqp_properties.proofs.laws.spelled_properties_are_bounded.Goals as goal
+
+pub returns : goal.returns
+returns c = properties_bounded

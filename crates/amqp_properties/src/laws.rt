@@ -1,0 +1,39 @@
+//! Laws of properties and content headers, each the contract of a function that does nothing.
+
+ghost use Rattle.amqp_types.specs.PropertyLaws.{SetsAreLawful, PropertiesAreLawful, SpelledPropertiesAreBounded, HeldPropertiesAreReadBack};
+ghost use Rattle.amqp_types.specs.ContentHeaders.{ContentHeadersAreLawful, SpelledContentHeadersAreBounded, HeldContentHeadersAreReadBack};
+
+/// The laws of lists of properties that give one item each, whatever the mask.
+pub fn sets_are_lawful()
+    ensures { SetsAreLawful }
+{}
+
+/// The laws of the 14 properties and their mask.
+pub fn properties_are_lawful()
+    ensures { PropertiesAreLawful }
+{}
+
+/// Properties that are spelled are neither long nor too deep.
+pub fn spelled_properties_are_bounded()
+    ensures { SpelledPropertiesAreBounded }
+{}
+
+/// Properties that programs hold and write are read back.
+pub fn held_properties_are_read_back()
+    ensures { HeldPropertiesAreReadBack }
+{}
+
+/// The laws of the payloads of content headers.
+pub fn content_headers_are_lawful()
+    ensures { ContentHeadersAreLawful }
+{}
+
+/// Content headers that are spelled are neither long nor too deep.
+pub fn spelled_content_headers_are_bounded()
+    ensures { SpelledContentHeadersAreBounded }
+{}
+
+/// Content headers that programs hold and write are read back.
+pub fn held_content_headers_are_read_back()
+    ensures { HeldContentHeadersAreReadBack }
+{}

@@ -1,0 +1,20 @@
+//! The 14 properties of a message, and how they are read and written.
+#![tactic(auto)]
+
+mod generation;
+mod laws;
+mod optional;
+mod parsing;
+mod properties;
+
+pub use generation::{gen_properties, put_properties, size_properties};
+pub use laws::{
+    content_headers_are_lawful, held_content_headers_are_read_back, held_properties_are_read_back,
+    properties_are_lawful, sets_are_lawful, spelled_content_headers_are_bounded,
+    spelled_properties_are_bounded,
+};
+pub use parsing::parse_properties;
+pub use properties::AMQPProperties;
+
+#[cfg(test)]
+mod tests;

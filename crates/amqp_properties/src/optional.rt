@@ -1,0 +1,173 @@
+//! Fields that are there or not.
+
+ghost use Rattle.std.specs.Prelude.{◌≡◌, ◌≤◌, ◌<◌, length, IfOk};
+ghost use Rattle.std.specs.Option.{option_map};
+ghost use Rattle.amqp_types.specs.Numbers.{bytes1, bytes8};
+ghost use Rattle.amqp_types.specs.Flags.{flag_at};
+ghost use Rattle.amqp_types.specs.Slots.{Item, number_item, text_item, entries_item, number_form, short_string_form, table_form};
+ghost use Rattle.amqp_types.specs.SlotJudging.{Steps};
+ghost use Rattle.amqp_types.specs.PropertyJudging.{judge_optional};
+ghost use Rattle.amqp_types.specs.PropertyBytes.{worth_of};
+ghost use Rattle.amqp_properties.specs.OptionalFields.{IsOptionalField};
+
+use amqp_values::{
+    Field, FieldTable, LongLongUInt, NoMemory, ParserError, ShortShortUInt, ShortString, ShortUInt,
+    SlotReader,
+};
+use std::alloc::Global;
+
+/// Whether a bit of a mask is set.
+pub fn is_set(mask: ShortUInt, bit: u16) -> bool
+    requires { bit < 16 }
+    ensures { result ≡ flag_at mask bit }
+{
+    (mask >> bit) & 1 == 1
+}
+
+/// Reads a short string, where it is there.
+#[tactic(auto, using(amqp_types::proofs::Judged::refuses_next), unfolding(amqp_types::specs::PropertyJudging::judge_optional))]
+pub fn read_short_string(
+    slots: &mut SlotReader<'_>,
+    alloc: Global,
+    present: bool,
+) -> Result<Option<ShortString>, ParserError>
+    ensures step { Steps (option_map text_item) result slots.old.rest.now slots.new.rest.now (judge_optional present short_string_form) }
+    ensures left { length slots.new.rest.now ≤ length slots.old.rest.now }
+{
+    if present {
+        let string = slots.short_string(alloc)?;
+        return Ok(Some(string));
+    }
+    Ok(None)
+}
+
+/// Reads a table, where it is there.
+#[tactic(auto, using(amqp_types::proofs::Judged::refuses_next), unfolding(amqp_types::specs::PropertyJudging::judge_optional))]
+pub fn read_table(
+    slots: &mut SlotReader<'_>,
+    alloc: Global,
+    present: bool,
+) -> Result<Option<FieldTable>, ParserError>
+    ensures step { Steps (option_map entries_item) result slots.old.rest.now slots.new.rest.now (judge_optional present table_form) }
+    ensures left { length slots.new.rest.now ≤ length slots.old.rest.now }
+{
+    if present {
+        let table = slots.table(alloc)?;
+        return Ok(Some(table));
+    }
+    Ok(None)
+}
+
+/// Reads a number of 1 byte, where it is there.
+#[tactic(auto, using(amqp_types::proofs::Judged::refuses_next), unfolding(amqp_types::specs::PropertyJudging::judge_optional))]
+pub fn read_short_short_uint(
+    slots: &mut SlotReader<'_>,
+    present: bool,
+) -> Result<Option<ShortShortUInt>, ParserError>
+    ensures step { Steps (option_map number_item) result slots.old.rest.now slots.new.rest.now (judge_optional present (number_form bytes1)) }
+    ensures left { length slots.new.rest.now ≤ length slots.old.rest.now }
+{
+    if present {
+        let n = slots.short_short_uint()?;
+        return Ok(Some(n));
+    }
+    Ok(None)
+}
+
+/// Reads a number of 8 bytes, where it is there.
+#[tactic(auto, using(amqp_types::proofs::Judged::refuses_next), unfolding(amqp_types::specs::PropertyJudging::judge_optional))]
+pub fn read_long_long_uint(
+    slots: &mut SlotReader<'_>,
+    present: bool,
+) -> Result<Option<LongLongUInt>, ParserError>
+    ensures step { Steps (option_map number_item) result slots.old.rest.now slots.new.rest.now (judge_optional present (number_form bytes8)) }
+    ensures left { length slots.new.rest.now ≤ length slots.old.rest.now }
+{
+    if present {
+        let n = slots.long_long_uint()?;
+        return Ok(Some(n));
+    }
+    Ok(None)
+}
+
+/// What an option adds to a mask in which its bit is worth so much.
+#[tactic(auto, unfolding(amqp_types::specs::PropertyBytes::worth_of))]
+pub fn worth<T>(option: &Option<T>, worth: ShortUInt) -> ShortUInt
+    ensures value { (item : T → Item) → result ≡ worth_of worth (option_map item option.now) }
+    ensures bound { result ≤ worth }
+{
+    match option {
+        None => 0,
+        Some(_) => worth,
+    }
+}
+
+/// A short string, where it is there.
+#[tactic(auto, unfolding(amqp_types::specs::PropertyBytes::optional_bytes, amqp_types::specs::PropertyBytes::is_deep_option, amqp_types::specs::PropertyBytes::is_long_option, amqp_values::specs::Fields::field_bytes, amqp_values::specs::Fields::is_deep_field, amqp_values::specs::Fields::is_long_field))]
+pub fn field_short_string(option: &Option<ShortString>) -> Field<'_>
+    ensures { IsOptionalField result short_string_form (option_map text_item option.now) }
+{
+    match option {
+        None => Field::Nothing,
+        Some(string) => Field::ShortString(string),
+    }
+}
+
+/// A table, where it is there.
+#[tactic(auto, unfolding(amqp_types::specs::PropertyBytes::optional_bytes, amqp_types::specs::PropertyBytes::is_deep_option, amqp_types::specs::PropertyBytes::is_long_option, amqp_values::specs::Fields::field_bytes, amqp_values::specs::Fields::is_deep_field, amqp_values::specs::Fields::is_long_field))]
+pub fn field_table(option: &Option<FieldTable>) -> Field<'_>
+    ensures { IsOptionalField result table_form (option_map entries_item option.now) }
+{
+    match option {
+        None => Field::Nothing,
+        Some(table) => Field::Table(table),
+    }
+}
+
+/// A number of 1 byte, where it is there.
+#[tactic(auto, unfolding(amqp_types::specs::PropertyBytes::optional_bytes, amqp_types::specs::PropertyBytes::is_deep_option, amqp_types::specs::PropertyBytes::is_long_option, amqp_values::specs::Fields::field_bytes, amqp_values::specs::Fields::is_deep_field, amqp_values::specs::Fields::is_long_field))]
+pub fn field_short_short_uint(option: &Option<ShortShortUInt>) -> Field<'_>
+    ensures { IsOptionalField result (number_form bytes1) (option_map number_item option.now) }
+{
+    match option {
+        None => Field::Nothing,
+        Some(n) => Field::ShortShortUInt(*n),
+    }
+}
+
+/// A number of 8 bytes, where it is there.
+#[tactic(auto, unfolding(amqp_types::specs::PropertyBytes::optional_bytes, amqp_types::specs::PropertyBytes::is_deep_option, amqp_types::specs::PropertyBytes::is_long_option, amqp_values::specs::Fields::field_bytes, amqp_values::specs::Fields::is_deep_field, amqp_values::specs::Fields::is_long_field))]
+pub fn field_long_long_uint(option: &Option<LongLongUInt>) -> Field<'_>
+    ensures { IsOptionalField result (number_form bytes8) (option_map number_item option.now) }
+{
+    match option {
+        None => Field::Nothing,
+        Some(n) => Field::LongLongUInt(*n),
+    }
+}
+
+/// An equal string of its own, where it is there.
+pub fn copy_short_string(
+    option: &Option<ShortString>,
+    alloc: Global,
+) -> Result<Option<ShortString>, NoMemory>
+    ensures { IfOk result (λ copied. copied ≡ option.now) }
+{
+    match option {
+        None => Ok(None),
+        Some(string) => Ok(Some(string.copy(alloc)?)),
+    }
+}
+
+/// An equal table of its own, where it is there.
+pub fn copy_table(
+    option: &Option<FieldTable>,
+    alloc: Global,
+) -> Result<Option<FieldTable>, NoMemory>
+    ensures { IfOk result (λ copied. copied ≡ option.now) }
+{
+    match option {
+        None => Ok(None),
+        Some(table) => Ok(Some(table.copy(alloc)?)),
+    }
+}

@@ -1,0 +1,7 @@
+use Rattle.std.proofs.Common.{refl}
+use Rattle.amqp_types.specs.Methods.{method_bytes, payload_bytes}
+use Rattle.amqp_protocol.proofs.laws.payloads_begin_with_ids.Goals as goal
+
+pub returns : goal.returns
+unfolding method_bytes payload_bytes
+returns c = λ m. refl

@@ -1,0 +1,22 @@
+-- A method of any class.
+use Rattle.amqp_types.specs.Methods.{Method}
+use Rattle.amqp_basic.specs.Basic as basic
+use Rattle.amqp_connection.specs.Connection as connection
+use Rattle.amqp_connection.specs.Access as access
+use Rattle.amqp_channel.specs.Channel as channel
+use Rattle.amqp_channel.specs.Tx as tx
+use Rattle.amqp_channel.specs.Confirm as confirm
+use Rattle.amqp_topology.specs.Exchange as exchange
+use Rattle.amqp_topology.specs.Queue as queue
+use Rattle.amqp_protocol.specs.declared.class.AMQPClass.{AMQPClass}
+use Rattle.amqp_protocol.specs.declared.class.AMQPClass.TheVariants as classes
+
+abbrev pub method_of : AMQPClass → Method
+method_of (classes.Basic m) = basic.method_of m
+method_of (classes.Connection m) = connection.method_of m
+method_of (classes.Channel m) = channel.method_of m
+method_of (classes.Access m) = access.method_of m
+method_of (classes.Exchange m) = exchange.method_of m
+method_of (classes.Queue m) = queue.method_of m
+method_of (classes.Tx m) = tx.method_of m
+method_of (classes.Confirm m) = confirm.method_of m

@@ -1,0 +1,4 @@
+pub mod Classes
+pub mod ErrorCodes
+pub mod Logins
+pub mod ProtocolLaws

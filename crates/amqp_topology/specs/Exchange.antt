@@ -1,0 +1,48 @@
+-- The methods of the class exchange, and what their slots give.
+use Rattle.std.specs.Prelude.{[], ◌∷◌}
+use Rattle.amqp_types.specs.Slots.{flag_item, text_item, entries_item}
+use Rattle.amqp_types.specs.Methods.{Method, method}
+use Rattle.amqp_topology.specs.declared.exchange.declaring.Declare.{Declare}
+use Rattle.amqp_topology.specs.declared.exchange.declaring.DeclareOk.{DeclareOk}
+use Rattle.amqp_topology.specs.declared.exchange.declaring.Delete.{Delete}
+use Rattle.amqp_topology.specs.declared.exchange.declaring.DeleteOk.{DeleteOk}
+use Rattle.amqp_topology.specs.declared.exchange.binding.Bind.{Bind}
+use Rattle.amqp_topology.specs.declared.exchange.binding.BindOk.{BindOk}
+use Rattle.amqp_topology.specs.declared.exchange.binding.Unbind.{Unbind}
+use Rattle.amqp_topology.specs.declared.exchange.binding.UnbindOk.{UnbindOk}
+use Rattle.amqp_topology.specs.declared.exchange.AMQPMethod.{AMQPMethod}
+use Rattle.amqp_topology.specs.declared.exchange.AMQPMethod.TheVariants as variant
+
+abbrev pub declare_method : Declare → Method
+declare_method m = method 40 10 (text_item m.exchange ∷ text_item m.kind ∷ flag_item m.passive ∷ flag_item m.durable ∷ flag_item m.auto_delete ∷ flag_item m.internal ∷ flag_item m.nowait ∷ entries_item m.arguments ∷ [])
+
+abbrev pub declare_ok_method : DeclareOk → Method
+declare_ok_method m = method 40 11 ([])
+
+abbrev pub delete_method : Delete → Method
+delete_method m = method 40 20 (text_item m.exchange ∷ flag_item m.if_unused ∷ flag_item m.nowait ∷ [])
+
+abbrev pub delete_ok_method : DeleteOk → Method
+delete_ok_method m = method 40 21 ([])
+
+abbrev pub bind_method : Bind → Method
+bind_method m = method 40 30 (text_item m.destination ∷ text_item m.source ∷ text_item m.routing_key ∷ flag_item m.nowait ∷ entries_item m.arguments ∷ [])
+
+abbrev pub bind_ok_method : BindOk → Method
+bind_ok_method m = method 40 31 ([])
+
+abbrev pub unbind_method : Unbind → Method
+unbind_method m = method 40 40 (text_item m.destination ∷ text_item m.source ∷ text_item m.routing_key ∷ flag_item m.nowait ∷ entries_item m.arguments ∷ [])
+
+abbrev pub unbind_ok_method : UnbindOk → Method
+unbind_ok_method m = method 40 51 ([])
+
+abbrev pub method_of : AMQPMethod → Method
+method_of (variant.Declare m) = declare_method m
+method_of (variant.DeclareOk m) = declare_ok_method m
+method_of (variant.Delete m) = delete_method m
+method_of (variant.DeleteOk m) = delete_ok_method m
+method_of (variant.Bind m) = bind_method m
+method_of (variant.BindOk m) = bind_ok_method m
+method_of (variant.Unbind m) = unbind_method m
+method_of (variant.UnbindOk m) = unbind_ok_method m

@@ -1,0 +1,198 @@
+//! The methods of the class exchange, 40.
+
+mod binding;
+mod declaring;
+
+ghost use Rattle.std.specs.Prelude.{◌≡◌, IfOk};
+ghost use Rattle.amqp_types.specs.Calls.{Parses, Measures, HasRoom};
+ghost use Rattle.amqp_types.specs.Writing.{Puts, Appends};
+ghost use Rattle.amqp_types.specs.Methods.{judge_method, judge_in_class, payload_bytes, payload_size};
+ghost use Rattle.amqp_topology.specs.Exchange.{method_of};
+
+use amqp_values::{
+    GenError, Identifier, NoMemory, ParserError, gen_fields, parse_id, put_fields, size_fields,
+};
+pub use binding::{
+    Bind, BindOk, Unbind, UnbindOk, gen_bind, gen_bind_ok, gen_unbind, gen_unbind_ok, parse_bind,
+    parse_bind_ok, parse_unbind, parse_unbind_ok, put_bind, put_bind_ok, put_unbind, put_unbind_ok,
+    size_bind, size_bind_ok, size_unbind, size_unbind_ok,
+};
+pub use declaring::{
+    Declare, DeclareOk, Delete, DeleteOk, gen_declare, gen_declare_ok, gen_delete, gen_delete_ok,
+    parse_declare, parse_declare_ok, parse_delete, parse_delete_ok, put_declare, put_declare_ok,
+    put_delete, put_delete_ok, size_declare, size_declare_ok, size_delete, size_delete_ok,
+};
+use std::alloc::Global;
+
+/// A method of the class.
+#[derive(Debug, Drop, PartialEq)]
+pub enum AMQPMethod {
+    /// The client declares an exchange.
+    Declare(Declare),
+
+    /// The exchange is there.
+    DeclareOk(DeclareOk),
+
+    /// The client deletes an exchange.
+    Delete(Delete),
+
+    /// The exchange is deleted.
+    DeleteOk(DeleteOk),
+
+    /// The client binds an exchange to another one.
+    Bind(Bind),
+
+    /// The exchange is bound.
+    BindOk(BindOk),
+
+    /// The client unbinds an exchange from another one.
+    Unbind(Unbind),
+
+    /// The exchange is unbound.
+    UnbindOk(UnbindOk),
+}
+
+impl AMQPMethod {
+    /// The id of the class.
+    pub fn get_amqp_class_id(&self) -> Identifier
+        ensures { result ≡ 40 }
+    {
+        40
+    }
+
+    /// The id of the method in its class.
+    pub fn get_amqp_method_id(&self) -> Identifier
+        ensures { result ≡ (method_of self.now).id }
+    {
+        match self {
+            AMQPMethod::Declare(_) => 10,
+            AMQPMethod::DeclareOk(_) => 11,
+            AMQPMethod::Delete(_) => 20,
+            AMQPMethod::DeleteOk(_) => 21,
+            AMQPMethod::Bind(_) => 30,
+            AMQPMethod::BindOk(_) => 31,
+            AMQPMethod::Unbind(_) => 40,
+            AMQPMethod::UnbindOk(_) => 51,
+        }
+    }
+
+    /// An equal method of its own.
+    pub fn copy(&self, alloc: Global) -> Result<AMQPMethod, NoMemory>
+        ensures { IfOk result (λ copied. copied ≡ self.now) }
+    {
+        match self {
+            AMQPMethod::Declare(method) => Ok(AMQPMethod::Declare(method.copy(alloc)?)),
+            AMQPMethod::DeclareOk(method) => Ok(AMQPMethod::DeclareOk(method.clone()?)),
+            AMQPMethod::Delete(method) => Ok(AMQPMethod::Delete(method.copy(alloc)?)),
+            AMQPMethod::DeleteOk(method) => Ok(AMQPMethod::DeleteOk(method.clone()?)),
+            AMQPMethod::Bind(method) => Ok(AMQPMethod::Bind(method.copy(alloc)?)),
+            AMQPMethod::BindOk(method) => Ok(AMQPMethod::BindOk(method.clone()?)),
+            AMQPMethod::Unbind(method) => Ok(AMQPMethod::Unbind(method.copy(alloc)?)),
+            AMQPMethod::UnbindOk(method) => Ok(AMQPMethod::UnbindOk(method.clone()?)),
+        }
+    }
+}
+
+/// Reads the slots of the method with this id.
+#[tactic(auto, using(amqp_types::proofs::Judged::refuses_next), unfolding(amqp_types::specs::Rows::rows_of, amqp_types::specs::Rows::slots_at, amqp_types::specs::Methods::judge_method))]
+fn parse_method(alloc: Global, id: Identifier, i: &[u8]) -> Result<(usize, AMQPMethod), ParserError>
+    ensures { Parses method_of result i.now (judge_method 40 id) }
+{
+    match id {
+        10 => {
+            let (used, method) = parse_declare(alloc, i)?;
+            Ok((used, AMQPMethod::Declare(method)))
+        }
+        11 => {
+            let (used, method) = parse_declare_ok(alloc, i)?;
+            Ok((used, AMQPMethod::DeclareOk(method)))
+        }
+        20 => {
+            let (used, method) = parse_delete(alloc, i)?;
+            Ok((used, AMQPMethod::Delete(method)))
+        }
+        21 => {
+            let (used, method) = parse_delete_ok(alloc, i)?;
+            Ok((used, AMQPMethod::DeleteOk(method)))
+        }
+        30 => {
+            let (used, method) = parse_bind(alloc, i)?;
+            Ok((used, AMQPMethod::Bind(method)))
+        }
+        31 => {
+            let (used, method) = parse_bind_ok(alloc, i)?;
+            Ok((used, AMQPMethod::BindOk(method)))
+        }
+        40 => {
+            let (used, method) = parse_unbind(alloc, i)?;
+            Ok((used, AMQPMethod::Unbind(method)))
+        }
+        51 => {
+            let (used, method) = parse_unbind_ok(alloc, i)?;
+            Ok((used, AMQPMethod::UnbindOk(method)))
+        }
+        _ => Err(ParserError::UnknownMethod),
+    }
+}
+
+/// Reads a method id and the slots of that method.
+#[tactic(auto, using(amqp_types::proofs::Judged::refuses_next), unfolding(amqp_types::specs::Rows::rows_of, amqp_types::specs::Methods::judge_in_class))]
+pub fn parse_exchange(alloc: Global, i: &[u8]) -> Result<(usize, AMQPMethod), ParserError>
+    ensures { Parses method_of result i.now (judge_in_class 40) }
+{
+    let (n, id) = parse_id(i)?;
+    let (used, method) = parse_method(alloc, id, &i[n..])?;
+    Ok((n + used, method))
+}
+
+/// The size of the class id, the method id and the slots.
+#[tactic(auto)]
+pub fn size_exchange(method: &AMQPMethod) -> Result<u64, GenError>
+    ensures { Measures result (payload_size (method_of method.now)) }
+{
+    match method {
+        AMQPMethod::Declare(method) => size_fields(&declaring::declare_fields(method)),
+        AMQPMethod::DeclareOk(method) => size_fields(&declaring::declare_ok_fields(method)),
+        AMQPMethod::Delete(method) => size_fields(&declaring::delete_fields(method)),
+        AMQPMethod::DeleteOk(method) => size_fields(&declaring::delete_ok_fields(method)),
+        AMQPMethod::Bind(method) => size_fields(&binding::bind_fields(method)),
+        AMQPMethod::BindOk(method) => size_fields(&binding::bind_ok_fields(method)),
+        AMQPMethod::Unbind(method) => size_fields(&binding::unbind_fields(method)),
+        AMQPMethod::UnbindOk(method) => size_fields(&binding::unbind_ok_fields(method)),
+    }
+}
+
+/// Puts the class id, the method id and the slots at a place of a slice, and answers the place behind.
+#[tactic(auto)]
+pub fn put_exchange(buf: &mut [u8], at: usize, method: &AMQPMethod) -> usize
+    requires { HasRoom buf.old at (payload_size (method_of method.now)) (payload_bytes (method_of method.now)) }
+    ensures { Puts buf.old buf.new at (payload_bytes (method_of method.now)) result }
+{
+    match method {
+        AMQPMethod::Declare(method) => put_fields(buf, at, &declaring::declare_fields(method)),
+        AMQPMethod::DeclareOk(method) => put_fields(buf, at, &declaring::declare_ok_fields(method)),
+        AMQPMethod::Delete(method) => put_fields(buf, at, &declaring::delete_fields(method)),
+        AMQPMethod::DeleteOk(method) => put_fields(buf, at, &declaring::delete_ok_fields(method)),
+        AMQPMethod::Bind(method) => put_fields(buf, at, &binding::bind_fields(method)),
+        AMQPMethod::BindOk(method) => put_fields(buf, at, &binding::bind_ok_fields(method)),
+        AMQPMethod::Unbind(method) => put_fields(buf, at, &binding::unbind_fields(method)),
+        AMQPMethod::UnbindOk(method) => put_fields(buf, at, &binding::unbind_ok_fields(method)),
+    }
+}
+
+/// Appends the class id, the method id and the slots to a vector.
+#[tactic(auto)]
+pub fn gen_exchange(_alloc: Global, out: &mut Vec<u8>, method: &AMQPMethod) -> Result<(), GenError>
+    ensures { Appends out.old.items out.new.items (payload_size (method_of method.now)) (payload_bytes (method_of method.now)) result }
+{
+    match method {
+        AMQPMethod::Declare(method) => gen_fields(out, &declaring::declare_fields(method)),
+        AMQPMethod::DeclareOk(method) => gen_fields(out, &declaring::declare_ok_fields(method)),
+        AMQPMethod::Delete(method) => gen_fields(out, &declaring::delete_fields(method)),
+        AMQPMethod::DeleteOk(method) => gen_fields(out, &declaring::delete_ok_fields(method)),
+        AMQPMethod::Bind(method) => gen_fields(out, &binding::bind_fields(method)),
+        AMQPMethod::BindOk(method) => gen_fields(out, &binding::bind_ok_fields(method)),
+        AMQPMethod::Unbind(method) => gen_fields(out, &binding::unbind_fields(method)),
+        AMQPMethod::UnbindOk(method) => gen_fields(out, &binding::unbind_ok_fields(method)),
+    }
+}

@@ -1,0 +1,366 @@
+//! Methods of the class exchange that bind and unbind exchanges.
+#![tactic(auto, using(amqp_types::proofs::Judged::refuses_next), unfolding(amqp_types::specs::Rows::rows_of, amqp_types::specs::Rows::slots_at, amqp_types::specs::SlotJudging::judge_slots, amqp_types::specs::Methods::judge_method, amqp_values::specs::Fields::field_bytes, amqp_values::specs::Fields::is_deep_field, amqp_values::specs::Fields::is_long_field, amqp_values::specs::Fields::fields_bytes, amqp_values::specs::Fields::any_deep_field, amqp_values::specs::Fields::any_long_field, amqp_values::specs::Fields::fields_size, amqp_types::specs::SlotBytes::form_bytes, amqp_types::specs::SlotBytes::slots_bytes, amqp_types::specs::SlotBytes::items_size, amqp_types::specs::Methods::method_bytes, amqp_types::specs::Methods::method_size, amqp_types::specs::Methods::payload_bytes, amqp_types::specs::Methods::payload_size))]
+
+ghost use Rattle.std.specs.Prelude.{◌≡◌, ◌∷◌, [], false, IfOk};
+ghost use Rattle.amqp_types.specs.Slots.{flag_item, text_item, entries_item};
+ghost use Rattle.amqp_types.specs.Calls.{Parses, NeedsNoMemory, Measures, HasRoom};
+ghost use Rattle.amqp_types.specs.Writing.{Puts, Appends};
+ghost use Rattle.amqp_types.specs.Methods.{method, judge_method, method_bytes, method_size};
+ghost use Rattle.amqp_values.specs.MethodFields.{ListsMethod};
+ghost use Rattle.amqp_topology.specs.Exchange.{bind_method, bind_ok_method, unbind_method, unbind_ok_method};
+
+use amqp_values::{
+    Boolean, Field, FieldTable, GenError, Identifier, NoMemory, ParserError, ShortString,
+    SlotReader, byte_of_flags, flag_of_byte, gen_fields, put_fields, size_fields,
+};
+use std::alloc::Global;
+
+/// The client binds an exchange to another one.
+#[derive(Debug, Drop, PartialEq)]
+pub struct Bind {
+    pub destination: ShortString,
+    pub source: ShortString,
+    pub routing_key: ShortString,
+    pub nowait: Boolean,
+    pub arguments: FieldTable,
+}
+
+impl Bind {
+    /// The id of the class.
+    pub fn get_amqp_class_id(&self) -> Identifier
+        ensures { result ≡ 40 }
+    {
+        40
+    }
+
+    /// The id of the method in its class.
+    pub fn get_amqp_method_id(&self) -> Identifier
+        ensures { result ≡ 30 }
+    {
+        30
+    }
+
+    /// The method whose fields are empty, zero and false.
+    pub fn empty(alloc: Global) -> Bind
+        ensures { bind_method result ≡ method 40 30 (text_item [] ∷ text_item [] ∷ text_item [] ∷ flag_item false ∷ entries_item [] ∷ []) }
+    {
+        Bind {
+            destination: ShortString::empty(alloc),
+            source: ShortString::empty(alloc),
+            routing_key: ShortString::empty(alloc),
+            nowait: false,
+            arguments: FieldTable::new(alloc),
+        }
+    }
+
+    /// An equal method of its own.
+    pub fn copy(&self, alloc: Global) -> Result<Bind, NoMemory>
+        ensures { IfOk result (λ copied. copied ≡ self.now) }
+    {
+        Ok(Bind {
+            destination: self.destination.copy(alloc)?,
+            source: self.source.copy(alloc)?,
+            routing_key: self.routing_key.copy(alloc)?,
+            nowait: self.nowait,
+            arguments: self.arguments.copy(alloc)?,
+        })
+    }
+}
+
+/// Reads the slots of `Bind`.
+pub fn parse_bind(alloc: Global, i: &[u8]) -> Result<(usize, Bind), ParserError>
+    ensures { Parses bind_method result i.now (judge_method 40 30) }
+{
+    let mut slots = SlotReader::new(i);
+    slots.skip_short_uint()?;
+    let destination = slots.short_string(alloc)?;
+    let source = slots.short_string(alloc)?;
+    let routing_key = slots.short_string(alloc)?;
+    let flags = slots.flags::<1>()?;
+    let arguments = slots.table(alloc)?;
+    let method = Bind {
+        destination,
+        source,
+        routing_key,
+        nowait: flag_of_byte(flags, 0),
+        arguments,
+    };
+    Ok((i.len() - slots.rest.len(), method))
+}
+
+/// Its ids and slots, in order.
+pub(super) fn bind_fields(method: &Bind) -> [Field<'_>; 8]
+    ensures { ListsMethod result (bind_method method.now) }
+{
+    [
+        Field::ShortUInt(40),
+        Field::ShortUInt(30),
+        Field::ShortUInt(0), // reserved
+        Field::ShortString(&method.destination),
+        Field::ShortString(&method.source),
+        Field::ShortString(&method.routing_key),
+        Field::Flags(byte_of_flags(&[method.nowait])),
+        Field::Table(&method.arguments),
+    ]
+}
+
+/// The size of the method id and the slots of `Bind`.
+#[tactic(auto)]
+pub fn size_bind(method: &Bind) -> Result<u64, GenError>
+    ensures { Measures result (method_size (bind_method method.now)) }
+{
+    size_fields(&bind_fields(method)[1..])
+}
+
+/// Puts the method id and the slots of `Bind` at a place of a slice, and answers the place behind.
+#[tactic(auto)]
+pub fn put_bind(buf: &mut [u8], at: usize, method: &Bind) -> usize
+    requires { HasRoom buf.old at (method_size (bind_method method.now)) (method_bytes (bind_method method.now)) }
+    ensures { Puts buf.old buf.new at (method_bytes (bind_method method.now)) result }
+{
+    put_fields(buf, at, &bind_fields(method)[1..])
+}
+
+/// Appends the method id and the slots of `Bind` to a vector.
+#[tactic(auto)]
+pub fn gen_bind(_alloc: Global, out: &mut Vec<u8>, method: &Bind) -> Result<(), GenError>
+    ensures { Appends out.old.items out.new.items (method_size (bind_method method.now)) (method_bytes (bind_method method.now)) result }
+{
+    gen_fields(out, &bind_fields(method)[1..])
+}
+
+/// The exchange is bound.
+#[derive(Clone, Default, Debug, Drop, PartialEq)]
+pub struct BindOk {}
+
+impl BindOk {
+    /// The id of the class.
+    pub fn get_amqp_class_id(&self) -> Identifier
+        ensures { result ≡ 40 }
+    {
+        40
+    }
+
+    /// The id of the method in its class.
+    pub fn get_amqp_method_id(&self) -> Identifier
+        ensures { result ≡ 31 }
+    {
+        31
+    }
+}
+
+/// Reads the slots of `BindOk`.
+pub fn parse_bind_ok(_alloc: Global, i: &[u8]) -> Result<(usize, BindOk), ParserError>
+    ensures parsed { Parses bind_ok_method result i.now (judge_method 40 31) }
+    ensures memory { NeedsNoMemory result }
+{
+    let slots = SlotReader::new(i);
+    Ok((i.len() - slots.rest.len(), BindOk {}))
+}
+
+/// Its ids and slots, in order.
+pub(super) fn bind_ok_fields(_method: &BindOk) -> [Field<'_>; 2]
+    ensures { ListsMethod result (bind_ok_method _method.now) }
+{
+    [Field::ShortUInt(40), Field::ShortUInt(31)]
+}
+
+/// The size of the method id and the slots of `BindOk`.
+#[tactic(auto)]
+pub fn size_bind_ok(method: &BindOk) -> Result<u64, GenError>
+    ensures { Measures result (method_size (bind_ok_method method.now)) }
+{
+    size_fields(&bind_ok_fields(method)[1..])
+}
+
+/// Puts the method id and the slots of `BindOk` at a place of a slice, and answers the place behind.
+#[tactic(auto)]
+pub fn put_bind_ok(buf: &mut [u8], at: usize, method: &BindOk) -> usize
+    requires { HasRoom buf.old at (method_size (bind_ok_method method.now)) (method_bytes (bind_ok_method method.now)) }
+    ensures { Puts buf.old buf.new at (method_bytes (bind_ok_method method.now)) result }
+{
+    put_fields(buf, at, &bind_ok_fields(method)[1..])
+}
+
+/// Appends the method id and the slots of `BindOk` to a vector.
+#[tactic(auto)]
+pub fn gen_bind_ok(_alloc: Global, out: &mut Vec<u8>, method: &BindOk) -> Result<(), GenError>
+    ensures { Appends out.old.items out.new.items (method_size (bind_ok_method method.now)) (method_bytes (bind_ok_method method.now)) result }
+{
+    gen_fields(out, &bind_ok_fields(method)[1..])
+}
+
+/// The client unbinds an exchange from another one.
+#[derive(Debug, Drop, PartialEq)]
+pub struct Unbind {
+    pub destination: ShortString,
+    pub source: ShortString,
+    pub routing_key: ShortString,
+    pub nowait: Boolean,
+    pub arguments: FieldTable,
+}
+
+impl Unbind {
+    /// The id of the class.
+    pub fn get_amqp_class_id(&self) -> Identifier
+        ensures { result ≡ 40 }
+    {
+        40
+    }
+
+    /// The id of the method in its class.
+    pub fn get_amqp_method_id(&self) -> Identifier
+        ensures { result ≡ 40 }
+    {
+        40
+    }
+
+    /// The method whose fields are empty, zero and false.
+    pub fn empty(alloc: Global) -> Unbind
+        ensures { unbind_method result ≡ method 40 40 (text_item [] ∷ text_item [] ∷ text_item [] ∷ flag_item false ∷ entries_item [] ∷ []) }
+    {
+        Unbind {
+            destination: ShortString::empty(alloc),
+            source: ShortString::empty(alloc),
+            routing_key: ShortString::empty(alloc),
+            nowait: false,
+            arguments: FieldTable::new(alloc),
+        }
+    }
+
+    /// An equal method of its own.
+    pub fn copy(&self, alloc: Global) -> Result<Unbind, NoMemory>
+        ensures { IfOk result (λ copied. copied ≡ self.now) }
+    {
+        Ok(Unbind {
+            destination: self.destination.copy(alloc)?,
+            source: self.source.copy(alloc)?,
+            routing_key: self.routing_key.copy(alloc)?,
+            nowait: self.nowait,
+            arguments: self.arguments.copy(alloc)?,
+        })
+    }
+}
+
+/// Reads the slots of `Unbind`.
+pub fn parse_unbind(alloc: Global, i: &[u8]) -> Result<(usize, Unbind), ParserError>
+    ensures { Parses unbind_method result i.now (judge_method 40 40) }
+{
+    let mut slots = SlotReader::new(i);
+    slots.skip_short_uint()?;
+    let destination = slots.short_string(alloc)?;
+    let source = slots.short_string(alloc)?;
+    let routing_key = slots.short_string(alloc)?;
+    let flags = slots.flags::<1>()?;
+    let arguments = slots.table(alloc)?;
+    let method = Unbind {
+        destination,
+        source,
+        routing_key,
+        nowait: flag_of_byte(flags, 0),
+        arguments,
+    };
+    Ok((i.len() - slots.rest.len(), method))
+}
+
+/// Its ids and slots, in order.
+pub(super) fn unbind_fields(method: &Unbind) -> [Field<'_>; 8]
+    ensures { ListsMethod result (unbind_method method.now) }
+{
+    [
+        Field::ShortUInt(40),
+        Field::ShortUInt(40),
+        Field::ShortUInt(0), // reserved
+        Field::ShortString(&method.destination),
+        Field::ShortString(&method.source),
+        Field::ShortString(&method.routing_key),
+        Field::Flags(byte_of_flags(&[method.nowait])),
+        Field::Table(&method.arguments),
+    ]
+}
+
+/// The size of the method id and the slots of `Unbind`.
+#[tactic(auto)]
+pub fn size_unbind(method: &Unbind) -> Result<u64, GenError>
+    ensures { Measures result (method_size (unbind_method method.now)) }
+{
+    size_fields(&unbind_fields(method)[1..])
+}
+
+/// Puts the method id and the slots of `Unbind` at a place of a slice, and answers the place behind.
+#[tactic(auto)]
+pub fn put_unbind(buf: &mut [u8], at: usize, method: &Unbind) -> usize
+    requires { HasRoom buf.old at (method_size (unbind_method method.now)) (method_bytes (unbind_method method.now)) }
+    ensures { Puts buf.old buf.new at (method_bytes (unbind_method method.now)) result }
+{
+    put_fields(buf, at, &unbind_fields(method)[1..])
+}
+
+/// Appends the method id and the slots of `Unbind` to a vector.
+#[tactic(auto)]
+pub fn gen_unbind(_alloc: Global, out: &mut Vec<u8>, method: &Unbind) -> Result<(), GenError>
+    ensures { Appends out.old.items out.new.items (method_size (unbind_method method.now)) (method_bytes (unbind_method method.now)) result }
+{
+    gen_fields(out, &unbind_fields(method)[1..])
+}
+
+/// The exchange is unbound.
+#[derive(Clone, Default, Debug, Drop, PartialEq)]
+pub struct UnbindOk {}
+
+impl UnbindOk {
+    /// The id of the class.
+    pub fn get_amqp_class_id(&self) -> Identifier
+        ensures { result ≡ 40 }
+    {
+        40
+    }
+
+    /// The id of the method in its class.
+    pub fn get_amqp_method_id(&self) -> Identifier
+        ensures { result ≡ 51 }
+    {
+        51
+    }
+}
+
+/// Reads the slots of `UnbindOk`.
+pub fn parse_unbind_ok(_alloc: Global, i: &[u8]) -> Result<(usize, UnbindOk), ParserError>
+    ensures parsed { Parses unbind_ok_method result i.now (judge_method 40 51) }
+    ensures memory { NeedsNoMemory result }
+{
+    let slots = SlotReader::new(i);
+    Ok((i.len() - slots.rest.len(), UnbindOk {}))
+}
+
+/// Its ids and slots, in order.
+pub(super) fn unbind_ok_fields(_method: &UnbindOk) -> [Field<'_>; 2]
+    ensures { ListsMethod result (unbind_ok_method _method.now) }
+{
+    [Field::ShortUInt(40), Field::ShortUInt(51)]
+}
+
+/// The size of the method id and the slots of `UnbindOk`.
+#[tactic(auto)]
+pub fn size_unbind_ok(method: &UnbindOk) -> Result<u64, GenError>
+    ensures { Measures result (method_size (unbind_ok_method method.now)) }
+{
+    size_fields(&unbind_ok_fields(method)[1..])
+}
+
+/// Puts the method id and the slots of `UnbindOk` at a place of a slice, and answers the place behind.
+#[tactic(auto)]
+pub fn put_unbind_ok(buf: &mut [u8], at: usize, method: &UnbindOk) -> usize
+    requires { HasRoom buf.old at (method_size (unbind_ok_method method.now)) (method_bytes (unbind_ok_method method.now)) }
+    ensures { Puts buf.old buf.new at (method_bytes (unbind_ok_method method.now)) result }
+{
+    put_fields(buf, at, &unbind_ok_fields(method)[1..])
+}
+
+/// Appends the method id and the slots of `UnbindOk` to a vector.
+#[tactic(auto)]
+pub fn gen_unbind_ok(_alloc: Global, out: &mut Vec<u8>, method: &UnbindOk) -> Result<(), GenError>
+    ensures { Appends out.old.items out.new.items (method_size (unbind_ok_method method.now)) (method_bytes (unbind_ok_method method.now)) result }
+{
+    gen_fields(out, &unbind_ok_fields(method)[1..])
+}

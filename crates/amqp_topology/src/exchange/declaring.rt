@@ -1,0 +1,368 @@
+//! Methods of the class exchange that declare and delete exchanges.
+#![tactic(auto, using(amqp_types::proofs::Judged::refuses_next), unfolding(amqp_types::specs::Rows::rows_of, amqp_types::specs::Rows::slots_at, amqp_types::specs::SlotJudging::judge_slots, amqp_types::specs::Methods::judge_method, amqp_values::specs::Fields::field_bytes, amqp_values::specs::Fields::is_deep_field, amqp_values::specs::Fields::is_long_field, amqp_values::specs::Fields::fields_bytes, amqp_values::specs::Fields::any_deep_field, amqp_values::specs::Fields::any_long_field, amqp_values::specs::Fields::fields_size, amqp_types::specs::SlotBytes::form_bytes, amqp_types::specs::SlotBytes::slots_bytes, amqp_types::specs::SlotBytes::items_size, amqp_types::specs::Methods::method_bytes, amqp_types::specs::Methods::method_size, amqp_types::specs::Methods::payload_bytes, amqp_types::specs::Methods::payload_size))]
+
+ghost use Rattle.std.specs.Prelude.{◌≡◌, ◌∷◌, [], false, IfOk};
+ghost use Rattle.amqp_types.specs.Slots.{flag_item, text_item, entries_item};
+ghost use Rattle.amqp_types.specs.Calls.{Parses, NeedsNoMemory, Measures, HasRoom};
+ghost use Rattle.amqp_types.specs.Writing.{Puts, Appends};
+ghost use Rattle.amqp_types.specs.Methods.{method, judge_method, method_bytes, method_size};
+ghost use Rattle.amqp_values.specs.MethodFields.{ListsMethod};
+ghost use Rattle.amqp_topology.specs.Exchange.{declare_method, declare_ok_method, delete_method, delete_ok_method};
+
+use amqp_values::{
+    Boolean, Field, FieldTable, GenError, Identifier, NoMemory, ParserError, ShortString,
+    SlotReader, byte_of_flags, flag_of_byte, gen_fields, put_fields, size_fields,
+};
+use std::alloc::Global;
+
+/// The client declares an exchange.
+#[derive(Debug, Drop, PartialEq)]
+pub struct Declare {
+    pub exchange: ShortString,
+    pub kind: ShortString,
+    pub passive: Boolean,
+    pub durable: Boolean,
+    pub auto_delete: Boolean,
+    pub internal: Boolean,
+    pub nowait: Boolean,
+    pub arguments: FieldTable,
+}
+
+impl Declare {
+    /// The id of the class.
+    pub fn get_amqp_class_id(&self) -> Identifier
+        ensures { result ≡ 40 }
+    {
+        40
+    }
+
+    /// The id of the method in its class.
+    pub fn get_amqp_method_id(&self) -> Identifier
+        ensures { result ≡ 10 }
+    {
+        10
+    }
+
+    /// The method whose fields are empty, zero and false.
+    pub fn empty(alloc: Global) -> Declare
+        ensures { declare_method result ≡ method 40 10 (text_item [] ∷ text_item [] ∷ flag_item false ∷ flag_item false ∷ flag_item false ∷ flag_item false ∷ flag_item false ∷ entries_item [] ∷ []) }
+    {
+        Declare {
+            exchange: ShortString::empty(alloc),
+            kind: ShortString::empty(alloc),
+            passive: false,
+            durable: false,
+            auto_delete: false,
+            internal: false,
+            nowait: false,
+            arguments: FieldTable::new(alloc),
+        }
+    }
+
+    /// An equal method of its own.
+    pub fn copy(&self, alloc: Global) -> Result<Declare, NoMemory>
+        ensures { IfOk result (λ copied. copied ≡ self.now) }
+    {
+        Ok(Declare {
+            exchange: self.exchange.copy(alloc)?,
+            kind: self.kind.copy(alloc)?,
+            passive: self.passive,
+            durable: self.durable,
+            auto_delete: self.auto_delete,
+            internal: self.internal,
+            nowait: self.nowait,
+            arguments: self.arguments.copy(alloc)?,
+        })
+    }
+}
+
+/// Reads the slots of `Declare`.
+pub fn parse_declare(alloc: Global, i: &[u8]) -> Result<(usize, Declare), ParserError>
+    ensures { Parses declare_method result i.now (judge_method 40 10) }
+{
+    let mut slots = SlotReader::new(i);
+    slots.skip_short_uint()?;
+    let exchange = slots.short_string(alloc)?;
+    let kind = slots.short_string(alloc)?;
+    let flags = slots.flags::<5>()?;
+    let arguments = slots.table(alloc)?;
+    let method = Declare {
+        exchange,
+        kind,
+        passive: flag_of_byte(flags, 0),
+        durable: flag_of_byte(flags, 1),
+        auto_delete: flag_of_byte(flags, 2),
+        internal: flag_of_byte(flags, 3),
+        nowait: flag_of_byte(flags, 4),
+        arguments,
+    };
+    Ok((i.len() - slots.rest.len(), method))
+}
+
+/// Its ids and slots, in order.
+pub(super) fn declare_fields(method: &Declare) -> [Field<'_>; 7]
+    ensures { ListsMethod result (declare_method method.now) }
+{
+    [
+        Field::ShortUInt(40),
+        Field::ShortUInt(10),
+        Field::ShortUInt(0), // reserved
+        Field::ShortString(&method.exchange),
+        Field::ShortString(&method.kind),
+        Field::Flags(byte_of_flags(&[
+            method.passive,
+            method.durable,
+            method.auto_delete,
+            method.internal,
+            method.nowait,
+        ])),
+        Field::Table(&method.arguments),
+    ]
+}
+
+/// The size of the method id and the slots of `Declare`.
+#[tactic(auto)]
+pub fn size_declare(method: &Declare) -> Result<u64, GenError>
+    ensures { Measures result (method_size (declare_method method.now)) }
+{
+    size_fields(&declare_fields(method)[1..])
+}
+
+/// Puts the method id and the slots of `Declare` at a place of a slice, and answers the place behind.
+#[tactic(auto)]
+pub fn put_declare(buf: &mut [u8], at: usize, method: &Declare) -> usize
+    requires { HasRoom buf.old at (method_size (declare_method method.now)) (method_bytes (declare_method method.now)) }
+    ensures { Puts buf.old buf.new at (method_bytes (declare_method method.now)) result }
+{
+    put_fields(buf, at, &declare_fields(method)[1..])
+}
+
+/// Appends the method id and the slots of `Declare` to a vector.
+#[tactic(auto)]
+pub fn gen_declare(_alloc: Global, out: &mut Vec<u8>, method: &Declare) -> Result<(), GenError>
+    ensures { Appends out.old.items out.new.items (method_size (declare_method method.now)) (method_bytes (declare_method method.now)) result }
+{
+    gen_fields(out, &declare_fields(method)[1..])
+}
+
+/// The exchange is there.
+#[derive(Clone, Default, Debug, Drop, PartialEq)]
+pub struct DeclareOk {}
+
+impl DeclareOk {
+    /// The id of the class.
+    pub fn get_amqp_class_id(&self) -> Identifier
+        ensures { result ≡ 40 }
+    {
+        40
+    }
+
+    /// The id of the method in its class.
+    pub fn get_amqp_method_id(&self) -> Identifier
+        ensures { result ≡ 11 }
+    {
+        11
+    }
+}
+
+/// Reads the slots of `DeclareOk`.
+pub fn parse_declare_ok(_alloc: Global, i: &[u8]) -> Result<(usize, DeclareOk), ParserError>
+    ensures parsed { Parses declare_ok_method result i.now (judge_method 40 11) }
+    ensures memory { NeedsNoMemory result }
+{
+    let slots = SlotReader::new(i);
+    Ok((i.len() - slots.rest.len(), DeclareOk {}))
+}
+
+/// Its ids and slots, in order.
+pub(super) fn declare_ok_fields(_method: &DeclareOk) -> [Field<'_>; 2]
+    ensures { ListsMethod result (declare_ok_method _method.now) }
+{
+    [Field::ShortUInt(40), Field::ShortUInt(11)]
+}
+
+/// The size of the method id and the slots of `DeclareOk`.
+#[tactic(auto)]
+pub fn size_declare_ok(method: &DeclareOk) -> Result<u64, GenError>
+    ensures { Measures result (method_size (declare_ok_method method.now)) }
+{
+    size_fields(&declare_ok_fields(method)[1..])
+}
+
+/// Puts the method id and the slots of `DeclareOk` at a place of a slice, and answers the place behind.
+#[tactic(auto)]
+pub fn put_declare_ok(buf: &mut [u8], at: usize, method: &DeclareOk) -> usize
+    requires { HasRoom buf.old at (method_size (declare_ok_method method.now)) (method_bytes (declare_ok_method method.now)) }
+    ensures { Puts buf.old buf.new at (method_bytes (declare_ok_method method.now)) result }
+{
+    put_fields(buf, at, &declare_ok_fields(method)[1..])
+}
+
+/// Appends the method id and the slots of `DeclareOk` to a vector.
+#[tactic(auto)]
+pub fn gen_declare_ok(_alloc: Global, out: &mut Vec<u8>, method: &DeclareOk) -> Result<(), GenError>
+    ensures { Appends out.old.items out.new.items (method_size (declare_ok_method method.now)) (method_bytes (declare_ok_method method.now)) result }
+{
+    gen_fields(out, &declare_ok_fields(method)[1..])
+}
+
+/// The client deletes an exchange.
+#[derive(Debug, Drop, PartialEq)]
+pub struct Delete {
+    pub exchange: ShortString,
+    pub if_unused: Boolean,
+    pub nowait: Boolean,
+}
+
+impl Delete {
+    /// The id of the class.
+    pub fn get_amqp_class_id(&self) -> Identifier
+        ensures { result ≡ 40 }
+    {
+        40
+    }
+
+    /// The id of the method in its class.
+    pub fn get_amqp_method_id(&self) -> Identifier
+        ensures { result ≡ 20 }
+    {
+        20
+    }
+
+    /// The method whose fields are empty, zero and false.
+    pub fn empty(alloc: Global) -> Delete
+        ensures { delete_method result ≡ method 40 20 (text_item [] ∷ flag_item false ∷ flag_item false ∷ []) }
+    {
+        Delete {
+            exchange: ShortString::empty(alloc),
+            if_unused: false,
+            nowait: false,
+        }
+    }
+
+    /// An equal method of its own.
+    pub fn copy(&self, alloc: Global) -> Result<Delete, NoMemory>
+        ensures { IfOk result (λ copied. copied ≡ self.now) }
+    {
+        Ok(Delete {
+            exchange: self.exchange.copy(alloc)?,
+            if_unused: self.if_unused,
+            nowait: self.nowait,
+        })
+    }
+}
+
+/// Reads the slots of `Delete`.
+pub fn parse_delete(alloc: Global, i: &[u8]) -> Result<(usize, Delete), ParserError>
+    ensures { Parses delete_method result i.now (judge_method 40 20) }
+{
+    let mut slots = SlotReader::new(i);
+    slots.skip_short_uint()?;
+    let exchange = slots.short_string(alloc)?;
+    let flags = slots.flags::<2>()?;
+    let method = Delete {
+        exchange,
+        if_unused: flag_of_byte(flags, 0),
+        nowait: flag_of_byte(flags, 1),
+    };
+    Ok((i.len() - slots.rest.len(), method))
+}
+
+/// Its ids and slots, in order.
+pub(super) fn delete_fields(method: &Delete) -> [Field<'_>; 5]
+    ensures { ListsMethod result (delete_method method.now) }
+{
+    [
+        Field::ShortUInt(40),
+        Field::ShortUInt(20),
+        Field::ShortUInt(0), // reserved
+        Field::ShortString(&method.exchange),
+        Field::Flags(byte_of_flags(&[method.if_unused, method.nowait])),
+    ]
+}
+
+/// The size of the method id and the slots of `Delete`.
+#[tactic(auto)]
+pub fn size_delete(method: &Delete) -> Result<u64, GenError>
+    ensures { Measures result (method_size (delete_method method.now)) }
+{
+    size_fields(&delete_fields(method)[1..])
+}
+
+/// Puts the method id and the slots of `Delete` at a place of a slice, and answers the place behind.
+#[tactic(auto)]
+pub fn put_delete(buf: &mut [u8], at: usize, method: &Delete) -> usize
+    requires { HasRoom buf.old at (method_size (delete_method method.now)) (method_bytes (delete_method method.now)) }
+    ensures { Puts buf.old buf.new at (method_bytes (delete_method method.now)) result }
+{
+    put_fields(buf, at, &delete_fields(method)[1..])
+}
+
+/// Appends the method id and the slots of `Delete` to a vector.
+#[tactic(auto)]
+pub fn gen_delete(_alloc: Global, out: &mut Vec<u8>, method: &Delete) -> Result<(), GenError>
+    ensures { Appends out.old.items out.new.items (method_size (delete_method method.now)) (method_bytes (delete_method method.now)) result }
+{
+    gen_fields(out, &delete_fields(method)[1..])
+}
+
+/// The exchange is deleted.
+#[derive(Clone, Default, Debug, Drop, PartialEq)]
+pub struct DeleteOk {}
+
+impl DeleteOk {
+    /// The id of the class.
+    pub fn get_amqp_class_id(&self) -> Identifier
+        ensures { result ≡ 40 }
+    {
+        40
+    }
+
+    /// The id of the method in its class.
+    pub fn get_amqp_method_id(&self) -> Identifier
+        ensures { result ≡ 21 }
+    {
+        21
+    }
+}
+
+/// Reads the slots of `DeleteOk`.
+pub fn parse_delete_ok(_alloc: Global, i: &[u8]) -> Result<(usize, DeleteOk), ParserError>
+    ensures parsed { Parses delete_ok_method result i.now (judge_method 40 21) }
+    ensures memory { NeedsNoMemory result }
+{
+    let slots = SlotReader::new(i);
+    Ok((i.len() - slots.rest.len(), DeleteOk {}))
+}
+
+/// Its ids and slots, in order.
+pub(super) fn delete_ok_fields(_method: &DeleteOk) -> [Field<'_>; 2]
+    ensures { ListsMethod result (delete_ok_method _method.now) }
+{
+    [Field::ShortUInt(40), Field::ShortUInt(21)]
+}
+
+/// The size of the method id and the slots of `DeleteOk`.
+#[tactic(auto)]
+pub fn size_delete_ok(method: &DeleteOk) -> Result<u64, GenError>
+    ensures { Measures result (method_size (delete_ok_method method.now)) }
+{
+    size_fields(&delete_ok_fields(method)[1..])
+}
+
+/// Puts the method id and the slots of `DeleteOk` at a place of a slice, and answers the place behind.
+#[tactic(auto)]
+pub fn put_delete_ok(buf: &mut [u8], at: usize, method: &DeleteOk) -> usize
+    requires { HasRoom buf.old at (method_size (delete_ok_method method.now)) (method_bytes (delete_ok_method method.now)) }
+    ensures { Puts buf.old buf.new at (method_bytes (delete_ok_method method.now)) result }
+{
+    put_fields(buf, at, &delete_ok_fields(method)[1..])
+}
+
+/// Appends the method id and the slots of `DeleteOk` to a vector.
+#[tactic(auto)]
+pub fn gen_delete_ok(_alloc: Global, out: &mut Vec<u8>, method: &DeleteOk) -> Result<(), GenError>
+    ensures { Appends out.old.items out.new.items (method_size (delete_ok_method method.now)) (method_bytes (delete_ok_method method.now)) result }
+{
+    gen_fields(out, &delete_ok_fields(method)[1..])
+}

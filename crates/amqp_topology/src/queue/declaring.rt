@@ -1,0 +1,578 @@
+//! Methods of the class queue that declare, empty and delete queues.
+#![tactic(auto, using(amqp_types::proofs::Judged::refuses_next), unfolding(amqp_types::specs::Rows::rows_of, amqp_types::specs::Rows::slots_at, amqp_types::specs::SlotJudging::judge_slots, amqp_types::specs::Methods::judge_method, amqp_values::specs::Fields::field_bytes, amqp_values::specs::Fields::is_deep_field, amqp_values::specs::Fields::is_long_field, amqp_values::specs::Fields::fields_bytes, amqp_values::specs::Fields::any_deep_field, amqp_values::specs::Fields::any_long_field, amqp_values::specs::Fields::fields_size, amqp_types::specs::SlotBytes::form_bytes, amqp_types::specs::SlotBytes::slots_bytes, amqp_types::specs::SlotBytes::items_size, amqp_types::specs::Methods::method_bytes, amqp_types::specs::Methods::method_size, amqp_types::specs::Methods::payload_bytes, amqp_types::specs::Methods::payload_size))]
+
+ghost use Rattle.std.specs.Prelude.{◌≡◌, ◌∷◌, [], false, IfOk};
+ghost use Rattle.amqp_types.specs.Slots.{number_item, flag_item, text_item, entries_item};
+ghost use Rattle.amqp_types.specs.Calls.{Parses, NeedsNoMemory, Measures, HasRoom};
+ghost use Rattle.amqp_types.specs.Writing.{Puts, Appends};
+ghost use Rattle.amqp_types.specs.Methods.{method, judge_method, method_bytes, method_size};
+ghost use Rattle.amqp_values.specs.MethodFields.{ListsMethod};
+ghost use Rattle.amqp_topology.specs.Queue.{declare_method, declare_ok_method, purge_method, purge_ok_method, delete_method, delete_ok_method};
+
+use amqp_values::{
+    Boolean, Field, FieldTable, GenError, Identifier, LongUInt, NoMemory, ParserError, ShortString,
+    SlotReader, byte_of_flags, flag_of_byte, gen_fields, put_fields, size_fields,
+};
+use std::alloc::Global;
+
+/// The client declares a queue.
+#[derive(Debug, Drop, PartialEq)]
+pub struct Declare {
+    pub queue: ShortString,
+    pub passive: Boolean,
+    pub durable: Boolean,
+    pub exclusive: Boolean,
+    pub auto_delete: Boolean,
+    pub nowait: Boolean,
+    pub arguments: FieldTable,
+}
+
+impl Declare {
+    /// The id of the class.
+    pub fn get_amqp_class_id(&self) -> Identifier
+        ensures { result ≡ 50 }
+    {
+        50
+    }
+
+    /// The id of the method in its class.
+    pub fn get_amqp_method_id(&self) -> Identifier
+        ensures { result ≡ 10 }
+    {
+        10
+    }
+
+    /// The method whose fields are empty, zero and false.
+    pub fn empty(alloc: Global) -> Declare
+        ensures { declare_method result ≡ method 50 10 (text_item [] ∷ flag_item false ∷ flag_item false ∷ flag_item false ∷ flag_item false ∷ flag_item false ∷ entries_item [] ∷ []) }
+    {
+        Declare {
+            queue: ShortString::empty(alloc),
+            passive: false,
+            durable: false,
+            exclusive: false,
+            auto_delete: false,
+            nowait: false,
+            arguments: FieldTable::new(alloc),
+        }
+    }
+
+    /// An equal method of its own.
+    pub fn copy(&self, alloc: Global) -> Result<Declare, NoMemory>
+        ensures { IfOk result (λ copied. copied ≡ self.now) }
+    {
+        Ok(Declare {
+            queue: self.queue.copy(alloc)?,
+            passive: self.passive,
+            durable: self.durable,
+            exclusive: self.exclusive,
+            auto_delete: self.auto_delete,
+            nowait: self.nowait,
+            arguments: self.arguments.copy(alloc)?,
+        })
+    }
+}
+
+/// Reads the slots of `Declare`.
+pub fn parse_declare(alloc: Global, i: &[u8]) -> Result<(usize, Declare), ParserError>
+    ensures { Parses declare_method result i.now (judge_method 50 10) }
+{
+    let mut slots = SlotReader::new(i);
+    slots.skip_short_uint()?;
+    let queue = slots.short_string(alloc)?;
+    let flags = slots.flags::<5>()?;
+    let arguments = slots.table(alloc)?;
+    let method = Declare {
+        queue,
+        passive: flag_of_byte(flags, 0),
+        durable: flag_of_byte(flags, 1),
+        exclusive: flag_of_byte(flags, 2),
+        auto_delete: flag_of_byte(flags, 3),
+        nowait: flag_of_byte(flags, 4),
+        arguments,
+    };
+    Ok((i.len() - slots.rest.len(), method))
+}
+
+/// Its ids and slots, in order.
+pub(super) fn declare_fields(method: &Declare) -> [Field<'_>; 6]
+    ensures { ListsMethod result (declare_method method.now) }
+{
+    [
+        Field::ShortUInt(50),
+        Field::ShortUInt(10),
+        Field::ShortUInt(0), // reserved
+        Field::ShortString(&method.queue),
+        Field::Flags(byte_of_flags(&[
+            method.passive,
+            method.durable,
+            method.exclusive,
+            method.auto_delete,
+            method.nowait,
+        ])),
+        Field::Table(&method.arguments),
+    ]
+}
+
+/// The size of the method id and the slots of `Declare`.
+#[tactic(auto)]
+pub fn size_declare(method: &Declare) -> Result<u64, GenError>
+    ensures { Measures result (method_size (declare_method method.now)) }
+{
+    size_fields(&declare_fields(method)[1..])
+}
+
+/// Puts the method id and the slots of `Declare` at a place of a slice, and answers the place behind.
+#[tactic(auto)]
+pub fn put_declare(buf: &mut [u8], at: usize, method: &Declare) -> usize
+    requires { HasRoom buf.old at (method_size (declare_method method.now)) (method_bytes (declare_method method.now)) }
+    ensures { Puts buf.old buf.new at (method_bytes (declare_method method.now)) result }
+{
+    put_fields(buf, at, &declare_fields(method)[1..])
+}
+
+/// Appends the method id and the slots of `Declare` to a vector.
+#[tactic(auto)]
+pub fn gen_declare(_alloc: Global, out: &mut Vec<u8>, method: &Declare) -> Result<(), GenError>
+    ensures { Appends out.old.items out.new.items (method_size (declare_method method.now)) (method_bytes (declare_method method.now)) result }
+{
+    gen_fields(out, &declare_fields(method)[1..])
+}
+
+/// The queue is there.
+#[derive(Debug, Drop, PartialEq)]
+pub struct DeclareOk {
+    pub queue: ShortString,
+    pub message_count: LongUInt,
+    pub consumer_count: LongUInt,
+}
+
+impl DeclareOk {
+    /// The id of the class.
+    pub fn get_amqp_class_id(&self) -> Identifier
+        ensures { result ≡ 50 }
+    {
+        50
+    }
+
+    /// The id of the method in its class.
+    pub fn get_amqp_method_id(&self) -> Identifier
+        ensures { result ≡ 11 }
+    {
+        11
+    }
+
+    /// The method whose fields are empty, zero and false.
+    pub fn empty(alloc: Global) -> DeclareOk
+        ensures { declare_ok_method result ≡ method 50 11 (text_item [] ∷ number_item 0 ∷ number_item 0 ∷ []) }
+    {
+        DeclareOk {
+            queue: ShortString::empty(alloc),
+            message_count: 0,
+            consumer_count: 0,
+        }
+    }
+
+    /// An equal method of its own.
+    pub fn copy(&self, alloc: Global) -> Result<DeclareOk, NoMemory>
+        ensures { IfOk result (λ copied. copied ≡ self.now) }
+    {
+        Ok(DeclareOk {
+            queue: self.queue.copy(alloc)?,
+            message_count: self.message_count,
+            consumer_count: self.consumer_count,
+        })
+    }
+}
+
+/// Reads the slots of `DeclareOk`.
+pub fn parse_declare_ok(alloc: Global, i: &[u8]) -> Result<(usize, DeclareOk), ParserError>
+    ensures { Parses declare_ok_method result i.now (judge_method 50 11) }
+{
+    let mut slots = SlotReader::new(i);
+    let queue = slots.short_string(alloc)?;
+    let message_count = slots.long_uint()?;
+    let consumer_count = slots.long_uint()?;
+    let method = DeclareOk {
+        queue,
+        message_count,
+        consumer_count,
+    };
+    Ok((i.len() - slots.rest.len(), method))
+}
+
+/// Its ids and slots, in order.
+pub(super) fn declare_ok_fields(method: &DeclareOk) -> [Field<'_>; 5]
+    ensures { ListsMethod result (declare_ok_method method.now) }
+{
+    [
+        Field::ShortUInt(50),
+        Field::ShortUInt(11),
+        Field::ShortString(&method.queue),
+        Field::LongUInt(method.message_count),
+        Field::LongUInt(method.consumer_count),
+    ]
+}
+
+/// The size of the method id and the slots of `DeclareOk`.
+#[tactic(auto)]
+pub fn size_declare_ok(method: &DeclareOk) -> Result<u64, GenError>
+    ensures { Measures result (method_size (declare_ok_method method.now)) }
+{
+    size_fields(&declare_ok_fields(method)[1..])
+}
+
+/// Puts the method id and the slots of `DeclareOk` at a place of a slice, and answers the place behind.
+#[tactic(auto)]
+pub fn put_declare_ok(buf: &mut [u8], at: usize, method: &DeclareOk) -> usize
+    requires { HasRoom buf.old at (method_size (declare_ok_method method.now)) (method_bytes (declare_ok_method method.now)) }
+    ensures { Puts buf.old buf.new at (method_bytes (declare_ok_method method.now)) result }
+{
+    put_fields(buf, at, &declare_ok_fields(method)[1..])
+}
+
+/// Appends the method id and the slots of `DeclareOk` to a vector.
+#[tactic(auto)]
+pub fn gen_declare_ok(_alloc: Global, out: &mut Vec<u8>, method: &DeclareOk) -> Result<(), GenError>
+    ensures { Appends out.old.items out.new.items (method_size (declare_ok_method method.now)) (method_bytes (declare_ok_method method.now)) result }
+{
+    gen_fields(out, &declare_ok_fields(method)[1..])
+}
+
+/// The client empties a queue.
+#[derive(Debug, Drop, PartialEq)]
+pub struct Purge {
+    pub queue: ShortString,
+    pub nowait: Boolean,
+}
+
+impl Purge {
+    /// The id of the class.
+    pub fn get_amqp_class_id(&self) -> Identifier
+        ensures { result ≡ 50 }
+    {
+        50
+    }
+
+    /// The id of the method in its class.
+    pub fn get_amqp_method_id(&self) -> Identifier
+        ensures { result ≡ 30 }
+    {
+        30
+    }
+
+    /// The method whose fields are empty, zero and false.
+    pub fn empty(alloc: Global) -> Purge
+        ensures { purge_method result ≡ method 50 30 (text_item [] ∷ flag_item false ∷ []) }
+    {
+        Purge {
+            queue: ShortString::empty(alloc),
+            nowait: false,
+        }
+    }
+
+    /// An equal method of its own.
+    pub fn copy(&self, alloc: Global) -> Result<Purge, NoMemory>
+        ensures { IfOk result (λ copied. copied ≡ self.now) }
+    {
+        Ok(Purge {
+            queue: self.queue.copy(alloc)?,
+            nowait: self.nowait,
+        })
+    }
+}
+
+/// Reads the slots of `Purge`.
+pub fn parse_purge(alloc: Global, i: &[u8]) -> Result<(usize, Purge), ParserError>
+    ensures { Parses purge_method result i.now (judge_method 50 30) }
+{
+    let mut slots = SlotReader::new(i);
+    slots.skip_short_uint()?;
+    let queue = slots.short_string(alloc)?;
+    let flags = slots.flags::<1>()?;
+    let method = Purge {
+        queue,
+        nowait: flag_of_byte(flags, 0),
+    };
+    Ok((i.len() - slots.rest.len(), method))
+}
+
+/// Its ids and slots, in order.
+pub(super) fn purge_fields(method: &Purge) -> [Field<'_>; 5]
+    ensures { ListsMethod result (purge_method method.now) }
+{
+    [
+        Field::ShortUInt(50),
+        Field::ShortUInt(30),
+        Field::ShortUInt(0), // reserved
+        Field::ShortString(&method.queue),
+        Field::Flags(byte_of_flags(&[method.nowait])),
+    ]
+}
+
+/// The size of the method id and the slots of `Purge`.
+#[tactic(auto)]
+pub fn size_purge(method: &Purge) -> Result<u64, GenError>
+    ensures { Measures result (method_size (purge_method method.now)) }
+{
+    size_fields(&purge_fields(method)[1..])
+}
+
+/// Puts the method id and the slots of `Purge` at a place of a slice, and answers the place behind.
+#[tactic(auto)]
+pub fn put_purge(buf: &mut [u8], at: usize, method: &Purge) -> usize
+    requires { HasRoom buf.old at (method_size (purge_method method.now)) (method_bytes (purge_method method.now)) }
+    ensures { Puts buf.old buf.new at (method_bytes (purge_method method.now)) result }
+{
+    put_fields(buf, at, &purge_fields(method)[1..])
+}
+
+/// Appends the method id and the slots of `Purge` to a vector.
+#[tactic(auto)]
+pub fn gen_purge(_alloc: Global, out: &mut Vec<u8>, method: &Purge) -> Result<(), GenError>
+    ensures { Appends out.old.items out.new.items (method_size (purge_method method.now)) (method_bytes (purge_method method.now)) result }
+{
+    gen_fields(out, &purge_fields(method)[1..])
+}
+
+/// The queue is empty, and so many messages were in it.
+#[derive(Clone, Default, Debug, Drop, PartialEq)]
+pub struct PurgeOk {
+    pub message_count: LongUInt,
+}
+
+impl PurgeOk {
+    /// The id of the class.
+    pub fn get_amqp_class_id(&self) -> Identifier
+        ensures { result ≡ 50 }
+    {
+        50
+    }
+
+    /// The id of the method in its class.
+    pub fn get_amqp_method_id(&self) -> Identifier
+        ensures { result ≡ 31 }
+    {
+        31
+    }
+}
+
+/// Reads the slots of `PurgeOk`.
+pub fn parse_purge_ok(_alloc: Global, i: &[u8]) -> Result<(usize, PurgeOk), ParserError>
+    ensures parsed { Parses purge_ok_method result i.now (judge_method 50 31) }
+    ensures memory { NeedsNoMemory result }
+{
+    let mut slots = SlotReader::new(i);
+    let message_count = slots.long_uint()?;
+    let method = PurgeOk { message_count };
+    Ok((i.len() - slots.rest.len(), method))
+}
+
+/// Its ids and slots, in order.
+pub(super) fn purge_ok_fields(method: &PurgeOk) -> [Field<'_>; 3]
+    ensures { ListsMethod result (purge_ok_method method.now) }
+{
+    [
+        Field::ShortUInt(50),
+        Field::ShortUInt(31),
+        Field::LongUInt(method.message_count),
+    ]
+}
+
+/// The size of the method id and the slots of `PurgeOk`.
+#[tactic(auto)]
+pub fn size_purge_ok(method: &PurgeOk) -> Result<u64, GenError>
+    ensures { Measures result (method_size (purge_ok_method method.now)) }
+{
+    size_fields(&purge_ok_fields(method)[1..])
+}
+
+/// Puts the method id and the slots of `PurgeOk` at a place of a slice, and answers the place behind.
+#[tactic(auto)]
+pub fn put_purge_ok(buf: &mut [u8], at: usize, method: &PurgeOk) -> usize
+    requires { HasRoom buf.old at (method_size (purge_ok_method method.now)) (method_bytes (purge_ok_method method.now)) }
+    ensures { Puts buf.old buf.new at (method_bytes (purge_ok_method method.now)) result }
+{
+    put_fields(buf, at, &purge_ok_fields(method)[1..])
+}
+
+/// Appends the method id and the slots of `PurgeOk` to a vector.
+#[tactic(auto)]
+pub fn gen_purge_ok(_alloc: Global, out: &mut Vec<u8>, method: &PurgeOk) -> Result<(), GenError>
+    ensures { Appends out.old.items out.new.items (method_size (purge_ok_method method.now)) (method_bytes (purge_ok_method method.now)) result }
+{
+    gen_fields(out, &purge_ok_fields(method)[1..])
+}
+
+/// The client deletes a queue.
+#[derive(Debug, Drop, PartialEq)]
+pub struct Delete {
+    pub queue: ShortString,
+    pub if_unused: Boolean,
+    pub if_empty: Boolean,
+    pub nowait: Boolean,
+}
+
+impl Delete {
+    /// The id of the class.
+    pub fn get_amqp_class_id(&self) -> Identifier
+        ensures { result ≡ 50 }
+    {
+        50
+    }
+
+    /// The id of the method in its class.
+    pub fn get_amqp_method_id(&self) -> Identifier
+        ensures { result ≡ 40 }
+    {
+        40
+    }
+
+    /// The method whose fields are empty, zero and false.
+    pub fn empty(alloc: Global) -> Delete
+        ensures { delete_method result ≡ method 50 40 (text_item [] ∷ flag_item false ∷ flag_item false ∷ flag_item false ∷ []) }
+    {
+        Delete {
+            queue: ShortString::empty(alloc),
+            if_unused: false,
+            if_empty: false,
+            nowait: false,
+        }
+    }
+
+    /// An equal method of its own.
+    pub fn copy(&self, alloc: Global) -> Result<Delete, NoMemory>
+        ensures { IfOk result (λ copied. copied ≡ self.now) }
+    {
+        Ok(Delete {
+            queue: self.queue.copy(alloc)?,
+            if_unused: self.if_unused,
+            if_empty: self.if_empty,
+            nowait: self.nowait,
+        })
+    }
+}
+
+/// Reads the slots of `Delete`.
+pub fn parse_delete(alloc: Global, i: &[u8]) -> Result<(usize, Delete), ParserError>
+    ensures { Parses delete_method result i.now (judge_method 50 40) }
+{
+    let mut slots = SlotReader::new(i);
+    slots.skip_short_uint()?;
+    let queue = slots.short_string(alloc)?;
+    let flags = slots.flags::<3>()?;
+    let method = Delete {
+        queue,
+        if_unused: flag_of_byte(flags, 0),
+        if_empty: flag_of_byte(flags, 1),
+        nowait: flag_of_byte(flags, 2),
+    };
+    Ok((i.len() - slots.rest.len(), method))
+}
+
+/// Its ids and slots, in order.
+pub(super) fn delete_fields(method: &Delete) -> [Field<'_>; 5]
+    ensures { ListsMethod result (delete_method method.now) }
+{
+    [
+        Field::ShortUInt(50),
+        Field::ShortUInt(40),
+        Field::ShortUInt(0), // reserved
+        Field::ShortString(&method.queue),
+        Field::Flags(byte_of_flags(&[method.if_unused, method.if_empty, method.nowait])),
+    ]
+}
+
+/// The size of the method id and the slots of `Delete`.
+#[tactic(auto)]
+pub fn size_delete(method: &Delete) -> Result<u64, GenError>
+    ensures { Measures result (method_size (delete_method method.now)) }
+{
+    size_fields(&delete_fields(method)[1..])
+}
+
+/// Puts the method id and the slots of `Delete` at a place of a slice, and answers the place behind.
+#[tactic(auto)]
+pub fn put_delete(buf: &mut [u8], at: usize, method: &Delete) -> usize
+    requires { HasRoom buf.old at (method_size (delete_method method.now)) (method_bytes (delete_method method.now)) }
+    ensures { Puts buf.old buf.new at (method_bytes (delete_method method.now)) result }
+{
+    put_fields(buf, at, &delete_fields(method)[1..])
+}
+
+/// Appends the method id and the slots of `Delete` to a vector.
+#[tactic(auto)]
+pub fn gen_delete(_alloc: Global, out: &mut Vec<u8>, method: &Delete) -> Result<(), GenError>
+    ensures { Appends out.old.items out.new.items (method_size (delete_method method.now)) (method_bytes (delete_method method.now)) result }
+{
+    gen_fields(out, &delete_fields(method)[1..])
+}
+
+/// The queue is deleted, and so many messages were in it.
+#[derive(Clone, Default, Debug, Drop, PartialEq)]
+pub struct DeleteOk {
+    pub message_count: LongUInt,
+}
+
+impl DeleteOk {
+    /// The id of the class.
+    pub fn get_amqp_class_id(&self) -> Identifier
+        ensures { result ≡ 50 }
+    {
+        50
+    }
+
+    /// The id of the method in its class.
+    pub fn get_amqp_method_id(&self) -> Identifier
+        ensures { result ≡ 41 }
+    {
+        41
+    }
+}
+
+/// Reads the slots of `DeleteOk`.
+pub fn parse_delete_ok(_alloc: Global, i: &[u8]) -> Result<(usize, DeleteOk), ParserError>
+    ensures parsed { Parses delete_ok_method result i.now (judge_method 50 41) }
+    ensures memory { NeedsNoMemory result }
+{
+    let mut slots = SlotReader::new(i);
+    let message_count = slots.long_uint()?;
+    let method = DeleteOk { message_count };
+    Ok((i.len() - slots.rest.len(), method))
+}
+
+/// Its ids and slots, in order.
+pub(super) fn delete_ok_fields(method: &DeleteOk) -> [Field<'_>; 3]
+    ensures { ListsMethod result (delete_ok_method method.now) }
+{
+    [
+        Field::ShortUInt(50),
+        Field::ShortUInt(41),
+        Field::LongUInt(method.message_count),
+    ]
+}
+
+/// The size of the method id and the slots of `DeleteOk`.
+#[tactic(auto)]
+pub fn size_delete_ok(method: &DeleteOk) -> Result<u64, GenError>
+    ensures { Measures result (method_size (delete_ok_method method.now)) }
+{
+    size_fields(&delete_ok_fields(method)[1..])
+}
+
+/// Puts the method id and the slots of `DeleteOk` at a place of a slice, and answers the place behind.
+#[tactic(auto)]
+pub fn put_delete_ok(buf: &mut [u8], at: usize, method: &DeleteOk) -> usize
+    requires { HasRoom buf.old at (method_size (delete_ok_method method.now)) (method_bytes (delete_ok_method method.now)) }
+    ensures { Puts buf.old buf.new at (method_bytes (delete_ok_method method.now)) result }
+{
+    put_fields(buf, at, &delete_ok_fields(method)[1..])
+}
+
+/// Appends the method id and the slots of `DeleteOk` to a vector.
+#[tactic(auto)]
+pub fn gen_delete_ok(_alloc: Global, out: &mut Vec<u8>, method: &DeleteOk) -> Result<(), GenError>
+    ensures { Appends out.old.items out.new.items (method_size (delete_ok_method method.now)) (method_bytes (delete_ok_method method.now)) result }
+{
+    gen_fields(out, &delete_ok_fields(method)[1..])
+}

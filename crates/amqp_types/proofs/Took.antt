@@ -1,0 +1,22 @@
+-- What the steps of a judgement took, where all of it took something.
+use Rattle.std.proofs.Common.{◌≡◌, ℕ, Bool, true, false, cond, refl}
+use Rattle.amqp_types.specs.Judging.{Judged, Fault, took, past, fault, ◌>>=◌}
+
+pub bind_took : {A B : Type 0} (j : Judged A) (f : A × ℕ → Judged B) (y : B) (m : ℕ) → (j >>= f) ≡ took y m → (x : A) × (n : ℕ) × (j ≡ took x n) × (f (x, n) ≡ took y m)
+bind_took (took x n) f y m h = (x, n, refl, h)
+bind_took past f y m h = cc
+bind_took (fault bad) f y m h = cc
+
+pub guard_took : {B : Type 0} (short : Bool) (j : Judged B) (y : B) (m : ℕ) → cond short past j ≡ took y m → (short ≡ false) × (j ≡ took y m)
+guard_took true j y m h = cc
+guard_took false j y m h = (refl, h)
+
+pub test_took : {B : Type 0} (right : Bool) (j : Judged B) (bad : Fault) (y : B) (m : ℕ) → cond right j (fault bad) ≡ took y m → (right ≡ true) × (j ≡ took y m)
+test_took true j bad y m h = (refl, h)
+test_took false j bad y m h = cc
+
+pub value_took : {B : Type 0} (x y : B) (n m : ℕ) → took x n ≡ took y m → x ≡ y
+value_took x y n m h = cc
+
+pub count_took : {B : Type 0} (x y : B) (n m : ℕ) → took x n ≡ took y m → n ≡ m
+count_took x y n m h = cc

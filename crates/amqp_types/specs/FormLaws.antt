@@ -1,0 +1,35 @@
+-- The laws that each form of bytes keeps.
+use Rattle.std.specs.Prelude.{◌≡◌, ◌≤◌, ℕ, List, length}
+use Rattle.amqp_types.specs.Levels.{Level, plain, tidy, strict}
+use Rattle.amqp_types.specs.Judging.{Judge, IsExact}
+use Rattle.amqp_types.specs.Numbers.{NumberWidth, number_bytes, judge_number, SpellsNumber}
+use Rattle.amqp_types.specs.Signed.{signed_bytes, judge_signed, SpellsSigned}
+use Rattle.amqp_types.specs.Strings.{short_string_bytes, judge_short_string, SpellsShortString, with_length, judge_long_string, SpellsLongString}
+use Rattle.amqp_types.specs.Flags.{flags_bytes, judge_flags, SpellsFlags}
+
+pub record IsLawful {A : Type 0} (judge : Judge A) (Spells : Level → List ℕ → A → Type 0) (canonical : A → List ℕ) : Type 0 where
+  pub exact : IsExact judge (Spells plain)
+  -- each level is within the one before
+  pub strict_is_tidy : (bytes : List ℕ) (x : A) → Spells strict bytes x → Spells tidy bytes x
+  pub tidy_is_plain : (bytes : List ℕ) (x : A) → Spells tidy bytes x → Spells plain bytes x
+  -- no bytes spell two
+  pub one_meaning : (level : Level) (bytes : List ℕ) (x y : A) → Spells level bytes x → Spells level bytes y → x ≡ y
+  -- What is spelled has one strict spelling, its canonical bytes, and none is shorter.
+  pub strict_is_canonical : (bytes : List ℕ) (x : A) → Spells strict bytes x → bytes ≡ canonical x
+  pub canonical_is_strict : (bytes : List ℕ) (x : A) → Spells plain bytes x → Spells strict (canonical x) x
+  pub shortest : (bytes : List ℕ) (x : A) → Spells plain bytes x → length (canonical x) ≤ length bytes
+
+abbrev pub NumbersAreLawful : Type 0
+NumbersAreLawful = (width : NumberWidth) → IsLawful (judge_number width) (λ level. SpellsNumber width) (number_bytes width)
+
+abbrev pub SignedNumbersAreLawful : Type 0
+SignedNumbersAreLawful = (width : NumberWidth) → IsLawful (judge_signed width) (λ level. SpellsSigned width) (signed_bytes width)
+
+abbrev pub ShortStringsAreLawful : Type 0
+ShortStringsAreLawful = IsLawful judge_short_string (λ level. SpellsShortString) short_string_bytes
+
+abbrev pub LongStringsAreLawful : Type 0
+LongStringsAreLawful = IsLawful judge_long_string (λ level. SpellsLongString) with_length
+
+abbrev pub FlagsAreLawful : Type 0
+FlagsAreLawful = (count : ℕ) → IsLawful (judge_flags count) (λ level. SpellsFlags level count) flags_bytes

@@ -1,0 +1,32 @@
+-- How slots are spelled, at each level.
+use Rattle.std.specs.Prelude.{◌≡◌, ℕ, List, [], ◌∷◌, ◌++◌, map}
+use Rattle.amqp_types.specs.Levels.{Level}
+use Rattle.amqp_types.specs.Sequences.{SpellsMade, SpellsBoth}
+use Rattle.amqp_types.specs.Numbers.{SpellsNumber}
+use Rattle.amqp_types.specs.Flags.{SpellsFlags, FromTidy}
+use Rattle.amqp_types.specs.Strings.{SpellsShortString, SpellsLongString}
+use Rattle.amqp_types.specs.ValueSpelling.{SpellsFieldTable}
+use Rattle.amqp_types.specs.Slots.{Item, number_item, flag_item, text_item, bytes_item, entries_item, Form, number_form, flags_form, short_string_form, long_string_form, table_form, Slot, kept_slot, reserved_slot}
+
+abbrev pub SpellsForm : Level → Form → List ℕ → List Item → Type 0
+SpellsForm level (number_form width) = SpellsMade (SpellsNumber width) (λ n. number_item n ∷ [])
+SpellsForm level (flags_form count) = SpellsMade (SpellsFlags level count) (map flag_item)
+SpellsForm level short_string_form = SpellsMade SpellsShortString (λ text. text_item text ∷ [])
+SpellsForm level long_string_form = SpellsMade SpellsLongString (λ bytes. bytes_item bytes ∷ [])
+SpellsForm level table_form = SpellsMade (SpellsFieldTable level) (λ es. entries_item es ∷ [])
+
+-- A reserved slot gives nothing. From level tidy on it is spelled as its constant.
+pub record SpellsReserved (level : Level) (form : Form) (constant : List Item) (bytes : List ℕ) (items : List Item) : Type 0 where
+  pub dropped : List Item
+  pub spelled : SpellsForm level form bytes dropped
+  pub none : items ≡ []
+  pub unused : FromTidy level (dropped ≡ constant)
+
+abbrev pub SpellsSlot : Level → Slot → List ℕ → List Item → Type 0
+SpellsSlot level (kept_slot form) = SpellsForm level form
+SpellsSlot level (reserved_slot form constant) = SpellsReserved level form constant
+
+-- slots, one behind another
+abbrev pub SpellsSlots : Level → List Slot → List ℕ → List Item → Type 0
+SpellsSlots level [] bytes items = (bytes ≡ []) × (items ≡ [])
+SpellsSlots level (slot ∷ slots) bytes items = SpellsBoth (SpellsSlot level slot) (SpellsSlots level slots) (λ xs ys. xs ++ ys) bytes items

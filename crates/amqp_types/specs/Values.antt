@@ -1,0 +1,102 @@
+-- The values that tables and arrays hold (AMQP 0-9-1, section 4.2.5.5).
+use Rattle.std.specs.Prelude.{ℕ, suc, ◌+◌, max, ℤ, List, [], ◌∷◌, Bool}
+
+-- the signed numbers, of 1, 2, 4 and 8 bytes
+pub data SignedKind : Type 0 where
+  short_short_int : SignedKind
+  short_int : SignedKind
+  long_int : SignedKind
+  long_long_int : SignedKind
+
+-- the unsigned numbers of 1, 2 and 4 bytes, the bits of numbers with a fraction, and times
+pub data UnsignedKind : Type 0 where
+  short_short_uint : UnsignedKind
+  short_uint : UnsignedKind
+  long_uint : UnsignedKind
+  float : UnsignedKind
+  double : UnsignedKind
+  timestamp : UnsignedKind
+
+pub data BytesKind : Type 0 where
+  long_string : BytesKind
+  byte_array : BytesKind
+
+mutual
+  pub data FieldValue : Type 0 where
+    boolean_value : Bool → FieldValue
+    signed_value : SignedKind → ℤ → FieldValue
+    unsigned_value : UnsignedKind → ℕ → FieldValue
+    decimal_value : ℕ → ℕ → FieldValue
+    bytes_value : BytesKind → List ℕ → FieldValue
+    array_value : FieldValues → FieldValue
+    table_value : FieldEntries → FieldValue
+    void_value : FieldValue
+
+  pub data FieldValues : Type 0 where
+    no_values : FieldValues
+    next_value : FieldValue → FieldValues → FieldValues
+
+  pub data FieldEntries : Type 0 where
+    no_entries : FieldEntries
+    next_entry : List ℕ → FieldValue → FieldEntries → FieldEntries
+
+-- a key and its value
+abbrev pub Entry : Type 0
+Entry = List ℕ × FieldValue
+
+-- an array as its list of values, and a table as its list of entries
+abbrev pub items : FieldValues → List FieldValue
+items no_values = []
+items (next_value v vs) = v ∷ items vs
+
+abbrev pub pairs : FieldEntries → List Entry
+pairs no_entries = []
+pairs (next_entry k v es) = (k, v) ∷ pairs es
+
+abbrev pub values_of : List FieldValue → FieldValues
+values_of [] = no_values
+values_of (v ∷ vs) = next_value v (values_of vs)
+
+abbrev pub entries_of : List Entry → FieldEntries
+entries_of [] = no_entries
+entries_of (e ∷ es) = next_entry e.0 e.1 (entries_of es)
+
+-- how deep tables and arrays nest
+abbrev mutual
+  pub depth : FieldValue → ℕ
+  depth (boolean_value b) = 0
+  depth (signed_value kind n) = 0
+  depth (unsigned_value kind n) = 0
+  depth (decimal_value scale n) = 0
+  depth (bytes_value kind bytes) = 0
+  depth (array_value vs) = suc (values_depth vs)
+  depth (table_value es) = suc (entries_depth es)
+  depth void_value = 0
+
+  pub values_depth : FieldValues → ℕ
+  values_depth no_values = 0
+  values_depth (next_value v vs) = max (depth v) (values_depth vs)
+
+  pub entries_depth : FieldEntries → ℕ
+  entries_depth no_entries = 0
+  entries_depth (next_entry k v es) = max (depth v) (entries_depth es)
+
+-- more than that of each part
+abbrev mutual
+  pub weight : FieldValue → ℕ
+  weight (boolean_value b) = 0
+  weight (signed_value kind n) = 0
+  weight (unsigned_value kind n) = 0
+  weight (decimal_value scale n) = 0
+  weight (bytes_value kind bytes) = 0
+  weight (array_value vs) = suc (values_weight vs)
+  weight (table_value es) = suc (entries_weight es)
+  weight void_value = 0
+
+  pub values_weight : FieldValues → ℕ
+  values_weight no_values = 0
+  values_weight (next_value v vs) = suc (weight v + values_weight vs)
+
+  pub entries_weight : FieldEntries → ℕ
+  entries_weight no_entries = 0
+  entries_weight (next_entry k v es) = suc (weight v + entries_weight es)

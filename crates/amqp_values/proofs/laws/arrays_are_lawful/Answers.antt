@@ -1,0 +1,5 @@
+use Rattle.amqp_values.proofs.ValueLaws.{arrays_lawful}
+use Rattle.amqp_values.proofs.laws.arrays_are_lawful.Goals as goal
+
+pub returns : goal.returns
+returns c = arrays_lawful

@@ -1,0 +1,5 @@
+use Rattle.amqp_values.proofs.SlotForms.{forms_lawful}
+use Rattle.amqp_values.proofs.laws.forms_are_lawful.Goals as goal
+
+pub returns : goal.returns
+returns c = forms_lawful

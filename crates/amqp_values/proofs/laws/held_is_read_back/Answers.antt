@@ -1,0 +1,5 @@
+use Rattle.amqp_values.proofs.ValueLaws.{held_is_read_back}
+use Rattle.amqp_values.proofs.laws.held_is_read_back.Goals as goal
+
+pub returns : goal.returns
+returns c = held_is_read_back

@@ -1,0 +1,5 @@
+use Rattle.amqp_values.proofs.SlotsHeld.{slots_read_back}
+use Rattle.amqp_values.proofs.laws.held_slots_are_read_back.Goals as goal
+
+pub returns : goal.returns
+returns c = slots_read_back

@@ -1,0 +1,5 @@
+use Rattle.amqp_values.proofs.Settling.{insert_changes_one_key}
+use Rattle.amqp_values.proofs.laws.insert_changes_one_key.Goals as goal
+
+pub returns : goal.returns
+returns c = insert_changes_one_key

@@ -1,0 +1,5 @@
+use Rattle.amqp_values.proofs.ValueLaws.{settled_is_settling}
+use Rattle.amqp_values.proofs.laws.settled_is_settling.Goals as goal
+
+pub returns : goal.returns
+returns c = settled_is_settling

@@ -1,0 +1,5 @@
+use Rattle.amqp_values.proofs.SlotLaws.{slots_lawful}
+use Rattle.amqp_values.proofs.laws.slots_are_lawful.Goals as goal
+
+pub returns : goal.returns
+returns c = slots_lawful

@@ -1,0 +1,5 @@
+use Rattle.amqp_values.proofs.ValueLaws.{spelled_is_bounded}
+use Rattle.amqp_values.proofs.laws.spelled_is_bounded.Goals as goal
+
+pub returns : goal.returns
+returns c = spelled_is_bounded

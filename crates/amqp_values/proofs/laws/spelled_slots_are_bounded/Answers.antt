@@ -1,0 +1,5 @@
+use Rattle.amqp_values.proofs.SlotLaws.{slots_bounded}
+use Rattle.amqp_values.proofs.laws.spelled_slots_are_bounded.Goals as goal
+
+pub returns : goal.returns
+returns c = slots_bounded

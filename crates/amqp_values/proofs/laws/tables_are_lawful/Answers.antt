@@ -1,0 +1,5 @@
+use Rattle.amqp_values.proofs.ValueLaws.{tables_lawful}
+use Rattle.amqp_values.proofs.laws.tables_are_lawful.Goals as goal
+
+pub returns : goal.returns
+returns c = tables_lawful

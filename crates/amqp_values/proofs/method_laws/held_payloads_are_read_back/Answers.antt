@@ -1,0 +1,5 @@
+use Rattle.amqp_values.proofs.MethodLaws.{payloads_read_back}
+use Rattle.amqp_values.proofs.method_laws.held_payloads_are_read_back.Goals as goal
+
+pub returns : goal.returns
+returns c = payloads_read_back

@@ -1,0 +1,5 @@
+use Rattle.amqp_values.proofs.MethodLaws.{payloads_lawful}
+use Rattle.amqp_values.proofs.method_laws.payloads_are_lawful.Goals as goal
+
+pub returns : goal.returns
+returns c = payloads_lawful

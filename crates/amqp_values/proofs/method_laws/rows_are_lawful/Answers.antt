@@ -1,0 +1,5 @@
+use Rattle.amqp_values.proofs.MethodLaws.{rows_lawful}
+use Rattle.amqp_values.proofs.method_laws.rows_are_lawful.Goals as goal
+
+pub returns : goal.returns
+returns c = rows_lawful

@@ -1,0 +1,50 @@
+-- What lists of fields are written as.
+use Rattle.std.specs.Prelude.{◌≡◌, ◌≤◌, ℕ, List, [], ◌∷◌, ◌++◌, length, Bool, false, ◌||◌, Result}
+use Rattle.amqp_types.specs.Numbers.{bytes1, bytes2, bytes4, bytes8}
+use Rattle.amqp_types.specs.Sizes.{measured}
+use Rattle.amqp_types.specs.Slots.{number_item, text_item, bytes_item, entries_item, number_form, short_string_form, long_string_form, table_form}
+use Rattle.amqp_types.specs.SlotBytes.{form_bytes, is_deep_item, is_long_item}
+use Rattle.amqp_types.specs.declared.errors.GenError.{GenError}
+use Rattle.amqp_values.specs.declared.fields.Field.{Field}
+use Rattle.amqp_values.specs.declared.fields.Field.TheVariants as field
+
+unfoldable pub field_bytes : Field → List ℕ
+field_bytes field.Nothing = []
+field_bytes (field.ShortShortUInt n) = form_bytes (number_form bytes1) (number_item n ∷ [])
+field_bytes (field.ShortUInt n) = form_bytes (number_form bytes2) (number_item n ∷ [])
+field_bytes (field.LongUInt n) = form_bytes (number_form bytes4) (number_item n ∷ [])
+field_bytes (field.LongLongUInt n) = form_bytes (number_form bytes8) (number_item n ∷ [])
+field_bytes (field.Flags byte) = byte ∷ []
+field_bytes (field.ShortString s) = form_bytes short_string_form (text_item s.now ∷ [])
+field_bytes (field.LongString s) = form_bytes long_string_form (bytes_item s.now ∷ [])
+field_bytes (field.Table t) = form_bytes table_form (entries_item t.now ∷ [])
+
+unfoldable pub is_deep_field : Field → Bool
+is_deep_field (field.Table t) = is_deep_item (entries_item t.now)
+is_deep_field x = false
+
+unfoldable pub is_long_field : Field → Bool
+is_long_field (field.LongString s) = is_long_item (bytes_item s.now)
+is_long_field (field.Table t) = is_long_item (entries_item t.now)
+is_long_field x = false
+
+unfoldable pub fields_bytes : List Field → List ℕ
+fields_bytes [] = []
+fields_bytes (x ∷ xs) = field_bytes x ++ fields_bytes xs
+
+unfoldable pub any_deep_field : List Field → Bool
+any_deep_field [] = false
+any_deep_field (x ∷ xs) = is_deep_field x || any_deep_field xs
+
+unfoldable pub any_long_field : List Field → Bool
+any_long_field [] = false
+any_long_field (x ∷ xs) = is_long_field x || any_long_field xs
+
+unfoldable pub fields_size : List Field → Result ℕ GenError
+fields_size fields = measured (any_deep_field fields) (any_long_field fields) (fields_bytes fields)
+
+-- the fields are written as these bytes, of this size
+pub record Lists (fields : List Field) (size : Result ℕ GenError) (bytes : List ℕ) : Type 0 where
+  pub few : length fields ≤ 64
+  pub spelled : fields_bytes fields ≡ bytes
+  pub sized : fields_size fields ≡ size

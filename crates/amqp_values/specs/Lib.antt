@@ -1,0 +1,5 @@
+pub mod Views
+pub mod Falls
+pub mod Sameness
+pub mod Fields
+pub mod MethodFields

@@ -1,0 +1,70 @@
+//! Laws of values, arrays, tables and slots, each the contract of a function that does nothing.
+
+ghost use Rattle.std.specs.Prelude.{◌≡◌};
+ghost use Rattle.std.specs.Bool.{Decides};
+ghost use Rattle.amqp_types.specs.Values.{FieldValue, FieldValues, FieldEntries};
+ghost use Rattle.amqp_types.specs.ValueLaws.{ValuesAreLawful, ArraysAreLawful, TablesAreLawful, SpelledIsBounded, SettledIsSettling, InsertChangesOneKey, HeldIsReadBack};
+ghost use Rattle.amqp_types.specs.SlotLaws.{FormsAreLawful, SlotsAreLawful, SpelledSlotsAreBounded, HeldSlotsAreReadBack};
+ghost use Rattle.amqp_values.specs.Sameness.{same_value, same_items, same_entries};
+
+/// The laws of values behind their tags, for each number of levels that may nest.
+pub fn values_are_lawful()
+    ensures { ValuesAreLawful }
+{}
+
+/// The laws of arrays.
+pub fn arrays_are_lawful()
+    ensures { ArraysAreLawful }
+{}
+
+/// The laws of tables.
+pub fn tables_are_lawful()
+    ensures { TablesAreLawful }
+{}
+
+/// What is spelled is neither long nor deeper than its room.
+pub fn spelled_is_bounded()
+    ensures { SpelledIsBounded }
+{}
+
+/// A table is settled from entries exactly where it is what they leave, put into it one after another.
+pub fn settled_is_settling()
+    ensures { SettledIsSettling }
+{}
+
+/// An entry changes the value of its key and nothing else.
+pub fn insert_changes_one_key()
+    ensures { InsertChangesOneKey }
+{}
+
+/// What programs hold and write is read back.
+pub fn held_is_read_back()
+    ensures { HeldIsReadBack }
+{}
+
+/// Values are the same exactly where contracts see them as equal.
+pub fn sameness_is_equality()
+    ensures values { (v w : FieldValue) → Decides (same_value v w) (v ≡ w) }
+    ensures arrays { (vs ws : FieldValues) → Decides (same_items vs ws) (vs ≡ ws) }
+    ensures tables { (es fs : FieldEntries) → Decides (same_entries es fs) (es ≡ fs) }
+{}
+
+/// The laws of the forms of slots.
+pub fn forms_are_lawful()
+    ensures { FormsAreLawful }
+{}
+
+/// The laws of lists of slots whose reserved slots have the least constants of their forms.
+pub fn slots_are_lawful()
+    ensures { SlotsAreLawful }
+{}
+
+/// What slots are spelled by is neither long nor too deep.
+pub fn spelled_slots_are_bounded()
+    ensures { SpelledSlotsAreBounded }
+{}
+
+/// What programs hold and write into slots is read back.
+pub fn held_slots_are_read_back()
+    ensures { HeldSlotsAreReadBack }
+{}

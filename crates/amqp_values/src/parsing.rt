@@ -1,0 +1,246 @@
+//! Reading values, arrays and tables from the front of a slice.
+
+ghost use Rattle.std.specs.Prelude.{◌≡◌, ◌≤◌, ◌<◌, length, IfOk};
+ghost use Rattle.amqp_types.specs.Answers.{Answers, AnswersFully, AnswersWhole};
+ghost use Rattle.amqp_types.specs.Settling.{settled};
+ghost use Rattle.amqp_types.specs.ValueJudging.{read_map, filled, nested, inside_error, judge_entry, judge_array, judge_table, judge_decimal, judge_behind, judge_value, judge_field_value, judge_field_array, judge_field_table};
+ghost use Rattle.amqp_types.specs.ValueBytes.{tagged_bytes, tagged_size, array_bytes, array_size, table_bytes, table_size};
+ghost use Rattle.amqp_types.specs.ValueLaws.{IsWithin};
+ghost use Rattle.amqp_values.specs.Views.{value_of, entry_of};
+
+use crate::value::{AMQPValue, DecimalValue, FieldArray, FieldTable};
+use amqp_types::{
+    FieldTag, ParserError, ShortString, parse_boolean, parse_byte_array, parse_double, parse_float,
+    parse_long_bytes, parse_long_int, parse_long_long_int, parse_long_string, parse_long_uint,
+    parse_short_int, parse_short_short_int, parse_short_short_uint, parse_short_string,
+    parse_short_uint, parse_timestamp,
+};
+use std::alloc::Global;
+
+/// Reads a scale and a number.
+#[tactic(auto, unfolding(amqp_types::specs::ValueJudging::judge_decimal))]
+pub fn parse_decimal_value(i: &[u8]) -> Result<(usize, DecimalValue), ParserError>
+    ensures judged { AnswersFully (λ decimal. (decimal.scale, decimal.value)) result (judge_decimal i.now) }
+    ensures used { IfOk result (λ found. found.0 ≤ length i.now) }
+{
+    let (n, scale) = parse_short_short_uint(i)?;
+    let (m, value) = parse_long_uint(&i[n..])?;
+    Ok((n + m, DecimalValue { scale, value }))
+}
+
+/// A refusal of what stands inside a table or an array whose bytes are all there.
+fn inside(error: ParserError) -> ParserError
+    ensures { result ≡ inside_error error }
+{
+    match error {
+        ParserError::Incomplete => ParserError::ShortPayload,
+        error => error,
+    }
+}
+
+/// Reads a tag and its value, in which tables and arrays may nest `room` deep.
+#[tactic(auto, using(amqp_types::proofs::Judged::refuses_next), unfolding(amqp_types::specs::ValueJudging::judge_tagged, amqp_types::specs::ValueJudging::judge_value))]
+#[cycle(read)]
+fn value_within(alloc: Global, i: &[u8], room: usize) -> Result<(usize, AMQPValue), ParserError>
+    ensures judged { Answers value_of result (judge_value room i.now) }
+    ensures used { IfOk result (λ found. (0 < found.0) × (found.0 ≤ length i.now)) }
+{
+    match i {
+        [] => Err(ParserError::Incomplete),
+        [byte, rest @ ..] => match FieldTag::from_byte(*byte) {
+            None => Err(ParserError::UnknownTag),
+            Some(tag) => {
+                let (n, value) = behind_tag_within(alloc, tag, rest, room)?;
+                Ok((1 + n, value))
+            }
+        },
+    }
+}
+
+/// Reads the value behind a tag.
+#[tactic(auto, using(amqp_types::proofs::Judged::refuses_next, crate::proofs::Filling::nested_none, crate::proofs::Filling::nested_more), unfolding(amqp_types::specs::ValueJudging::judge_behind))]
+#[cycle(read)]
+fn behind_tag_within(
+    alloc: Global,
+    tag: FieldTag,
+    i: &[u8],
+    room: usize,
+) -> Result<(usize, AMQPValue), ParserError>
+    ensures judged { Answers value_of result (judge_behind (nested room) tag i.now) }
+    ensures used { IfOk result (λ found. found.0 ≤ length i.now) }
+{
+    match tag {
+        FieldTag::Boolean => {
+            let (n, value) = parse_boolean(i)?;
+            Ok((n, AMQPValue::Boolean(value)))
+        }
+        FieldTag::ShortShortInt => {
+            let (n, value) = parse_short_short_int(i)?;
+            Ok((n, AMQPValue::ShortShortInt(value)))
+        }
+        FieldTag::ShortShortUInt => {
+            let (n, value) = parse_short_short_uint(i)?;
+            Ok((n, AMQPValue::ShortShortUInt(value)))
+        }
+        FieldTag::ShortInt => {
+            let (n, value) = parse_short_int(i)?;
+            Ok((n, AMQPValue::ShortInt(value)))
+        }
+        FieldTag::ShortUInt => {
+            let (n, value) = parse_short_uint(i)?;
+            Ok((n, AMQPValue::ShortUInt(value)))
+        }
+        FieldTag::LongInt => {
+            let (n, value) = parse_long_int(i)?;
+            Ok((n, AMQPValue::LongInt(value)))
+        }
+        FieldTag::LongUInt => {
+            let (n, value) = parse_long_uint(i)?;
+            Ok((n, AMQPValue::LongUInt(value)))
+        }
+        FieldTag::LongLongInt => {
+            let (n, value) = parse_long_long_int(i)?;
+            Ok((n, AMQPValue::LongLongInt(value)))
+        }
+        FieldTag::Float => {
+            let (n, value) = parse_float(i)?;
+            Ok((n, AMQPValue::Float(value)))
+        }
+        FieldTag::Double => {
+            let (n, value) = parse_double(i)?;
+            Ok((n, AMQPValue::Double(value)))
+        }
+        FieldTag::DecimalValue => {
+            let (n, value) = parse_decimal_value(i)?;
+            Ok((n, AMQPValue::DecimalValue(value)))
+        }
+        FieldTag::LongString => {
+            let (n, value) = parse_long_string(alloc, i)?;
+            Ok((n, AMQPValue::LongString(value)))
+        }
+        FieldTag::FieldArray => {
+            if room == 0 {
+                return Err(ParserError::TooDeep);
+            }
+            let (n, array) = array_within(alloc, i, room - 1)?;
+            Ok((n, AMQPValue::FieldArray(array)))
+        }
+        FieldTag::Timestamp => {
+            let (n, value) = parse_timestamp(i)?;
+            Ok((n, AMQPValue::Timestamp(value)))
+        }
+        FieldTag::FieldTable => {
+            if room == 0 {
+                return Err(ParserError::TooDeep);
+            }
+            let (n, table) = table_within(alloc, i, room - 1)?;
+            Ok((n, AMQPValue::FieldTable(table)))
+        }
+        FieldTag::ByteArray => {
+            let (n, value) = parse_byte_array(alloc, i)?;
+            Ok((n, AMQPValue::ByteArray(value)))
+        }
+        FieldTag::Void => Ok((0, AMQPValue::Void)),
+    }
+}
+
+/// Reads an array, in whose values tables and arrays may nest `room` deep.
+#[tactic(auto, using(amqp_types::proofs::Judged::refuses_next, crate::proofs::Filling::refuses_whole), unfolding(amqp_types::specs::ValueJudging::judge_array))]
+#[cycle(read)]
+fn array_within(alloc: Global, i: &[u8], room: usize) -> Result<(usize, FieldArray), ParserError>
+    ensures judged { Answers (λ array. array) result (judge_array (judge_value room) i.now) }
+    ensures used { IfOk result (λ found. found.0 ≤ length i.now) }
+{
+    let (n, content) = parse_long_bytes(i)?;
+    Ok((n, values_in(alloc, content, room)?))
+}
+
+/// Reads a table, in whose values tables and arrays may nest `room` deep.
+#[tactic(auto, using(amqp_types::proofs::Judged::refuses_next, crate::proofs::Filling::refuses_whole), unfolding(amqp_types::specs::ValueJudging::judge_table))]
+#[cycle(read)]
+fn table_within(alloc: Global, i: &[u8], room: usize) -> Result<(usize, FieldTable), ParserError>
+    ensures judged { Answers (λ table. table) result (judge_table (judge_value room) i.now) }
+    ensures used { IfOk result (λ found. found.0 ≤ length i.now) }
+{
+    let (n, content) = parse_long_bytes(i)?;
+    Ok((n, entries_in(alloc, content, room)?))
+}
+
+/// Reads the values that fill an array.
+#[cycle(read)]
+fn values_in(alloc: Global, content: &[u8], room: usize) -> Result<FieldArray, ParserError>
+    ensures { AnswersWhole (λ array. array) result (filled (judge_value room) 0 content.now) }
+{
+    let mut array = FieldArray::new(alloc);
+    let mut at = 0;
+    while at < content.len() {
+        let (n, value) = match value_within(alloc, &content[at..], room) {
+            Ok(found) => found,
+            Err(error) => return Err(inside(error)),
+        };
+        array.push(value)?;
+        at += n;
+    }
+    Ok(array)
+}
+
+/// Reads the entries that fill a table. Of equal keys the last one counts.
+#[cycle(read)]
+fn entries_in(alloc: Global, content: &[u8], room: usize) -> Result<FieldTable, ParserError>
+    ensures { AnswersWhole (λ table. table) result (read_map settled (filled (judge_entry (judge_value room)) 0 content.now)) }
+{
+    let mut table = FieldTable::new(alloc);
+    let mut at = 0;
+    while at < content.len() {
+        let (n, (key, value)) = match entry_within(alloc, &content[at..], room) {
+            Ok(found) => found,
+            Err(error) => return Err(inside(error)),
+        };
+        table.insert(key, value)?;
+        at += n;
+    }
+    Ok(table)
+}
+
+/// Reads a key and, behind it, a tag and its value.
+#[tactic(auto, using(amqp_types::proofs::Judged::refuses_next), unfolding(amqp_types::specs::ValueJudging::judge_entry))]
+#[cycle(read)]
+fn entry_within(
+    alloc: Global,
+    i: &[u8],
+    room: usize,
+) -> Result<(usize, (ShortString, AMQPValue)), ParserError>
+    ensures judged { Answers entry_of result (judge_entry (judge_value room) i.now) }
+    ensures used { IfOk result (λ found. (0 < found.0) × (found.0 ≤ length i.now)) }
+{
+    let (n, key) = parse_short_string(alloc, i)?;
+    let (m, value) = value_within(alloc, &i[n..], room)?;
+    Ok((n + m, (key, value)))
+}
+
+/// Reads a tag and its value.
+pub fn parse_value(alloc: Global, i: &[u8]) -> Result<(usize, AMQPValue), ParserError>
+    ensures judged { Answers value_of result (judge_field_value i.now) }
+    ensures within { IfOk result (λ found. IsWithin (tagged_size (value_of found.1)) (tagged_bytes (value_of found.1)) found.0) }
+    ensures used { IfOk result (λ found. found.0 ≤ length i.now) }
+{
+    value_within(alloc, i, 64)
+}
+
+/// Reads an array: a length of four bytes, and the values that fill as many.
+pub fn parse_field_array(alloc: Global, i: &[u8]) -> Result<(usize, FieldArray), ParserError>
+    ensures judged { Answers (λ array. array) result (judge_field_array i.now) }
+    ensures within { IfOk result (λ found. IsWithin (array_size found.1) (array_bytes found.1) found.0) }
+    ensures used { IfOk result (λ found. found.0 ≤ length i.now) }
+{
+    array_within(alloc, i, 63)
+}
+
+/// Reads a table: a length of four bytes, and the entries that fill as many.
+pub fn parse_field_table(alloc: Global, i: &[u8]) -> Result<(usize, FieldTable), ParserError>
+    ensures judged { Answers (λ table. table) result (judge_field_table i.now) }
+    ensures within { IfOk result (λ found. IsWithin (table_size found.1) (table_bytes found.1) found.0) }
+    ensures used { IfOk result (λ found. found.0 ≤ length i.now) }
+{
+    table_within(alloc, i, 63)
+}

@@ -1,0 +1,186 @@
+//! Reading slots one behind another.
+
+ghost use Rattle.std.specs.Prelude.{◌≡◌, ◌≤◌, [], ◌∷◌, length, map};
+ghost use Rattle.amqp_types.specs.Numbers.{bytes1, bytes2, bytes4, bytes8};
+ghost use Rattle.amqp_types.specs.Flags.{flags_from};
+ghost use Rattle.amqp_types.specs.Slots.{number_item, flag_item, text_item, bytes_item, entries_item, number_form, flags_form, short_string_form, long_string_form, table_form};
+ghost use Rattle.amqp_types.specs.SlotJudging.{Steps, judge_form, judge_dropped};
+ghost use Rattle.amqp_types.specs.Calls.{NeedsNoMemory};
+
+use crate::parsing::parse_field_table;
+use crate::value::FieldTable;
+use amqp_types::{
+    LongLongUInt, LongString, LongUInt, ParserError, ShortShortUInt, ShortString, ShortUInt,
+    parse_long_bytes, parse_long_long_uint, parse_long_string, parse_long_uint,
+    parse_short_short_uint, parse_short_str, parse_short_string, parse_short_uint,
+};
+use std::alloc::Global;
+
+/// The bytes of one container that are not read yet.
+#[derive(Drop)]
+pub struct SlotReader<'a> {
+    /// What is left.
+    pub rest: &'a [u8],
+}
+
+impl<'a> SlotReader<'a> {
+    /// A reader of all of these bytes.
+    pub fn new(bytes: &'a [u8]) -> SlotReader<'a>
+        ensures { result.rest.now ≡ bytes.now }
+    {
+        SlotReader { rest: bytes }
+    }
+
+    /// Reads a number of 1 byte.
+    #[tactic(auto, using(crate::proofs::Steps::dropped, amqp_types::proofs::Judged::refuses_next), unfolding(amqp_types::specs::SlotJudging::judge_form))]
+    pub fn short_short_uint(&mut self) -> Result<ShortShortUInt, ParserError>
+        ensures step { Steps (λ n. number_item n ∷ []) result self.old.rest.now self.new.rest.now (judge_form (number_form bytes1)) }
+        ensures left { length self.new.rest.now ≤ length self.old.rest.now }
+        ensures memory { NeedsNoMemory result }
+    {
+        let (n, value) = parse_short_short_uint(self.rest)?;
+        self.rest = &self.rest[n..];
+        Ok(value)
+    }
+
+    /// Reads a number of 2 bytes.
+    #[tactic(auto, using(crate::proofs::Steps::dropped, amqp_types::proofs::Judged::refuses_next), unfolding(amqp_types::specs::SlotJudging::judge_form))]
+    pub fn short_uint(&mut self) -> Result<ShortUInt, ParserError>
+        ensures step { Steps (λ n. number_item n ∷ []) result self.old.rest.now self.new.rest.now (judge_form (number_form bytes2)) }
+        ensures left { length self.new.rest.now ≤ length self.old.rest.now }
+        ensures memory { NeedsNoMemory result }
+    {
+        let (n, value) = parse_short_uint(self.rest)?;
+        self.rest = &self.rest[n..];
+        Ok(value)
+    }
+
+    /// Reads a number of 4 bytes.
+    #[tactic(auto, using(crate::proofs::Steps::dropped, amqp_types::proofs::Judged::refuses_next), unfolding(amqp_types::specs::SlotJudging::judge_form))]
+    pub fn long_uint(&mut self) -> Result<LongUInt, ParserError>
+        ensures step { Steps (λ n. number_item n ∷ []) result self.old.rest.now self.new.rest.now (judge_form (number_form bytes4)) }
+        ensures left { length self.new.rest.now ≤ length self.old.rest.now }
+        ensures memory { NeedsNoMemory result }
+    {
+        let (n, value) = parse_long_uint(self.rest)?;
+        self.rest = &self.rest[n..];
+        Ok(value)
+    }
+
+    /// Reads a number of 8 bytes.
+    #[tactic(auto, using(crate::proofs::Steps::dropped, amqp_types::proofs::Judged::refuses_next), unfolding(amqp_types::specs::SlotJudging::judge_form))]
+    pub fn long_long_uint(&mut self) -> Result<LongLongUInt, ParserError>
+        ensures step { Steps (λ n. number_item n ∷ []) result self.old.rest.now self.new.rest.now (judge_form (number_form bytes8)) }
+        ensures left { length self.new.rest.now ≤ length self.old.rest.now }
+        ensures memory { NeedsNoMemory result }
+    {
+        let (n, value) = parse_long_long_uint(self.rest)?;
+        self.rest = &self.rest[n..];
+        Ok(value)
+    }
+
+    /// Reads a byte of `N` flags.
+    #[tactic(auto, using(crate::proofs::Steps::dropped, amqp_types::proofs::Judged::refuses_next), unfolding(amqp_types::specs::SlotJudging::judge_form, amqp_types::specs::Flags::judge_flags))]
+    pub fn flags<const N: usize>(&mut self) -> Result<ShortShortUInt, ParserError>
+        ensures step { Steps (λ byte. map flag_item (flags_from N 0 byte)) result self.old.rest.now self.new.rest.now (judge_form (flags_form N)) }
+        ensures left { length self.new.rest.now ≤ length self.old.rest.now }
+        ensures memory { NeedsNoMemory result }
+    {
+        let (n, value) = parse_short_short_uint(self.rest)?;
+        self.rest = &self.rest[n..];
+        Ok(value)
+    }
+
+    /// Reads a short string.
+    #[tactic(auto, using(crate::proofs::Steps::dropped, amqp_types::proofs::Judged::refuses_next), unfolding(amqp_types::specs::SlotJudging::judge_form))]
+    pub fn short_string(&mut self, alloc: Global) -> Result<ShortString, ParserError>
+        ensures step { Steps (λ text. text_item text ∷ []) result self.old.rest.now self.new.rest.now (judge_form short_string_form) }
+        ensures left { length self.new.rest.now ≤ length self.old.rest.now }
+    {
+        let (n, value) = parse_short_string(alloc, self.rest)?;
+        self.rest = &self.rest[n..];
+        Ok(value)
+    }
+
+    /// Reads a long string.
+    #[tactic(auto, using(crate::proofs::Steps::dropped, amqp_types::proofs::Judged::refuses_next), unfolding(amqp_types::specs::SlotJudging::judge_form))]
+    pub fn long_string(&mut self, alloc: Global) -> Result<LongString, ParserError>
+        ensures step { Steps (λ bytes. bytes_item bytes ∷ []) result self.old.rest.now self.new.rest.now (judge_form long_string_form) }
+        ensures left { length self.new.rest.now ≤ length self.old.rest.now }
+    {
+        let (n, value) = parse_long_string(alloc, self.rest)?;
+        self.rest = &self.rest[n..];
+        Ok(value)
+    }
+
+    /// Reads a table.
+    #[tactic(auto, using(crate::proofs::Steps::dropped, amqp_types::proofs::Judged::refuses_next), unfolding(amqp_types::specs::SlotJudging::judge_form))]
+    pub fn table(&mut self, alloc: Global) -> Result<FieldTable, ParserError>
+        ensures step { Steps (λ es. entries_item es ∷ []) result self.old.rest.now self.new.rest.now (judge_form table_form) }
+        ensures left { length self.new.rest.now ≤ length self.old.rest.now }
+    {
+        let (n, value) = parse_field_table(alloc, self.rest)?;
+        self.rest = &self.rest[n..];
+        Ok(value)
+    }
+
+    /// Reads a number of 2 bytes and drops it.
+    #[tactic(auto, using(crate::proofs::Steps::dropped, amqp_types::proofs::Judged::refuses_next), unfolding(amqp_types::specs::SlotJudging::judge_form, amqp_types::specs::SlotJudging::judge_dropped))]
+    pub fn skip_short_uint(&mut self) -> Result<(), ParserError>
+        ensures step { Steps (λ _. []) result self.old.rest.now self.new.rest.now (judge_dropped (number_form bytes2)) }
+        ensures left { length self.new.rest.now ≤ length self.old.rest.now }
+        ensures memory { NeedsNoMemory result }
+    {
+        let (n, _) = parse_short_uint(self.rest)?;
+        self.rest = &self.rest[n..];
+        Ok(())
+    }
+
+    /// Reads a number of 4 bytes and drops it.
+    #[tactic(auto, using(crate::proofs::Steps::dropped, amqp_types::proofs::Judged::refuses_next), unfolding(amqp_types::specs::SlotJudging::judge_form, amqp_types::specs::SlotJudging::judge_dropped))]
+    pub fn skip_long_uint(&mut self) -> Result<(), ParserError>
+        ensures step { Steps (λ _. []) result self.old.rest.now self.new.rest.now (judge_dropped (number_form bytes4)) }
+        ensures left { length self.new.rest.now ≤ length self.old.rest.now }
+        ensures memory { NeedsNoMemory result }
+    {
+        let (n, _) = parse_long_uint(self.rest)?;
+        self.rest = &self.rest[n..];
+        Ok(())
+    }
+
+    /// Reads a short string and drops it.
+    #[tactic(auto, using(crate::proofs::Steps::dropped, amqp_types::proofs::Judged::refuses_next), unfolding(amqp_types::specs::SlotJudging::judge_form, amqp_types::specs::SlotJudging::judge_dropped))]
+    pub fn skip_short_string(&mut self) -> Result<(), ParserError>
+        ensures step { Steps (λ _. []) result self.old.rest.now self.new.rest.now (judge_dropped short_string_form) }
+        ensures left { length self.new.rest.now ≤ length self.old.rest.now }
+        ensures memory { NeedsNoMemory result }
+    {
+        let (n, _) = parse_short_str(self.rest)?;
+        self.rest = &self.rest[n..];
+        Ok(())
+    }
+
+    /// Reads a long string and drops it.
+    #[tactic(auto, using(crate::proofs::Steps::dropped, amqp_types::proofs::Judged::refuses_next), unfolding(amqp_types::specs::SlotJudging::judge_form, amqp_types::specs::SlotJudging::judge_dropped))]
+    pub fn skip_long_string(&mut self) -> Result<(), ParserError>
+        ensures step { Steps (λ _. []) result self.old.rest.now self.new.rest.now (judge_dropped long_string_form) }
+        ensures left { length self.new.rest.now ≤ length self.old.rest.now }
+        ensures memory { NeedsNoMemory result }
+    {
+        let (n, _) = parse_long_bytes(self.rest)?;
+        self.rest = &self.rest[n..];
+        Ok(())
+    }
+
+    /// Reads a byte of `N` flags and drops it.
+    #[tactic(auto, using(crate::proofs::Steps::dropped, amqp_types::proofs::Judged::refuses_next), unfolding(amqp_types::specs::SlotJudging::judge_form, amqp_types::specs::SlotJudging::judge_dropped, amqp_types::specs::Flags::judge_flags))]
+    pub fn skip_flags<const N: usize>(&mut self) -> Result<(), ParserError>
+        ensures step { Steps (λ _. []) result self.old.rest.now self.new.rest.now (judge_dropped (flags_form N)) }
+        ensures left { length self.new.rest.now ≤ length self.old.rest.now }
+        ensures memory { NeedsNoMemory result }
+    {
+        let (n, _) = parse_short_short_uint(self.rest)?;
+        self.rest = &self.rest[n..];
+        Ok(())
+    }
+}

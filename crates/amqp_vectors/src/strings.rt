@@ -1,0 +1,129 @@
+//! Strings, byte arrays and flags.
+
+use amqp_values::{
+    AMQPFlags, ByteArray, LongString, MakeError, ParserError, ShortString, gen_byte_array,
+    gen_flags, gen_long_string, gen_short_string, parse_byte_array, parse_flags, parse_long_bytes,
+    parse_long_string, parse_short_str, parse_short_string, parse_table_bytes, put_byte_array,
+    put_flags, put_long_string, put_short_string, size_byte_array, size_flags, size_long_string,
+    size_short_string,
+};
+use std::test::Fail;
+
+#[test]
+fn short_strings_have_at_most_255_bytes(rt: HostRuntime) -> Result<(), Fail> {
+    let alloc = rt.alloc();
+    let mut text = String::new(alloc);
+    for _ in 0..255 {
+        text.push('a')?;
+    }
+    assert_eq!(rt; ShortString::new(alloc, &text)?.len(), 255);
+    text.push('a')?;
+    assert_eq!(rt; ShortString::new(alloc, &text), Err(MakeError::TooLong));
+    assert!(rt; ShortString::new(alloc, "")?.is_empty());
+    Ok(())
+}
+
+#[test]
+fn short_strings_are_compared_by_bytes(rt: HostRuntime) -> Result<(), Fail> {
+    let alloc = rt.alloc();
+    let lower = ShortString::new(alloc, "queue")?;
+    let upper = ShortString::new(alloc, "Queue")?;
+    assert!(rt; upper < lower);
+    assert!(rt; upper != lower);
+    assert_eq!(rt; lower.copy(alloc)?, lower);
+    assert_eq!(rt; ShortString::empty(alloc).as_str(), "");
+    assert_eq!(rt; format!(in alloc; "{lower}")?.as_str(), "queue");
+    Ok(())
+}
+
+#[test]
+fn strings_are_read_as_written(rt: HostRuntime) -> Result<(), Fail> {
+    let alloc = rt.alloc();
+    let mut out = Vec::new(alloc);
+    let short = ShortString::new(alloc, "a")?;
+    gen_short_string(alloc, &mut out, &short)?;
+    let long = LongString::new(alloc, &[98, 255])?;
+    gen_long_string(alloc, &mut out, long.as_bytes())?;
+    let bytes = ByteArray::new(alloc, &[99])?;
+    gen_byte_array(alloc, &mut out, &bytes)?;
+    assert_eq!(rt;
+        out.as_slice(),
+        [1, 97, 0, 0, 0, 2, 98, 255, 0, 0, 0, 1, 99].as_slice()
+    );
+    assert_eq!(rt; parse_short_string(alloc, &out)?, (2, short.copy(alloc)?));
+    assert_eq!(rt; parse_short_str(&out)?, (2, "a"));
+    assert_eq!(rt;
+        parse_long_string(alloc, &out[2..])?,
+        (6, long.copy(alloc)?)
+    );
+    assert_eq!(rt; parse_long_bytes(&out[2..])?, (6, [98, 255].as_slice()));
+    assert_eq!(rt; parse_table_bytes(&out[2..])?, (6, [98, 255].as_slice()));
+    assert_eq!(rt;
+        parse_byte_array(alloc, &out[8..])?,
+        (5, bytes.copy(alloc)?)
+    );
+    assert_eq!(rt; ByteArray::from_vec(out).len(), 13);
+    assert_eq!(rt; LongString::empty(alloc).len(), 0);
+    assert_eq!(rt; ByteArray::empty(alloc).len(), 0);
+    Ok(())
+}
+
+#[test]
+fn strings_are_put_into_slices(rt: HostRuntime) -> Result<(), Fail> {
+    let alloc = rt.alloc();
+    let mut buf = [9; 13];
+    let short = ShortString::new(alloc, "a")?;
+    let bytes = ByteArray::new(alloc, &[99])?;
+    assert_eq!(rt; size_short_string(&short)?, 2);
+    assert_eq!(rt; size_long_string(&[98])?, 5);
+    assert_eq!(rt; size_byte_array(&bytes)?, 5);
+    let at = put_short_string(&mut buf, 0, &short);
+    let at = put_long_string(&mut buf, at, &[98]);
+    assert_eq!(rt; put_byte_array(&mut buf, at, &bytes), 12);
+    assert_eq!(rt; buf, [1, 97, 0, 0, 0, 1, 98, 0, 0, 0, 1, 99, 9]);
+    Ok(())
+}
+
+#[test]
+fn refusals_of_strings(rt: HostRuntime) -> Result<(), Fail> {
+    let alloc = rt.alloc();
+    assert_eq!(rt; parse_short_str(&[]), Err(ParserError::Incomplete));
+    assert_eq!(rt; parse_short_str(&[2, 255]), Err(ParserError::Incomplete));
+    assert_eq!(rt; parse_short_str(&[1, 255]), Err(ParserError::NotUtf8));
+    assert_eq!(rt;
+        parse_short_string(alloc, &[1, 255]),
+        Err(ParserError::NotUtf8)
+    );
+    assert_eq!(rt;
+        parse_long_string(alloc, &[0, 0, 0, 1]),
+        Err(ParserError::Incomplete)
+    );
+    assert_eq!(rt;
+        parse_long_bytes(&[255, 255, 255, 255, 0]),
+        Err(ParserError::Incomplete)
+    );
+    assert_eq!(rt; parse_table_bytes(&[0, 0, 0]), Err(ParserError::Incomplete));
+    assert_eq!(rt; parse_byte_array(alloc, &[0]), Err(ParserError::Incomplete));
+    Ok(())
+}
+
+#[test]
+fn the_first_flag_is_the_lowest_bit(rt: HostRuntime) -> Result<(), Fail> {
+    let mut flags = AMQPFlags::default();
+    flags.add_flag(true);
+    flags.add_flag(false);
+    assert_eq!(rt; flags.to_byte(), 1);
+    assert_eq!(rt; flags.len(), 2);
+    assert_eq!(rt; flags.get_flag(0), Some(true));
+    assert_eq!(rt; flags.get_flag(1), Some(false));
+    assert_eq!(rt; flags.get_flag(2), None);
+    let mut out = Vec::new(rt.alloc());
+    gen_flags(rt.alloc(), &mut out, &flags)?;
+    assert_eq!(rt; out.as_slice(), [1].as_slice());
+    assert_eq!(rt; parse_flags(&[253], 2)?, (1, flags.clone()?));
+    assert_eq!(rt; size_flags(&flags)?, 1);
+    let mut buf = [9, 9];
+    assert_eq!(rt; put_flags(&mut buf, 0, &flags), 1);
+    assert_eq!(rt; buf, [1, 9]);
+    Ok(())
+}
