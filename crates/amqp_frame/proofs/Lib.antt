@@ -1,10 +1,16 @@
 pub mod OuterLook
 pub mod Looked
 pub mod Cuts
+pub mod Payloads
+pub mod Typed
 pub mod Spelled
 pub mod Made
 pub mod Rows
 pub mod Strictness
 pub mod ReadingBack
 pub mod Sizes
-pub mod Payloads
+pub mod Parts
+pub mod Within
+pub mod Standing
+pub mod StrictWalk
+pub mod TableFronts

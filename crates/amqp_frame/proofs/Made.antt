@@ -1,26 +1,33 @@
 -- What is judged to be a frame spells it.
 use Rattle.std.proofs.Common.{◌≡◌, ◌≢◌, ℕ, suc, ◌+◌, ◌≤◌, Bool, true, false, eqb, List, [], ◌∷◌, ◌++◌, length, get_or, take, drop, Option, Some, None, Result, Ok, Err, refl, sym, ap, subst, ◌∙◌, arith, inl, inr}
 use Rattle.std.proofs.lemmas.Bool.{cases_lt, cases_eq, cases_Bool, le-ltb, lt-ltb, ltb-false, eq-eqb, eqb-true, ne_eqb, and_parts}
-use Rattle.std.proofs.lemmas.List.{length-take-le, get_or-append-add, take_more, nil_from_length}
+use Rattle.std.proofs.lemmas.List.{length-drop, length-take-le, get_or-append-add, take_more, nil_from_length}
 use Rattle.std.proofs.lemmas.Nat.{be_bytes_2, be_bytes_4}
+use Rattle.std.proofs.lemmas.Slice.Eq.{bytes_eq-Decides}
+use Rattle.std.specs.Str.{bytes_eq}
 use Rattle.std.proofs.Math.Seq.{take-append-add}
 use Rattle.std.specs.Int.{w16, from_be_bytes}
 use Rattle.amqp_types.specs.Levels.{Level, plain, tidy, strict}
 use Rattle.amqp_types.specs.Judging.{Fault, Judged, past, fault, took, IsBytes}
 use Rattle.amqp_types.specs.Numbers.{bytes2, bytes4, number_bytes}
+use Rattle.amqp_types.specs.ValueJudging.{read_map}
+use Rattle.amqp_types.specs.Methods.{Method, judge_payload}
+use Rattle.amqp_types.specs.ContentHeaders.{ContentHeader, judge_content_header}
 use Rattle.amqp_types.proofs.Bytes.{IsBytes-take, IsBytes-drop}
 use Rattle.amqp_frame.specs.declared.frame_type.AMQPFrameType.{AMQPFrameType}
 use Rattle.amqp_frame.specs.declared.frame_type.AMQPFrameType.TheVariants as kinds
-use Rattle.amqp_frame.specs.Frames.{Frame, Proto, Body, Beat, BadBeat, Raw}
+use Rattle.amqp_frame.specs.Frames.{Frame, Proto, Meth, Head, Body, Beat, BadBeat, Raw}
 use Rattle.amqp_frame.specs.Outer.{type_of, begins_as, is_above, payload_length, judge_version, version_at, ended_payload, judge_raw, behind_type, outer}
-use Rattle.amqp_frame.specs.Verdicts.{whole_as, is_tidy_as, is_at, judged, judged_frame, verdict}
+use Rattle.amqp_frame.specs.Canonical.{payload_of}
+use Rattle.amqp_frame.specs.Verdicts.{all_of, whole_as, is_tidy_as, is_written_for, is_at, judged, judged_frame, verdict}
 use Rattle.amqp_frame.specs.Spelling.{head, framed, proto, IsBeatPayload, IsFramed, IsBeat, Spells, IsWithin}
 use Rattle.amqp_frame.proofs.OuterLook.{mark, typed, outer-typed, outer-none, behind_byte-took}
+use Rattle.amqp_frame.proofs.Typed.{method_at, method_spells, header_at, header_spells}
 use Rattle.amqp_frame.proofs.Spelled.{raw_as, framed-length}
 
 -- ---- type bytes
 
-abbrev byte_of : AMQPFrameType → ℕ
+abbrev pub byte_of : AMQPFrameType → ℕ
 byte_of kinds.ProtocolHeader = 65
 byte_of kinds.Method = 1
 byte_of kinds.Header = 2
@@ -150,27 +157,51 @@ version_at-made bytes raw n e = elim (cases_Bool (begins_as bytes mark)) [
 
 -- ---- the frame of a whole payload
 
-at_beat : (level : Level) (channel : ℕ) (payload : List ℕ) → is_at level (raw_as kinds.Heartbeat channel payload) ≡ true → IsBeatPayload level payload
+at_beat : (level : Level) (channel : ℕ) (payload : List ℕ) (f : Frame) → whole_as kinds.Heartbeat channel payload ≡ Ok f → payload_of f ≡ [] → is_at level (raw_as kinds.Heartbeat channel payload) ≡ true → IsBeatPayload level payload
 unfolding is_tidy_as
-at_beat plain channel payload e = tt
-at_beat tidy channel payload e = nil_from_length payload (eqb-true (length payload) 0 e)
-at_beat strict channel payload e = nil_from_length payload (eqb-true (length payload) 0 e)
+at_beat plain channel payload f w none e = tt
+at_beat tidy channel payload f w none e = nil_from_length payload (eqb-true (length payload) 0 e)
+at_beat strict channel payload f w none e =
+    let written : is_written_for (whole_as kinds.Heartbeat channel payload) payload ≡ true = e in
+    let same : bytes_eq payload (payload_of f) ≡ true = ap (λ read. is_written_for read payload) (sym w) ∙ written in
+    (bytes_eq-Decides payload (payload_of f)).0 same ∙ none
+
+-- the frame that a payload was read as, by what was read of it
+read_as : {A : Type 0} (make : A → Frame) (read : Result A Fault) (f : Frame) → read_map make read ≡ Ok f → (x : A) × (read ≡ Ok x) × (make x ≡ f)
+read_as make (Ok x) f h = (x, refl, cc)
+read_as make (Err bad) f h = absurd cc
+
+at_method : (level : Level) (channel : ℕ) (payload : List ℕ) (m : Method) → all_of judge_payload payload ≡ Ok m → is_at level (raw_as kinds.Method channel payload) ≡ true → method_at level payload m ≡ true
+unfolding is_tidy_as whole_as
+at_method plain channel payload m w e = refl
+at_method tidy channel payload m w e = e
+at_method strict channel payload m w e = ap (λ read. is_written_for (read_map (λ x. Meth channel x) read) payload) (sym w) ∙ e
+
+at_header : (level : Level) (channel : ℕ) (payload : List ℕ) (header : ContentHeader) → all_of judge_content_header payload ≡ Ok header → is_at level (raw_as kinds.Header channel payload) ≡ true → header_at level payload header ≡ true
+unfolding is_tidy_as whole_as
+at_header plain channel payload header w e = refl
+at_header tidy channel payload header w e = e
+at_header strict channel payload header w e = ap (λ read. is_written_for (read_map (λ x. Head channel x) read) payload) (sym w) ∙ e
 
 -- what spells a frame, by its type
-spells_as : (level : Level) (bytes : List ℕ) (kind : AMQPFrameType) (channel : ℕ) (payload : List ℕ) (f : Frame) → IsFramed bytes (byte_of kind) channel payload → whole_as kind channel payload ≡ Ok f → is_at level (raw_as kind channel payload) ≡ true → kind ≢ kinds.ProtocolHeader → Spells level bytes f
+pub spells_as : (level : Level) (bytes : List ℕ) (kind : AMQPFrameType) (channel : ℕ) (payload : List ℕ) (f : Frame) → IsBytes payload → IsFramed bytes (byte_of kind) channel payload → whole_as kind channel payload ≡ Ok f → is_at level (raw_as kind channel payload) ≡ true → kind ≢ kinds.ProtocolHeader → Spells level bytes f
 unfolding whole_as
-spells_as level bytes kinds.ProtocolHeader channel payload f is_framed is_whole at_level other = absurd (other refl)
-spells_as level bytes kinds.Method channel payload f is_framed is_whole at_level other = absurd cc
-spells_as level bytes kinds.Header channel payload f is_framed is_whole at_level other = absurd cc
-spells_as level bytes kinds.Body channel payload f is_framed is_whole at_level other = let e : Body channel payload ≡ f = cc in subst (Spells level bytes) e is_framed
-spells_as level bytes kinds.Heartbeat channel payload f is_framed is_whole at_level other = elim (cases_eq channel 0) [
+spells_as level bytes kinds.ProtocolHeader channel payload f fits is_framed is_whole at_level other = absurd (other refl)
+spells_as level bytes kinds.Method channel payload f fits is_framed is_whole at_level other =
+    let read = read_as (λ x. Meth channel x) (all_of judge_payload payload) f is_whole in
+    subst (Spells level bytes) read.2 (record { payload = payload; is_framed = is_framed; spelled = method_spells level payload read.0 fits read.1 (at_method level channel payload read.0 read.1 at_level) })
+spells_as level bytes kinds.Header channel payload f fits is_framed is_whole at_level other =
+    let read = read_as (λ x. Head channel x) (all_of judge_content_header payload) f is_whole in
+    subst (Spells level bytes) read.2 (record { payload = payload; is_framed = is_framed; spelled = header_spells level payload read.0 fits read.1 (at_header level channel payload read.0 read.1 at_level) })
+spells_as level bytes kinds.Body channel payload f fits is_framed is_whole at_level other = let e : Body channel payload ≡ f = cc in subst (Spells level bytes) e is_framed
+spells_as level bytes kinds.Heartbeat channel payload f fits is_framed is_whole at_level other = elim (cases_eq channel 0) [
   | inl none ↦
       let e : Beat ≡ f = let x = rw (eq-eqb channel 0 none) at is_whole in cc in
-      let beat : IsBeat level bytes 0 = record { payload = payload; is_framed = subst (λ n. IsFramed bytes 8 n payload) none is_framed; at_level = at_beat level channel payload at_level } in
+      let beat : IsBeat level bytes 0 = record { payload = payload; is_framed = subst (λ n. IsFramed bytes 8 n payload) none is_framed; at_level = at_beat level channel payload f is_whole (ap payload_of (sym e)) at_level } in
       subst (Spells level bytes) e beat
   | inr some ↦
       let e : BadBeat channel ≡ f = let x = rw (ne_eqb channel 0 some) at is_whole in cc in
-      let beat : IsBeat level bytes channel = record { payload = payload; is_framed = is_framed; at_level = at_beat level channel payload at_level } in
+      let beat : IsBeat level bytes channel = record { payload = payload; is_framed = is_framed; at_level = at_beat level channel payload f is_whole (ap payload_of (sym e)) at_level } in
       subst (Spells level bytes) e (omega arith, beat)
 ]
 
@@ -203,9 +234,9 @@ within_eight : (m : Option ℕ) (bytes : List ℕ) → length bytes ≡ 8 → Is
 within_eight None bytes e = tt
 within_eight (Some m) bytes e = omega arith
 
-header_spells : (level : Level) (m : Option ℕ) (bytes : List ℕ) (raw : Raw) (n : ℕ) (f : Frame) → IsHeader bytes raw n → whole_as raw.kind raw.channel raw.payload ≡ Ok f → Spells level (65 ∷ take n bytes) f × IsWithin m (65 ∷ take n bytes)
+version_spells : (level : Level) (m : Option ℕ) (bytes : List ℕ) (raw : Raw) (n : ℕ) (f : Frame) → IsHeader bytes raw n → whole_as raw.kind raw.channel raw.payload ≡ Ok f → Spells level (65 ∷ take n bytes) f × IsWithin m (65 ∷ take n bytes)
 unfolding whole_as
-header_spells level m bytes raw n f h is_whole =
+version_spells level m bytes raw n f h is_whole =
     let x : Ok (Proto (get_or bytes 4 0) (get_or bytes 5 0) (get_or bytes 6 0)) ≡ ok_frame f = subst (λ r. whole_as r.kind r.channel r.payload ≡ Ok f) h.raw_is is_whole in
     let e : Proto (get_or bytes 4 0) (get_or bytes 5 0) (get_or bytes 6 0) ≡ f = cc in
     (subst (Spells level (65 ∷ take n bytes)) e h.spelled, within_eight m (65 ∷ take n bytes) (ap length h.spelled))
@@ -215,11 +246,13 @@ framed_spells level m kind bytes raw n f fits h at_level is_whole other =
     let made = framed-made m kind (byte_of kind) bytes raw n fits h in
     let kind-is : raw.kind ≡ kind = ap (λ r. r.kind) h.raw_is in
     let is_framed : IsFramed (byte_of kind ∷ take n bytes) (byte_of raw.kind) raw.channel raw.payload = subst (λ k. IsFramed (byte_of kind ∷ take n bytes) (byte_of k) raw.channel raw.payload) (sym kind-is) made.0 in
-    (spells_as level (byte_of kind ∷ take n bytes) raw.kind raw.channel raw.payload f is_framed is_whole at_level (λ e. other (sym kind-is ∙ e)), made.1)
+    let P : Raw → Type 0 = λ r. IsBytes r.payload in
+    let are_bytes : IsBytes raw.payload = subst P (sym h.raw_is) (IsBytes-take (payload_length bytes) (drop 6 bytes) (IsBytes-drop 6 bytes fits)) in
+    (spells_as level (byte_of kind ∷ take n bytes) raw.kind raw.channel raw.payload f are_bytes is_framed is_whole at_level (λ e. other (sym kind-is ∙ e)), made.1)
 
 behind_type-spells : (level : Level) (m : Option ℕ) (kind : AMQPFrameType) (bytes : List ℕ) (raw : Raw) (n : ℕ) (f : Frame) → IsBytes bytes → behind_type m kind bytes ≡ took raw n → is_at level raw ≡ true → whole_as raw.kind raw.channel raw.payload ≡ Ok f → Spells level (byte_of kind ∷ take n bytes) f × IsWithin m (byte_of kind ∷ take n bytes)
 unfolding behind_type
-behind_type-spells level m kinds.ProtocolHeader bytes raw n f fits e at_level is_whole = header_spells level m bytes raw n f (version_at-made bytes raw n e) is_whole
+behind_type-spells level m kinds.ProtocolHeader bytes raw n f fits e at_level is_whole = version_spells level m bytes raw n f (version_at-made bytes raw n e) is_whole
 behind_type-spells level m kinds.Method bytes raw n f fits e at_level is_whole = framed_spells level m kinds.Method bytes raw n f fits (judge_raw-made m kinds.Method bytes raw n e) at_level is_whole (λ x. absurd cc)
 behind_type-spells level m kinds.Header bytes raw n f fits e at_level is_whole = framed_spells level m kinds.Header bytes raw n f fits (judge_raw-made m kinds.Header bytes raw n e) at_level is_whole (λ x. absurd cc)
 behind_type-spells level m kinds.Body bytes raw n f fits e at_level is_whole = framed_spells level m kinds.Body bytes raw n f fits (judge_raw-made m kinds.Body bytes raw n e) at_level is_whole (λ x. absurd cc)
@@ -240,3 +273,28 @@ verdict-spells level m [] f n fits e = absurd (let none = outer-none m in cc)
 verdict-spells level m (b ∷ bytes) f n fits e =
     let h = judged-is level (outer m (b ∷ bytes)) f n e in
     typed-spells level m (type_of b) b bytes h.raw n f (IsBytes-drop 1 (b ∷ bytes) fits) refl (sym (outer-typed m b bytes) ∙ h.found) h.at_level h.is_whole
+
+-- ---- a frame that is no protocol header has eight bytes beside its payload
+
+made-beside : (m : Option ℕ) (kind : AMQPFrameType) (bytes : List ℕ) (raw : Raw) (n : ℕ) → IsMadeOf m kind bytes raw n → length raw.payload + 7 ≤ n
+made-beside m kind bytes raw n h =
+    let payload : length raw.payload ≡ payload_length bytes = ap (λ r. length r.payload) h.raw_is ∙ length-take-le (payload_length bytes) (drop 6 bytes) (omega (arith, length-drop 6 bytes, h.enough)) in
+    omega (arith, payload, h.size)
+
+behind_type-beside : (m : Option ℕ) (kind : AMQPFrameType) (bytes : List ℕ) (raw : Raw) (n : ℕ) → behind_type m kind bytes ≡ took raw n → raw.kind ≢ kinds.ProtocolHeader → length raw.payload + 7 ≤ n
+unfolding behind_type
+behind_type-beside m kinds.ProtocolHeader bytes raw n e other = absurd (other (ap (λ r. r.kind) (version_at-made bytes raw n e).raw_is))
+behind_type-beside m kinds.Method bytes raw n e other = made-beside m kinds.Method bytes raw n (judge_raw-made m kinds.Method bytes raw n e)
+behind_type-beside m kinds.Header bytes raw n e other = made-beside m kinds.Header bytes raw n (judge_raw-made m kinds.Header bytes raw n e)
+behind_type-beside m kinds.Body bytes raw n e other = made-beside m kinds.Body bytes raw n (judge_raw-made m kinds.Body bytes raw n e)
+behind_type-beside m kinds.Heartbeat bytes raw n e other = made-beside m kinds.Heartbeat bytes raw n (judge_raw-made m kinds.Heartbeat bytes raw n e)
+
+typed-beside : (m : Option ℕ) (o : Option AMQPFrameType) (bytes : List ℕ) (raw : Raw) (n : ℕ) → typed m o bytes ≡ took raw n → raw.kind ≢ kinds.ProtocolHeader → length raw.payload + 8 ≤ n
+typed-beside m None bytes raw n e other = absurd cc
+typed-beside m (Some kind) bytes raw n e other =
+    let one = behind_byte-took (behind_type m kind bytes) raw n e in
+    omega (arith, behind_type-beside m kind bytes raw one.used one.found other, one.count)
+
+pub outer-beside : (m : Option ℕ) (bytes : List ℕ) (raw : Raw) (n : ℕ) → outer m bytes ≡ took raw n → raw.kind ≢ kinds.ProtocolHeader → length raw.payload + 8 ≤ n
+outer-beside m [] raw n e other = absurd (let none = outer-none m in cc)
+outer-beside m (b ∷ bytes) raw n e other = typed-beside m (type_of b) bytes raw n (sym (outer-typed m b bytes) ∙ e) other

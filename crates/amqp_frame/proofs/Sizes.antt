@@ -1,14 +1,20 @@
 -- Sizes of frames, and frames at a place of a slice.
-use Rattle.std.proofs.Common.{◌≡◌, ℕ, ◌+◌, ◌≤◌, Bool, true, false, List, [], ◌∷◌, ◌++◌, length, Result, Ok, Err, refl, ap, subst, arith}
-use Rattle.std.specs.Prelude.{if◌then◌else◌}
+use Rattle.std.proofs.Common.{◌≡◌, ℕ, ◌+◌, ◌^◌, ◌<◌, ◌≤◌, ◌||◌, Bool, true, false, List, [], ◌∷◌, ◌++◌, length, Result, Ok, Err, refl, ap, subst, arith, inl, inr}
+use Rattle.std.proofs.lemmas.Bool.{cases_Bool}
+use Rattle.std.proofs.lemmas.Bool.Decides.{nat_tests}
 use Rattle.std.proofs.lemmas.List.{length-append}
+use Rattle.amqp_types.specs.Sizes.{measured}
 use Rattle.amqp_types.specs.Writing.{Puts}
 use Rattle.amqp_types.specs.declared.errors.GenError.{GenError}
 use Rattle.amqp_types.specs.declared.errors.GenError.TheVariants as errors
 use Rattle.amqp_types.proofs.Puts.{puts_then, puts-length}
-use Rattle.amqp_frame.specs.Frames.{Frame}
+use Rattle.amqp_types.specs.SlotBytes.{any_deep, any_long, form_bytes, slots_bytes, items_size}
+use Rattle.amqp_types.specs.Methods.{Method, payload_bytes, payload_size}
+use Rattle.amqp_types.specs.PropertyBytes.{any_deep_option, any_long_option, properties_bytes, properties_size}
+use Rattle.amqp_types.specs.ContentHeaders.{ContentHeader, header_slots, header_items, content_header_bytes, content_header_size}
+use Rattle.amqp_frame.specs.Frames.{Frame, Meth, Head, Body}
 use Rattle.amqp_frame.specs.Spelling.{head, framed}
-use Rattle.amqp_frame.specs.Canonical.{canon, is_long, size_of, SliceAnswers}
+use Rattle.amqp_frame.specs.Canonical.{canon, is_deep, is_long, is_long_for, size_of, framed_size, SliceAnswers}
 
 -- states the frame first, where `grind` picks it up
 pub framed_length : (type channel : ℕ) (payload : List ℕ) → length (framed type channel payload) ≡ length payload + 8
@@ -23,38 +29,100 @@ puts_framed buf a b new at p q end type channel front payload e room first secon
     let behind : Puts a new p (payload ++ 206 ∷ []) end = puts_then a b new p q end payload (206 ∷ []) (omega (arith, framed_length type channel payload, length-append payload (206 ∷ []), first.behind)) second third in
     subst (λ (xs : List ℕ). Puts buf new at (xs ++ (payload ++ 206 ∷ [])) end) e (puts_then buf a new at p end front (payload ++ 206 ∷ []) all first behind)
 
+-- states the size of a frame by that of its payload first, where `grind` picks it up
+pub framed_size_is : (deep long : Bool) (type channel : ℕ) (payload : List ℕ) → framed_size (measured deep long payload) ≡ measured deep (long || is_long_for payload) (framed type channel payload)
+framed_size_is true long type channel payload = refl
+framed_size_is false true type channel payload = refl
+framed_size_is false false type channel payload = elim (cases_Bool (is_long_for payload)) [
+  | inl above ↦ rw above refl
+  | inr within ↦ rw (within, framed_length type channel payload) refl
+]
+
+-- where a frame has this size, its payload has one, and four bytes count it
+pub record PayloadParts (size : Result ℕ GenError) (payload : List ℕ) (n : ℕ) : Type 0 where
+  pub sized : size ≡ Ok (length payload)
+  pub count : n ≡ length payload + 8
+  pub countable : length payload < 2 ^ 32
+
+countable : (bytes : List ℕ) → is_long_for bytes ≡ false → length bytes < 2 ^ 32
+countable bytes h = grind (arith, nat_tests)
+
+payload_parts : (deep long : Bool) (type channel : ℕ) (payload : List ℕ) (n : ℕ) → measured deep (long || is_long_for payload) (framed type channel payload) ≡ Ok n → PayloadParts (measured deep long payload) payload n
+payload_parts true long type channel payload n h = absurd cc
+payload_parts false true type channel payload n h = absurd cc
+payload_parts false false type channel payload n h = elim (cases_Bool (is_long_for payload)) [
+  | inl above ↦ absurd (let x = rw above at h in cc)
+  | inr within ↦
+      let x = rw within at h in
+      let same : length (framed type channel payload) ≡ n = cc in
+      record { sized = refl; count = omega (arith, framed_length type channel payload, same); countable = countable payload within }
+]
+
+pub method_parts : (channel : ℕ) (m : Method) (n : ℕ) → size_of (Meth channel m) ≡ Ok n → PayloadParts (payload_size m) (payload_bytes m) n
+unfolding size_of canon payload_size items_size
+method_parts channel m n h = payload_parts (any_deep m.items) (any_long m.items) 1 channel (payload_bytes m) n h
+
+pub header_parts : (channel : ℕ) (header : ContentHeader) (n : ℕ) → size_of (Head channel header) ≡ Ok n → PayloadParts (content_header_size header) (content_header_bytes header) n
+unfolding size_of canon content_header_size
+header_parts channel header n h = payload_parts (any_deep_option header.options) (any_long_option header.options) 2 channel (content_header_bytes header) n h
+
+pub body_countable : (channel : ℕ) (content : List ℕ) (n : ℕ) → size_of (Body channel content) ≡ Ok n → length content < 2 ^ 32
+unfolding size_of canon
+body_countable channel content n h = (payload_parts false false 3 channel content n h).countable
+
+-- the sizes of frames by those of their payloads
+pub method_size_is : (channel : ℕ) (m : Method) → framed_size (payload_size m) ≡ size_of (Meth channel m)
+unfolding size_of canon payload_size items_size
+method_size_is channel m = framed_size_is (any_deep m.items) (any_long m.items) 1 channel (payload_bytes m)
+
+pub header_size_is : (channel : ℕ) (header : ContentHeader) → framed_size (content_header_size header) ≡ size_of (Head channel header)
+unfolding size_of canon content_header_size
+header_size_is channel header = framed_size_is (any_deep_option header.options) (any_long_option header.options) 2 channel (content_header_bytes header)
+
+start_counted : (deep long : Bool) (start rest : List ℕ) (n : ℕ) → length start ≡ 12 → measured deep long rest ≡ Ok n → measured deep long (start ++ rest) ≡ Ok (12 + n)
+start_counted true long start rest n twelve h = absurd cc
+start_counted false true start rest n twelve h = absurd cc
+start_counted false false start rest n twelve h = let same : length rest ≡ n = cc in ap Ok (omega (arith, length-append start rest, twelve, same))
+
+-- the size of a content header by that of its properties
+pub header_counted : (header : ContentHeader) (n : ℕ) → properties_size header.options ≡ Ok n → content_header_size header ≡ Ok (12 + n)
+unfolding content_header_size content_header_bytes properties_size slots_bytes form_bytes header_slots
+header_counted header n h = start_counted (any_deep_option header.options) (any_long_option header.options) (slots_bytes header_slots (header_items header)) (properties_bytes header.options) n refl h
+
 -- where there is a size, it is the number of canonical bytes
 abbrev pub SizeIs : Result ℕ GenError → List ℕ → Type 0
 SizeIs (Ok n) bytes = n ≡ length bytes
 SizeIs (Err error) bytes = Unit {0}
 
-size_by : (long : Bool) (n : ℕ) (bytes : List ℕ) → n ≡ length bytes → SizeIs (if long then Err errors.TooLong else Ok n) bytes
-size_by true n bytes e = tt
-size_by false n bytes e = e
+size_by : (deep long : Bool) (bytes : List ℕ) → SizeIs (measured deep long bytes) bytes
+size_by true long bytes = tt
+size_by false true bytes = tt
+size_by false false bytes = refl
 
 -- states the size first, where `grind` picks it up
 pub size_is_length : (f : Frame) → (size_of f ≡ size_of f) × SizeIs (size_of f) (canon f)
 unfolding size_of
-size_is_length f = (refl, size_by (is_long f) (length (canon f)) (canon f) refl)
+size_is_length f = (refl, size_by (is_deep f) (is_long f) (canon f))
 
-refused_by : (long : Bool) (n : ℕ) (error : GenError) → (if long then Err errors.TooLong else Ok n) ≡ Err error → error ≡ errors.TooLong
-refused_by true n error e = cc
-refused_by false n error e = absurd cc
-
-slice_by : (f : Frame) (error : GenError) (old : List ℕ) → size_of f ≡ Err error → error ≡ errors.TooLong → SliceAnswers old old (size_of f) (canon f) (Err error)
-slice_by f errors.TooDeep old e h = (e, refl)
-slice_by f errors.TooLong old e h = (e, refl)
-slice_by f errors.NoMemory old e h = absurd cc
-slice_by f errors.BufferTooSmall old e h = absurd cc
+slice_by : (deep long : Bool) (bytes old : List ℕ) (error : GenError) → measured deep long bytes ≡ Err error → SliceAnswers old old (measured deep long bytes) bytes (Err error)
+slice_by deep long bytes old errors.TooDeep e = (e, refl)
+slice_by deep long bytes old errors.TooLong e = (e, refl)
+slice_by true long bytes old errors.NoMemory e = absurd cc
+slice_by false true bytes old errors.NoMemory e = absurd cc
+slice_by false false bytes old errors.NoMemory e = absurd cc
+slice_by true long bytes old errors.BufferTooSmall e = absurd cc
+slice_by false true bytes old errors.BufferTooSmall e = absurd cc
+slice_by false false bytes old errors.BufferTooSmall e = absurd cc
 
 pub slice_refused : (f : Frame) (error : GenError) (old : List ℕ) → size_of f ≡ Err error → SliceAnswers old old (size_of f) (canon f) (Err error)
 unfolding size_of
-slice_refused f error old e = slice_by f error old e (refused_by (is_long f) (length (canon f)) error e)
+slice_refused f error old e = slice_by (is_deep f) (is_long f) (canon f) old error e
 
-ok_by : (long : Bool) (n k : ℕ) → (if long then Err errors.TooLong else Ok n) ≡ Ok k → k ≡ n
-ok_by true n k e = absurd cc
-ok_by false n k e = cc
+ok_by : (deep long : Bool) (bytes : List ℕ) (k : ℕ) → measured deep long bytes ≡ Ok k → k ≡ length bytes
+ok_by true long bytes k e = absurd cc
+ok_by false true bytes k e = absurd cc
+ok_by false false bytes k e = cc
 
 pub size_is : (f : Frame) (n : ℕ) → size_of f ≡ Ok n → n ≡ length (canon f)
 unfolding size_of
-size_is f n e = ok_by (is_long f) (length (canon f)) n e
+size_is f n e = ok_by (is_deep f) (is_long f) (canon f) n e

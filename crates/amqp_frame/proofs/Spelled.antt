@@ -2,19 +2,27 @@
 use Rattle.std.proofs.Common.{◌≡◌, ℕ, ◌+◌, ◌^◌, ◌<◌, true, false, List, [], ◌∷◌, ◌++◌, length, get_or, take, drop, append_assoc, Option, Some, None, Ok, refl, sym, ap, subst, ◌∙◌, arith}
 use Rattle.std.proofs.lemmas.Bool.{le-ltb, ne_eqb}
 use Rattle.std.proofs.lemmas.List.{length-append, take_at, take_all, get_or_at}
+use Rattle.std.proofs.lemmas.Slice.Eq.{bytes_eq-Decides}
+use Rattle.std.specs.Str.{bytes_eq}
 use Rattle.std.proofs.lemmas.Nat.{from_be_bytes-to_be_bytes_2, from_be_bytes-to_be_bytes_4}
 use Rattle.std.specs.Int.{w16, from_be_bytes}
 use Rattle.amqp_types.specs.Levels.{Level, plain, tidy, strict}
 use Rattle.amqp_types.specs.Judging.{took}
+use Rattle.amqp_types.specs.ValueJudging.{read_map}
+use Rattle.amqp_types.specs.MethodSpelling.{SpellsPayload}
+use Rattle.amqp_types.specs.ContentHeaders.{ContentHeader, SpellsContentHeader}
+use Rattle.amqp_types.specs.Methods.{Method}
 use Rattle.amqp_types.specs.Numbers.{bytes2, bytes4, number_bytes}
 use Rattle.amqp_frame.specs.declared.frame_type.AMQPFrameType.{AMQPFrameType}
 use Rattle.amqp_frame.specs.declared.frame_type.AMQPFrameType.TheVariants as kinds
-use Rattle.amqp_frame.specs.Frames.{Frame, Proto, Body, Beat, BadBeat, Raw, beat_on}
+use Rattle.amqp_frame.specs.Frames.{Frame, Proto, Meth, Head, Body, Beat, BadBeat, Raw, beat_on}
 use Rattle.amqp_frame.specs.Outer.{type_of, is_above, payload_length, judge_version, judge_raw, ended_payload, behind_type, outer}
-use Rattle.amqp_frame.specs.Verdicts.{whole_as, is_tidy_as, is_at, judged, judged_frame, verdict}
+use Rattle.amqp_frame.specs.Canonical.{payload_of}
+use Rattle.amqp_frame.specs.Verdicts.{whole_as, is_tidy_as, is_written_for, is_at, judged, judged_frame, verdict}
 use Rattle.amqp_frame.specs.Spelling.{framed, proto, IsBeatPayload, IsFramed, Spells, IsWithin}
 use Rattle.amqp_frame.proofs.OuterLook.{typed, behind_byte, outer-typed}
 use Rattle.amqp_frame.proofs.Cuts.{verdict-exact}
+use Rattle.amqp_frame.proofs.Typed.{method_whole, method_is_at, header_whole, header_is_at}
 
 abbrev pub raw_as : AMQPFrameType → ℕ → List ℕ → Raw
 raw_as kind channel payload = record { kind = kind; channel = channel; payload = payload }
@@ -54,6 +62,14 @@ outer-spelled m kind type channel bytes payload is_type is_raw f within =
     ∙ ap behind_byte (is_raw (rest_of channel payload) ∙ judge_raw-spelled m kind type channel payload f.channel_fits f.length_fits in_limit)
     ∙ ap (λ n. took (raw_as kind channel payload) n) count
 
+method_is_raw : (m : Option ℕ) (rest : List ℕ) → behind_type m kinds.Method rest ≡ judge_raw m kinds.Method rest
+unfolding behind_type
+method_is_raw m rest = refl
+
+header_is_raw : (m : Option ℕ) (rest : List ℕ) → behind_type m kinds.Header rest ≡ judge_raw m kinds.Header rest
+unfolding behind_type
+header_is_raw m rest = refl
+
 body_is_raw : (m : Option ℕ) (rest : List ℕ) → behind_type m kinds.Body rest ≡ judge_raw m kinds.Body rest
 unfolding behind_type
 body_is_raw m rest = refl
@@ -61,6 +77,12 @@ body_is_raw m rest = refl
 beat_is_raw : (m : Option ℕ) (rest : List ℕ) → behind_type m kinds.Heartbeat rest ≡ judge_raw m kinds.Heartbeat rest
 unfolding behind_type
 beat_is_raw m rest = refl
+
+outer-method : (m : Option ℕ) (bytes : List ℕ) (channel : ℕ) (payload : List ℕ) → IsFramed bytes 1 channel payload → IsWithin m bytes → outer m bytes ≡ took (raw_as kinds.Method channel payload) (length bytes)
+outer-method m bytes channel payload f within = outer-spelled m kinds.Method 1 channel bytes payload refl (method_is_raw m) f within
+
+outer-header : (m : Option ℕ) (bytes : List ℕ) (channel : ℕ) (payload : List ℕ) → IsFramed bytes 2 channel payload → IsWithin m bytes → outer m bytes ≡ took (raw_as kinds.Header channel payload) (length bytes)
+outer-header m bytes channel payload f within = outer-spelled m kinds.Header 2 channel bytes payload refl (header_is_raw m) f within
 
 pub outer-body : (m : Option ℕ) (bytes : List ℕ) (channel : ℕ) (payload : List ℕ) → IsFramed bytes 3 channel payload → IsWithin m bytes → outer m bytes ≡ took (raw_as kinds.Body channel payload) (length bytes)
 outer-body m bytes channel payload f within = outer-spelled m kinds.Body 3 channel bytes payload refl (body_is_raw m) f within
@@ -74,23 +96,46 @@ outer-proto m major minor revision = refl
 
 -- ---- at each level
 
-pub beat_at : (level : Level) (channel : ℕ) (payload : List ℕ) → IsBeatPayload level payload → is_at level (raw_as kinds.Heartbeat channel payload) ≡ true
+same_itself : (bytes : List ℕ) → bytes_eq bytes bytes ≡ true
+same_itself bytes = (bytes_eq-Decides bytes bytes).1 refl
+
+pub beat_at : (level : Level) (channel : ℕ) (payload : List ℕ) (f : Frame) → whole_as kinds.Heartbeat channel payload ≡ Ok f → payload_of f ≡ [] → IsBeatPayload level payload → is_at level (raw_as kinds.Heartbeat channel payload) ≡ true
 unfolding is_tidy_as
-beat_at plain channel payload h = refl
-beat_at tidy channel payload h = rw h refl
-beat_at strict channel payload h = rw h refl
+beat_at plain channel payload f w none h = refl
+beat_at tidy channel payload f w none h = rw h refl
+beat_at strict channel payload f w none h = ap (λ read. is_written_for read payload) w ∙ ap (bytes_eq payload) none ∙ rw h refl
 
 body_at : (level : Level) (channel : ℕ) (payload : List ℕ) → is_at level (raw_as kinds.Body channel payload) ≡ true
-unfolding is_tidy_as
+unfolding is_tidy_as whole_as
 body_at plain channel payload = refl
 body_at tidy channel payload = refl
-body_at strict channel payload = refl
+body_at strict channel payload = same_itself payload
 
-proto_at : (level : Level) (channel : ℕ) (payload : List ℕ) → is_at level (raw_as kinds.ProtocolHeader channel payload) ≡ true
+proto_at : (level : Level) (a b c : ℕ) → is_at level (raw_as kinds.ProtocolHeader 0 (a ∷ b ∷ c ∷ [])) ≡ true
+unfolding is_tidy_as whole_as
+proto_at plain a b c = refl
+proto_at tidy a b c = refl
+proto_at strict a b c = same_itself (a ∷ b ∷ c ∷ [])
+
+method_as_whole : (level : Level) (channel : ℕ) (payload : List ℕ) (m : Method) → SpellsPayload level payload m → whole_as kinds.Method channel payload ≡ Ok (Meth channel m)
+unfolding whole_as
+method_as_whole level channel payload m s = ap (read_map (λ x. Meth channel x)) (method_whole level payload m s)
+
+method_at : (level : Level) (channel : ℕ) (payload : List ℕ) (m : Method) → SpellsPayload level payload m → is_at level (raw_as kinds.Method channel payload) ≡ true
 unfolding is_tidy_as
-proto_at plain channel payload = refl
-proto_at tidy channel payload = refl
-proto_at strict channel payload = refl
+method_at plain channel payload m s = refl
+method_at tidy channel payload m s = method_is_at tidy payload m s
+method_at strict channel payload m s = ap (λ read. is_written_for read payload) (method_as_whole strict channel payload m s) ∙ method_is_at strict payload m s
+
+header_as_whole : (level : Level) (channel : ℕ) (payload : List ℕ) (header : ContentHeader) → SpellsContentHeader level payload header → whole_as kinds.Header channel payload ≡ Ok (Head channel header)
+unfolding whole_as
+header_as_whole level channel payload header s = ap (read_map (λ x. Head channel x)) (header_whole level payload header s)
+
+header_at : (level : Level) (channel : ℕ) (payload : List ℕ) (header : ContentHeader) → SpellsContentHeader level payload header → is_at level (raw_as kinds.Header channel payload) ≡ true
+unfolding is_tidy_as
+header_at plain channel payload header s = refl
+header_at tidy channel payload header s = header_is_at tidy payload header s
+header_at strict channel payload header s = ap (λ read. is_written_for read payload) (header_as_whole strict channel payload header s) ∙ header_is_at strict payload header s
 
 -- a judgement by its parts
 judged-parts : (level : Level) (raw : Raw) (n : ℕ) (f : Frame) → is_at level raw ≡ true → whole_as raw.kind raw.channel raw.payload ≡ Ok f → judged level (took raw n) ≡ took f n
@@ -104,14 +149,18 @@ unfolding verdict whole_as
 verdict-spelled level m bytes (Proto major minor revision) s within =
     ap (verdict level m) s
     ∙ ap (judged level) (outer-proto m major minor revision)
-    ∙ judged-parts level (raw_as kinds.ProtocolHeader 0 (major ∷ minor ∷ revision ∷ [])) 8 (Proto major minor revision) (proto_at level 0 (major ∷ minor ∷ revision ∷ [])) refl
+    ∙ judged-parts level (raw_as kinds.ProtocolHeader 0 (major ∷ minor ∷ revision ∷ [])) 8 (Proto major minor revision) (proto_at level major minor revision) refl
     ∙ ap (λ (xs : List ℕ). took (Proto major minor revision) (length xs)) (sym s)
+verdict-spelled level m bytes (Meth channel x) s within =
+    ap (judged level) (outer-method m bytes channel s.payload s.is_framed within) ∙ judged-parts level (raw_as kinds.Method channel s.payload) (length bytes) (Meth channel x) (method_at level channel s.payload x s.spelled) (method_as_whole level channel s.payload x s.spelled)
+verdict-spelled level m bytes (Head channel header) s within =
+    ap (judged level) (outer-header m bytes channel s.payload s.is_framed within) ∙ judged-parts level (raw_as kinds.Header channel s.payload) (length bytes) (Head channel header) (header_at level channel s.payload header s.spelled) (header_as_whole level channel s.payload header s.spelled)
 verdict-spelled level m bytes (Body channel content) s within =
     ap (judged level) (outer-body m bytes channel content s within) ∙ judged-parts level (raw_as kinds.Body channel content) (length bytes) (Body channel content) (body_at level channel content) refl
 verdict-spelled level m bytes Beat s within =
-    ap (judged level) (outer-beat m bytes 0 s.payload s.is_framed within) ∙ judged-parts level (raw_as kinds.Heartbeat 0 s.payload) (length bytes) Beat (beat_at level 0 s.payload s.at_level) refl
+    ap (judged level) (outer-beat m bytes 0 s.payload s.is_framed within) ∙ judged-parts level (raw_as kinds.Heartbeat 0 s.payload) (length bytes) Beat (beat_at level 0 s.payload Beat refl refl s.at_level) refl
 verdict-spelled level m bytes (BadBeat channel) s within =
-    ap (judged level) (outer-beat m bytes channel s.1.payload s.1.is_framed within) ∙ judged-parts level (raw_as kinds.Heartbeat channel s.1.payload) (length bytes) (BadBeat channel) (beat_at level channel s.1.payload s.1.at_level) (ap Ok (beat_on-some channel s.0))
+    ap (judged level) (outer-beat m bytes channel s.1.payload s.1.is_framed within) ∙ judged-parts level (raw_as kinds.Heartbeat channel s.1.payload) (length bytes) (BadBeat channel) (beat_at level channel s.1.payload (BadBeat channel) (ap Ok (beat_on-some channel s.0)) refl s.1.at_level) (ap Ok (beat_on-some channel s.0))
 
 -- whatever follows
 pub verdict-spelled_before : (level : Level) (m : Option ℕ) (first rest : List ℕ) (f : Frame) → Spells level first f → IsWithin m first → verdict level m (first ++ rest) ≡ took f (length first)

@@ -1,16 +1,24 @@
 -- The levels, the one strict spelling, and that it is shortest.
-use Rattle.std.proofs.Common.{◌≡◌, ℕ, ◌-◌, ◌^◌, ◌<◌, ◌≤◌, false, List, [], ◌∷◌, ◌++◌, length, Option, Some, None, refl, ap, ap₂, ◌∙◌, arith}
+use Rattle.std.proofs.Common.{◌≡◌, subst, sym, ◌↔◌, ℕ, ◌-◌, ◌^◌, ◌<◌, ◌≤◌, Bool, true, false, ◌||◌, List, [], ◌∷◌, ◌++◌, length, Option, Some, None, Ok, refl, ap, ap₂, ◌∙◌, arith}
 use Rattle.std.proofs.lemmas.Bool.{le-ltb}
 use Rattle.std.proofs.lemmas.List.{length-append}
 use Rattle.amqp_types.specs.Levels.{Level, plain, tidy, strict}
-use Rattle.amqp_types.specs.Judging.{IsBytes}
-use Rattle.amqp_frame.specs.Frames.{Frame, Proto, Body, Beat, BadBeat}
-use Rattle.amqp_frame.specs.Spelling.{framed, IsFramed, IsBeat, Spells, IsWithin, Row}
-use Rattle.amqp_frame.specs.Canonical.{canon, canon_row, is_long}
+use Rattle.amqp_types.specs.Judging.{Judge, IsBytes}
+use Rattle.amqp_types.specs.Sizes.{measured}
+use Rattle.amqp_types.specs.FormLaws.{IsLawful}
+use Rattle.amqp_types.specs.ValueLaws.{IsWithin as IsSizedWithin}
+use Rattle.amqp_types.specs.Methods.{judge_payload, payload_bytes}
+use Rattle.amqp_types.specs.MethodSpelling.{SpellsPayload}
+use Rattle.amqp_types.specs.ContentHeaders.{judge_content_header, content_header_bytes, SpellsContentHeader}
+use Rattle.amqp_values.proofs.MethodLaws.{payloads_lawful, payloads_bounded}
+use Rattle.amqp_properties.proofs.HeaderLaws.{content_headers_lawful, content_headers_bounded}
+use Rattle.amqp_frame.specs.Frames.{Frame, Proto, Meth, Head, Body, Beat, BadBeat}
+use Rattle.amqp_frame.specs.Spelling.{framed, IsFramed, IsBeat, Carries, Spells, IsWithin, Row}
+use Rattle.amqp_frame.specs.Canonical.{canon, canon_row, is_deep, is_long, is_long_for, size_of}
 use Rattle.amqp_frame.specs.Fronts.{front, place}
 use Rattle.amqp_frame.specs.Laws.{HasOneStrict, IsShortest, GivesItself}
 use Rattle.amqp_frame.proofs.Spelled.{framed-length}
-use Rattle.amqp_frame.proofs.Rows.{row_front, row_place, front-is_row}
+use Rattle.amqp_frame.proofs.Rows.{row_front, row_place, front-is_row, one_row}
 
 -- ---- what is strict is tidy, and what is tidy is plain
 
@@ -20,14 +28,22 @@ beat_strict_tidy bytes channel s = record { payload = s.payload; is_framed = s.i
 beat_tidy_plain : (bytes : List ℕ) (channel : ℕ) → IsBeat tidy bytes channel → IsBeat plain bytes channel
 beat_tidy_plain bytes channel s = record { payload = s.payload; is_framed = s.is_framed; at_level = tt }
 
+-- what carries something at a level carries it at another, where its payload spells it there
+carries_too : {A : Type 0} (One Other : List ℕ → A → Type 0) (type : ℕ) (bytes : List ℕ) (channel : ℕ) (x : A) → ((payload : List ℕ) → One payload x → Other payload x) → Carries One type bytes channel x → Carries Other type bytes channel x
+carries_too One Other type bytes channel x into s = record { payload = s.payload; is_framed = s.is_framed; spelled = into s.payload s.spelled }
+
 frame_strict_tidy : (bytes : List ℕ) (f : Frame) → Spells strict bytes f → Spells tidy bytes f
 frame_strict_tidy bytes (Proto major minor revision) s = s
+frame_strict_tidy bytes (Meth channel m) s = carries_too (SpellsPayload strict) (SpellsPayload tidy) 1 bytes channel m (λ payload p. payloads_lawful.strict_is_tidy payload m p) s
+frame_strict_tidy bytes (Head channel header) s = carries_too (SpellsContentHeader strict) (SpellsContentHeader tidy) 2 bytes channel header (λ payload p. content_headers_lawful.strict_is_tidy payload header p) s
 frame_strict_tidy bytes (Body channel content) s = s
 frame_strict_tidy bytes Beat s = beat_strict_tidy bytes 0 s
 frame_strict_tidy bytes (BadBeat channel) s = (s.0, beat_strict_tidy bytes channel s.1)
 
 frame_tidy_plain : (bytes : List ℕ) (f : Frame) → Spells tidy bytes f → Spells plain bytes f
 frame_tidy_plain bytes (Proto major minor revision) s = s
+frame_tidy_plain bytes (Meth channel m) s = carries_too (SpellsPayload tidy) (SpellsPayload plain) 1 bytes channel m (λ payload p. payloads_lawful.tidy_is_plain payload m p) s
+frame_tidy_plain bytes (Head channel header) s = carries_too (SpellsContentHeader tidy) (SpellsContentHeader plain) 2 bytes channel header (λ payload p. content_headers_lawful.tidy_is_plain payload header p) s
 frame_tidy_plain bytes (Body channel content) s = s
 frame_tidy_plain bytes Beat s = beat_tidy_plain bytes 0 s
 frame_tidy_plain bytes (BadBeat channel) s = (s.0, beat_tidy_plain bytes channel s.1)
@@ -60,9 +76,29 @@ empty_beat channel fits = record {
   at_level = refl;
 }
 
+-- a frame that carries something, where the laws of its payload hold
+module _ {A : Type 0} (judge : Judge A) (Spelled : Level → List ℕ → A → Type 0) (canonical : A → List ℕ) (lawful : IsLawful judge Spelled canonical) (type : ℕ) where
+  carries_canonical : (bytes : List ℕ) (channel : ℕ) (x : A) → Carries (Spelled plain) type bytes channel x → Carries (Spelled strict) type (framed type channel (canonical x)) channel x
+  carries_canonical bytes channel x s = record {
+    payload = canonical x;
+    is_framed = record { channel_fits = s.is_framed.channel_fits; length_fits = omega (arith, lawful.shortest s.payload x s.spelled, s.is_framed.length_fits); bytes_are = refl };
+    spelled = lawful.canonical_is_strict s.payload x s.spelled;
+  }
+
+  carries_only : (bytes : List ℕ) (channel : ℕ) (x : A) → Carries (Spelled strict) type bytes channel x → bytes ≡ framed type channel (canonical x)
+  carries_only bytes channel x s = s.is_framed.bytes_are ∙ ap (framed type channel) (lawful.strict_is_canonical s.payload x s.spelled)
+
+  carries_shortest : (bytes : List ℕ) (channel : ℕ) (x : A) → Carries (Spelled plain) type bytes channel x → length (framed type channel (canonical x)) ≤ length bytes
+  carries_shortest bytes channel x s = omega (arith, lawful.shortest s.payload x s.spelled, ap length s.is_framed.bytes_are, framed-length type channel s.payload, framed-length type channel (canonical x))
+
+  carries_countable : (bytes : List ℕ) (channel : ℕ) (x : A) → Carries (Spelled plain) type bytes channel x → is_long_for (canonical x) ≡ false
+  carries_countable bytes channel x s = le-ltb (2 ^ 32 - 1) (length (canonical x)) (omega (arith, lawful.shortest s.payload x s.spelled, s.is_framed.length_fits))
+
 canon_strict : (bytes : List ℕ) (f : Frame) → Spells plain bytes f → Spells strict (canon f) f
 unfolding canon
 canon_strict bytes (Proto major minor revision) s = refl
+canon_strict bytes (Meth channel m) s = carries_canonical judge_payload SpellsPayload payload_bytes payloads_lawful 1 bytes channel m s
+canon_strict bytes (Head channel header) s = carries_canonical judge_content_header SpellsContentHeader content_header_bytes content_headers_lawful 2 bytes channel header s
 canon_strict bytes (Body channel content) s = record { channel_fits = s.channel_fits; length_fits = s.length_fits; bytes_are = refl }
 canon_strict bytes Beat s = empty_beat 0 s.is_framed.channel_fits
 canon_strict bytes (BadBeat channel) s = (s.0, empty_beat channel s.1.is_framed.channel_fits)
@@ -73,6 +109,8 @@ framed_none bytes payload channel f none = f.bytes_are ∙ ap (framed 8 channel)
 strict_canon : (bytes : List ℕ) (f : Frame) → Spells strict bytes f → bytes ≡ canon f
 unfolding canon
 strict_canon bytes (Proto major minor revision) s = s
+strict_canon bytes (Meth channel m) s = carries_only judge_payload SpellsPayload payload_bytes payloads_lawful 1 bytes channel m s
+strict_canon bytes (Head channel header) s = carries_only judge_content_header SpellsContentHeader content_header_bytes content_headers_lawful 2 bytes channel header s
 strict_canon bytes (Body channel content) s = s.bytes_are
 strict_canon bytes Beat s = framed_none bytes s.payload 0 s.is_framed s.at_level
 strict_canon bytes (BadBeat channel) s = framed_none bytes s.1.payload channel s.1.is_framed s.1.at_level
@@ -83,15 +121,39 @@ beat_length bytes channel s = omega (arith, ap length s.is_framed.bytes_are, fra
 canon_short : (bytes : List ℕ) (f : Frame) → Spells plain bytes f → length (canon f) ≤ length bytes
 unfolding canon
 canon_short bytes (Proto major minor revision) s = omega (arith, ap length s)
+canon_short bytes (Meth channel m) s = carries_shortest judge_payload SpellsPayload payload_bytes payloads_lawful 1 bytes channel m s
+canon_short bytes (Head channel header) s = carries_shortest judge_content_header SpellsContentHeader content_header_bytes content_headers_lawful 2 bytes channel header s
 canon_short bytes (Body channel content) s = omega (arith, ap length s.bytes_are)
 canon_short bytes Beat s = beat_length bytes 0 s
 canon_short bytes (BadBeat channel) s = beat_length bytes channel s.1
 
+none_of : (a b : Bool) → a ≡ false → b ≡ false → (a || b) ≡ false
+none_of true b p q = p
+none_of false b p q = q
+
+not_deep : (bytes : List ℕ) (f : Frame) → Spells plain bytes f → is_deep f ≡ false
+not_deep bytes (Proto major minor revision) s = refl
+not_deep bytes (Meth channel m) s = (payloads_bounded plain s.payload m s.spelled).0
+not_deep bytes (Head channel header) s = (content_headers_bounded plain s.payload header s.spelled).0
+not_deep bytes (Body channel content) s = refl
+not_deep bytes Beat s = refl
+not_deep bytes (BadBeat channel) s = refl
+
 not_long : (bytes : List ℕ) (f : Frame) → Spells plain bytes f → is_long f ≡ false
 not_long bytes (Proto major minor revision) s = refl
+not_long bytes (Meth channel m) s = none_of _ _ (payloads_bounded plain s.payload m s.spelled).1 (carries_countable judge_payload SpellsPayload payload_bytes payloads_lawful 1 bytes channel m s)
+not_long bytes (Head channel header) s = none_of _ _ (content_headers_bounded plain s.payload header s.spelled).1 (carries_countable judge_content_header SpellsContentHeader content_header_bytes content_headers_lawful 2 bytes channel header s)
 not_long bytes (Body channel content) s = le-ltb (2 ^ 32 - 1) (length content) (omega (arith, s.length_fits))
 not_long bytes Beat s = refl
 not_long bytes (BadBeat channel) s = refl
+
+has_size : (deep long : Bool) (bytes : List ℕ) → deep ≡ false → long ≡ false → measured deep long bytes ≡ Ok (length bytes)
+has_size deep long bytes p q = rw (p, q) refl
+
+-- what was spelled has a size, which is no more than its spelling's
+pub spelled_sized : (bytes : List ℕ) (f : Frame) → Spells plain bytes f → IsSizedWithin (size_of f) (canon f) (length bytes)
+unfolding size_of
+spelled_sized bytes f s = record { sized = has_size (is_deep f) (is_long f) (canon f) (not_deep bytes f s) (not_long bytes f s); shorter = canon_short bytes f s }
 
 within_short : (m : Option ℕ) (short bytes : List ℕ) → length short ≤ length bytes → IsWithin m bytes → IsWithin m short
 within_short None short bytes h w = tt
@@ -118,11 +180,12 @@ one_strict level m bytes frames r = record {
 }
 
 plain_shortest : (m : Option ℕ) (bytes : List ℕ) (frames : List Frame) → Row plain m bytes frames → IsShortest bytes frames
-plain_shortest m bytes [] r = record { shortest = omega arith; none_is_long = tt }
+plain_shortest m bytes [] r = record { shortest = omega arith; none_is_deep = tt; none_is_long = tt }
 plain_shortest m bytes (f ∷ fs) r =
     let rest = plain_shortest m r.1 fs r.5 in
     record {
       shortest = omega (arith, canon_short r.0 f r.3, rest.shortest, ap length r.2, length-append r.0 r.1, length-append (canon f) (canon_row fs));
+      none_is_deep = (not_deep r.0 f r.3, rest.none_is_deep);
       none_is_long = (not_long r.0 f r.3, rest.none_is_long);
     }
 
@@ -145,3 +208,8 @@ gives_itself level m bytes fits =
       whole = row_place plain m (canon_row frames) frames again;
       same = ap canon_row (row_front plain m (canon_row frames) frames again);
     }
+
+-- rows with equal canonical bytes are spelled by them strictly, and so are one
+pub same_frames : (level : Level) (m : Option ℕ) (a b : List ℕ) (fs gs : List Frame) → Row level m a fs → Row level m b gs → (canon_row fs ≡ canon_row gs) ↔ (fs ≡ gs)
+same_frames level m a b fs gs r s =
+    (λ e. one_row strict m (canon_row fs) fs gs (one_strict level m a fs r).canonical (subst (λ (bytes : List ℕ). Row strict m bytes gs) (sym e) (one_strict level m b gs s).canonical), λ e. ap canon_row e)

@@ -1,15 +1,31 @@
 -- The one spelling of a frame that is written, and what refuses to be written.
-use Rattle.std.specs.Prelude.{◌≡◌, ℕ, ◌-◌, ◌^◌, ◌<◌, nat_lt, Bool, false, List, [], length, if◌then◌else◌, Result, Ok, Err}
+use Rattle.std.specs.Prelude.{◌≡◌, ℕ, ◌-◌, ◌+◌, ◌^◌, ◌<◌, nat_lt, Bool, false, ◌||◌, List, [], ◌∷◌, length, if◌then◌else◌, Result, Ok, Err}
 use Rattle.std.specs.List.{flat_map}
+use Rattle.amqp_types.specs.Sizes.{measured}
 use Rattle.amqp_types.specs.Writing.{written}
+use Rattle.amqp_types.specs.SlotBytes.{any_deep, any_long}
+use Rattle.amqp_types.specs.Methods.{payload_bytes}
+use Rattle.amqp_types.specs.PropertyBytes.{any_deep_option, any_long_option}
+use Rattle.amqp_types.specs.ContentHeaders.{content_header_bytes}
 use Rattle.amqp_types.specs.declared.errors.GenError.{GenError}
 use Rattle.amqp_types.specs.declared.errors.GenError.TheVariants as errors
-use Rattle.amqp_frame.specs.Frames.{Frame, Proto, Body, Beat, BadBeat, beat_on}
+use Rattle.amqp_frame.specs.Frames.{Frame, Proto, Meth, Head, Body, Beat, BadBeat, beat_on}
 use Rattle.amqp_frame.specs.Spelling.{framed, proto}
 
--- the canonical bytes: a heartbeat carries none
+-- the payload as it is written: a heartbeat carries none
+abbrev pub payload_of : Frame → List ℕ
+payload_of (Proto major minor revision) = major ∷ minor ∷ revision ∷ []
+payload_of (Meth channel m) = payload_bytes m
+payload_of (Head channel header) = content_header_bytes header
+payload_of (Body channel content) = content
+payload_of Beat = []
+payload_of (BadBeat channel) = []
+
+-- the canonical bytes
 unfoldable pub canon : Frame → List ℕ
 canon (Proto major minor revision) = proto major minor revision
+canon (Meth channel m) = framed 1 channel (payload_bytes m)
+canon (Head channel header) = framed 2 channel (content_header_bytes header)
 canon (Body channel content) = framed 3 channel content
 canon Beat = framed 8 0 []
 canon (BadBeat channel) = framed 8 channel []
@@ -17,24 +33,31 @@ canon (BadBeat channel) = framed 8 channel []
 abbrev pub canon_row : List Frame → List ℕ
 canon_row frames = flat_map canon frames
 
+-- tables and arrays nest more than 64 deep in it
+abbrev pub is_deep : Frame → Bool
+is_deep (Meth channel m) = any_deep m.items
+is_deep (Head channel header) = any_deep_option header.options
+is_deep frame = false
+
 -- a length that four bytes do not hold
 abbrev pub is_long_for : List ℕ → Bool
 is_long_for bytes = nat_lt (2 ^ 32 - 1) (length bytes)
 
+-- such a length is that of something in it, or of its payload
 abbrev pub is_long : Frame → Bool
+is_long (Meth channel m) = any_long m.items || is_long_for (payload_bytes m)
+is_long (Head channel header) = any_long_option header.options || is_long_for (content_header_bytes header)
 is_long (Body channel content) = is_long_for content
 is_long frame = false
 
 -- the number of canonical bytes, or why there are none
 unfoldable pub size_of : Frame → Result ℕ GenError
-size_of frame = if is_long frame then Err errors.TooLong else Ok (length (canon frame))
+size_of frame = measured (is_deep frame) (is_long frame) (canon frame)
 
--- Each number fits the bytes in which it is written, and so does the payload's length.
-abbrev pub Fits : Frame → Type 0
-Fits (Proto major minor revision) = (major < 2 ^ 8) × (minor < 2 ^ 8) × (revision < 2 ^ 8)
-Fits (Body channel content) = (channel < 2 ^ 16) × (length content < 2 ^ 32)
-Fits Beat = Unit {0}
-Fits (BadBeat channel) = channel < 2 ^ 16
+-- the size of a frame by that of its payload
+abbrev pub framed_size : Result ℕ GenError → Result ℕ GenError
+framed_size (Ok n) = if nat_lt (2 ^ 32 - 1) n then Err errors.TooLong else Ok (n + 8)
+framed_size (Err error) = Err error
 
 -- The frame that is read back: a bad heartbeat on channel 0 is written as a heartbeat.
 abbrev pub read_back : Frame → Frame

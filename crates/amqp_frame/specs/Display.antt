@@ -2,7 +2,7 @@
 use Rattle.std.specs.Prelude.{ℕ, List, ◌++◌, codes}
 use Rattle.std.specs.Fmt.{decimal}
 use Rattle.amqp_frame.specs.declared.version.ProtocolVersion.{ProtocolVersion}
-use Rattle.amqp_frame.specs.Frames.{Frame, Proto, Body, Beat, BadBeat}
+use Rattle.amqp_frame.specs.Frames.{Frame, Proto, Meth, Head, Body, Beat, BadBeat}
 
 abbrev pub numbers_text : ℕ → ℕ → ℕ → List ℕ
 numbers_text major minor revision = decimal major ++ codes "." ++ decimal minor ++ codes "." ++ decimal revision
@@ -10,8 +10,11 @@ numbers_text major minor revision = decimal major ++ codes "." ++ decimal minor 
 abbrev pub version_text : ProtocolVersion → List ℕ
 version_text version = numbers_text version.major version.minor version.revision
 
+-- of a method its class id and its method id
 abbrev pub frame_text : Frame → List ℕ
 frame_text (Proto major minor revision) = codes "AMQPFrame::ProtocolHeader(" ++ numbers_text major minor revision ++ codes ")"
+frame_text (Meth channel m) = codes "AMQPFrame::Method(" ++ decimal m.class ++ codes ", " ++ decimal m.id ++ codes ")"
+frame_text (Head channel header) = codes "AMQPFrame::Header"
 frame_text (Body channel content) = codes "AMQPFrame::Body"
 frame_text Beat = codes "AMQPFrame::Heartbeat"
 frame_text (BadBeat channel) = codes "AMQPFrame::InvalidHeartbeat(" ++ decimal channel ++ codes ")"

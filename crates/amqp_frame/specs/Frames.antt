@@ -1,14 +1,21 @@
 -- Frames as contracts see them.
 use Rattle.std.specs.Prelude.{ℕ, ◌==◌, List, if◌then◌else◌}
+use Rattle.amqp_types.specs.Methods.{Method}
+use Rattle.amqp_types.specs.ContentHeaders.{ContentHeader}
+use Rattle.amqp_properties.specs.Options.{options}
+use Rattle.amqp_protocol.specs.Classes.{method_of}
+use Rattle.amqp_frame.specs.declared.content_header.AMQPContentHeader.{AMQPContentHeader}
 use Rattle.amqp_frame.specs.declared.frame.AMQPFrame.{AMQPFrame}
 use Rattle.amqp_frame.specs.declared.frame.AMQPFrame.TheVariants as frames
 use Rattle.amqp_frame.specs.declared.frame_type.AMQPFrameType.{AMQPFrameType}
 use Rattle.amqp_frame.specs.declared.frame_type.AMQPFrameType.TheVariants as kinds
 use Rattle.amqp_frame.specs.declared.raw_frame.AMQPRawFrame.{AMQPRawFrame}
 
--- A protocol header, a body, a heartbeat on channel 0, and a heartbeat on a channel where none belongs.
+-- A protocol header, a method, a content header, a body, a heartbeat on channel 0, and a heartbeat on a channel where none belongs.
 pub data Frame : Type 0 where
   Proto : (major minor revision : ℕ) → Frame
+  Meth : (channel : ℕ) (m : Method) → Frame
+  Head : (channel : ℕ) (header : ContentHeader) → Frame
   Body : (channel : ℕ) (content : List ℕ) → Frame
   Beat : Frame
   BadBeat : (channel : ℕ) → Frame
@@ -19,8 +26,13 @@ pub record Raw : Type 0 where
   pub channel : ℕ
   pub payload : List ℕ
 
+abbrev pub header_of : AMQPContentHeader → ContentHeader
+header_of header = record { class_id = header.class_id; body_size = header.body_size; options = options header.properties }
+
 abbrev pub frame_of : AMQPFrame → Frame
 frame_of (frames.ProtocolHeader version) = Proto version.major version.minor version.revision
+frame_of (frames.Method channel class) = Meth channel (method_of class)
+frame_of (frames.Header channel header) = Head channel (header_of header)
 frame_of (frames.Body channel content) = Body channel content
 frame_of frames.Heartbeat = Beat
 frame_of (frames.InvalidHeartbeat channel) = BadBeat channel
@@ -30,12 +42,15 @@ raw_of raw = record { kind = raw.frame_type; channel = raw.channel_id; payload =
 
 abbrev pub channel_id_of : Frame → ℕ
 channel_id_of (Proto major minor revision) = 0
+channel_id_of (Meth channel m) = channel
+channel_id_of (Head channel header) = channel
 channel_id_of (Body channel content) = channel
 channel_id_of Beat = 0
 channel_id_of (BadBeat channel) = channel
 
 -- a content header
 abbrev pub IsHeader : Frame → Type 0
+IsHeader (Head channel header) = Unit {0}
 IsHeader frame = ⊥
 
 -- a heartbeat on this channel

@@ -1,11 +1,19 @@
 -- Laws of frames and rows.
-use Rattle.std.specs.Prelude.{◌≡◌, ◌≢◌, ℕ, ◌≤◌, false, List, [], ◌++◌, length, Option, None}
+use Rattle.std.specs.Prelude.{◌≡◌, ◌≢◌, ◌↔◌, ℕ, ◌+◌, ◌≤◌, ◌<◌, ◌^◌, false, List, [], ◌∷◌, ◌++◌, length, Option, Some, None, Ok}
 use Rattle.std.specs.List.{AllByRecursion}
 use Rattle.amqp_types.specs.Levels.{Level, plain, tidy, strict}
-use Rattle.amqp_types.specs.Judging.{past, took, IsBytes, IsExact}
-use Rattle.amqp_frame.specs.Frames.{Frame}
+use Rattle.amqp_types.specs.Judging.{Judged, Fault, past, took, fault, ◌>>=◌, IsBytes, IsExact}
+use Rattle.amqp_types.specs.Slots.{Slot}
+use Rattle.amqp_types.specs.SlotLaws.{AreSlotsHeld}
+use Rattle.amqp_types.specs.Rows.{slots_at}
+use Rattle.amqp_types.specs.Methods.{Method}
+use Rattle.amqp_types.specs.ContentHeaders.{IsHeaderHeld}
+use Rattle.amqp_frame.specs.declared.frame_type.AMQPFrameType.{AMQPFrameType}
+use Rattle.amqp_frame.specs.declared.frame_type.AMQPFrameType.TheVariants as kinds
+use Rattle.amqp_frame.specs.Frames.{Frame, Proto, Meth, Head, Body, Beat, BadBeat, Raw}
+use Rattle.amqp_frame.specs.Outer.{judge_frame_type, judge_version, judge_raw, version_raw, outer}
 use Rattle.amqp_frame.specs.Spelling.{Spells, IsWithin, Row}
-use Rattle.amqp_frame.specs.Canonical.{canon, canon_row, is_long, Fits, read_back}
+use Rattle.amqp_frame.specs.Canonical.{canon, canon_row, is_deep, is_long, size_of, read_back}
 use Rattle.amqp_frame.specs.Verdicts.{verdict}
 use Rattle.amqp_frame.specs.Fronts.{front, place}
 
@@ -42,17 +50,37 @@ pub record HasOneStrict (m : Option ℕ) (frames : List Frame) : Type 0 where
 abbrev pub OneCanonicalSpelling : Type 0
 OneCanonicalSpelling = (level : Level) (m : Option ℕ) (bytes : List ℕ) (frames : List Frame) → Row level m bytes frames → HasOneStrict m frames
 
+-- What programs hold: a method of the table with items of its slots, a content header with items of its properties, and numbers that
+-- fit the bytes in which they are written.
+pub record IsMethodHeld (m : Method) : Type 0 where
+  pub slots : List Slot
+  pub known : slots_at m.class m.id ≡ Some slots
+  pub held : AreSlotsHeld slots m.items
+
+abbrev pub IsFrameHeld : Frame → Type 0
+IsFrameHeld (Proto major minor revision) = (major < 2 ^ 8) × (minor < 2 ^ 8) × (revision < 2 ^ 8)
+IsFrameHeld (Meth channel m) = (channel < 2 ^ 16) × IsMethodHeld m
+IsFrameHeld (Head channel header) = (channel < 2 ^ 16) × IsHeaderHeld header
+IsFrameHeld (Body channel content) = channel < 2 ^ 16
+IsFrameHeld Beat = Unit {0}
+IsFrameHeld (BadBeat channel) = channel < 2 ^ 16
+
+-- two rows, each read within a limit, have equal canonical bytes exactly where they are the same frames
+abbrev pub EqualBytesAreEqualFrames : Type 0
+EqualBytesAreEqualFrames = (level : Level) (m : Option ℕ) (a b : List ℕ) (fs gs : List Frame) → Row level m a fs → Row level m b gs → (canon_row fs ≡ canon_row gs) ↔ (fs ≡ gs)
+
 -- the canonical bytes of a frame are judged to be it, whatever follows, and no fewer bytes are
 pub record ReadsBack (level : Level) (frame : Frame) : Type 0 where
   pub whole : (rest : List ℕ) → verdict level None (canon frame ++ rest) ≡ took (read_back frame) (length (canon frame))
   pub fewer : (first rest : List ℕ) → canon frame ≡ first ++ rest → rest ≢ [] → verdict level None first ≡ past
 
 abbrev pub CanonicalBytesReadBack : Type 0
-CanonicalBytesReadBack = (level : Level) (frame : Frame) → Fits frame → ReadsBack level frame
+CanonicalBytesReadBack = (level : Level) (frame : Frame) → IsFrameHeld frame → size_of frame ≡ Ok (length (canon frame)) → ReadsBack level frame
 
--- canonical bytes are as short as any spelling, and what was read has a length that can be written
+-- canonical bytes are as short as any spelling, and no frame that was read is long or too deep
 pub record IsShortest (bytes : List ℕ) (frames : List Frame) : Type 0 where
   pub shortest : length (canon_row frames) ≤ length bytes
+  pub none_is_deep : AllByRecursion (λ frame. is_deep frame ≡ false) frames
   pub none_is_long : AllByRecursion (λ frame. is_long frame ≡ false) frames
 
 abbrev pub CanonicalBytesAreShortest : Type 0
@@ -75,3 +103,16 @@ pub record GivesItself (m : Option ℕ) (bytes : List ℕ) : Type 0 where
 
 abbrev pub WrittenAgain : Type 0
 WrittenAgain = (level : Level) (m : Option ℕ) (bytes : List ℕ) → IsBytes bytes → GivesItself m (canon_row (front level m bytes))
+
+-- what was judged behind the first byte, with that byte
+abbrev pub behind_first : Judged Raw → Judged Raw
+behind_first judged = judged >>= λ raw. took raw.0 (1 + raw.1)
+
+-- The outer look without a limit is put together of its parts: the type byte, and behind it a version or a raw frame.
+pub record OuterLookIsItsParts : Type 0 where
+  pub none : outer None [] ≡ past
+  pub unknown : (bytes : List ℕ) (bad : Fault) → judge_frame_type bytes ≡ fault bad → outer None bytes ≡ fault bad
+  pub version : (byte : ℕ) (bytes : List ℕ) → judge_frame_type (byte ∷ bytes) ≡ took kinds.ProtocolHeader 1
+      → outer None (byte ∷ bytes) ≡ behind_first (judge_version bytes >>= λ v. took (version_raw v.0) v.1)
+  pub framed : (byte : ℕ) (bytes : List ℕ) (kind : AMQPFrameType) → kind ≢ kinds.ProtocolHeader → judge_frame_type (byte ∷ bytes) ≡ took kind 1
+      → outer None (byte ∷ bytes) ≡ behind_first (judge_raw None kind bytes)

@@ -8,3 +8,8 @@ pub mod Spelling
 pub mod Canonical
 pub mod Fronts
 pub mod Laws
+pub mod Shapes
+pub mod StrictFronts
+pub mod StrictSpans
+pub mod Rewrites
+pub mod StrictTables

@@ -2,7 +2,9 @@
 use Rattle.std.specs.Prelude.{◌≡◌, ℕ, ◌+◌, ◌^◌, ◌<◌, ◌≤◌, List, [], ◌∷◌, ◌++◌, length, Option, Some, None}
 use Rattle.amqp_types.specs.Levels.{Level, plain, tidy, strict}
 use Rattle.amqp_types.specs.Numbers.{bytes2, bytes4, number_bytes}
-use Rattle.amqp_frame.specs.Frames.{Frame, Proto, Body, Beat, BadBeat}
+use Rattle.amqp_types.specs.MethodSpelling.{SpellsPayload}
+use Rattle.amqp_types.specs.ContentHeaders.{SpellsContentHeader}
+use Rattle.amqp_frame.specs.Frames.{Frame, Proto, Meth, Head, Body, Beat, BadBeat}
 
 -- what stands in front of n bytes of payload
 abbrev pub head : ℕ → ℕ → ℕ → List ℕ
@@ -33,9 +35,17 @@ pub record IsBeat (level : Level) (bytes : List ℕ) (channel : ℕ) : Type 0 wh
   pub is_framed : IsFramed bytes 8 channel payload
   pub at_level : IsBeatPayload level payload
 
+-- a frame of this type, whose payload spells what it carries
+pub record Carries {A : Type 0} (Spelled : List ℕ → A → Type 0) (type : ℕ) (bytes : List ℕ) (channel : ℕ) (carried : A) : Type 0 where
+  pub payload : List ℕ
+  pub is_framed : IsFramed bytes type channel payload
+  pub spelled : Spelled payload carried
+
 -- these bytes spell the frame
 abbrev pub Spells : Level → List ℕ → Frame → Type 0
 Spells level bytes (Proto major minor revision) = bytes ≡ proto major minor revision
+Spells level bytes (Meth channel m) = Carries (SpellsPayload level) 1 bytes channel m
+Spells level bytes (Head channel header) = Carries (SpellsContentHeader level) 2 bytes channel header
 Spells level bytes (Body channel content) = IsFramed bytes 3 channel content
 Spells level bytes Beat = IsBeat level bytes 0
 Spells level bytes (BadBeat channel) = (0 < channel) × IsBeat level bytes channel

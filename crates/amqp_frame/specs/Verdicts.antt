@@ -1,11 +1,29 @@
 -- What a whole payload is, and what stands at the front of some bytes once it is read.
-use Rattle.std.specs.Prelude.{ℕ, ◌==◌, Bool, true, false, List, [], ◌∷◌, length, Option, Result, Ok, Err}
+use Rattle.std.specs.Prelude.{ℕ, ◌==◌, Bool, true, false, List, [], ◌∷◌, length, Option, Result, Ok, Err, if◌then◌else◌}
+use Rattle.std.specs.Str.{bytes_eq}
 use Rattle.amqp_types.specs.Levels.{Level, plain, tidy, strict}
-use Rattle.amqp_types.specs.Judging.{Fault, Judged, Judge, took, past, fault, short_payload, trailing_bytes, not_tidy, not_built}
+use Rattle.amqp_types.specs.Judging.{Fault, Judged, Judge, took, past, fault, short_payload, trailing_bytes, not_tidy}
+use Rattle.amqp_types.specs.ValueJudging.{read_map}
+use Rattle.amqp_types.specs.Methods.{judge_payload}
+use Rattle.amqp_types.specs.ContentHeaders.{judge_content_header}
+use Rattle.amqp_types.specs.Tidiness.{is_tidy_payload, is_tidy_content_header}
+use Rattle.amqp_types.specs.declared.errors.ParserError.{ParserError}
+use Rattle.amqp_types.specs.declared.errors.ParserError.TheVariants as errors
 use Rattle.amqp_frame.specs.declared.frame_type.AMQPFrameType.{AMQPFrameType}
 use Rattle.amqp_frame.specs.declared.frame_type.AMQPFrameType.TheVariants as kinds
-use Rattle.amqp_frame.specs.Frames.{Frame, Proto, Body, Raw, beat_on}
+use Rattle.amqp_frame.specs.Frames.{Frame, Proto, Meth, Head, Body, Raw, beat_on}
+use Rattle.amqp_frame.specs.Canonical.{payload_of}
 use Rattle.amqp_frame.specs.Outer.{outer}
+
+-- What is read of a payload of n bytes that are all there: what would want more is short, and bytes behind what was taken trail.
+abbrev pub filling : {A : Type 0} → ℕ → Judged A → Result A Fault
+filling n past = Err short_payload
+filling n (fault bad) = Err bad
+filling n (took x used) = if used == n then Ok x else Err trailing_bytes
+
+-- what is judged of all of the payload
+abbrev pub all_of : {A : Type 0} → Judge A → List ℕ → Result A Fault
+all_of judge payload = filling (length payload) (judge payload)
 
 -- the frame that a payload is, or why it is none
 unfoldable pub whole_as : AMQPFrameType → ℕ → List ℕ → Result Frame Fault
@@ -14,24 +32,40 @@ whole_as kinds.ProtocolHeader channel (a ∷ []) = Err short_payload
 whole_as kinds.ProtocolHeader channel (a ∷ b ∷ []) = Err short_payload
 whole_as kinds.ProtocolHeader channel (a ∷ b ∷ c ∷ []) = Ok (Proto a b c)
 whole_as kinds.ProtocolHeader channel (a ∷ b ∷ c ∷ d ∷ more) = Err trailing_bytes
-whole_as kinds.Method channel payload = Err not_built
-whole_as kinds.Header channel payload = Err not_built
+whole_as kinds.Method channel payload = read_map (λ m. Meth channel m) (all_of judge_payload payload)
+whole_as kinds.Header channel payload = read_map (λ header. Head channel header) (all_of judge_content_header payload)
 whole_as kinds.Body channel payload = Ok (Body channel payload)
 whole_as kinds.Heartbeat channel payload = Ok (beat_on channel)
 
 abbrev pub whole : Raw → Result Frame Fault
 whole raw = whole_as raw.kind raw.channel raw.payload
 
--- nothing stands in the frame that reading drops
+-- the errors of a whole payload: none is of the frame around it, and none wants more
+abbrev pub IsPayloadError : ParserError → Type 0
+IsPayloadError errors.Incomplete = ⊥
+IsPayloadError errors.UnknownFrameType = ⊥
+IsPayloadError errors.BadProtocolHeader = ⊥
+IsPayloadError errors.BadFrameEnd = ⊥
+IsPayloadError error = Unit {0}
+
+-- what reading drops of a whole payload stands as it is written
 unfoldable pub is_tidy_as : AMQPFrameType → List ℕ → Bool
+is_tidy_as kinds.ProtocolHeader payload = true
+is_tidy_as kinds.Method payload = is_tidy_payload payload
+is_tidy_as kinds.Header payload = is_tidy_content_header payload
+is_tidy_as kinds.Body payload = true
 is_tidy_as kinds.Heartbeat payload = length payload == 0
-is_tidy_as kind payload = true
+
+-- the payload is the one that is written for the frame
+abbrev pub is_written_for : Result Frame Fault → List ℕ → Bool
+is_written_for (Ok frame) payload = bytes_eq payload (payload_of frame)
+is_written_for (Err bad) payload = true
 
 -- a whole frame is spelled at this level
 abbrev pub is_at : Level → Raw → Bool
 is_at plain raw = true
 is_at tidy raw = is_tidy_as raw.kind raw.payload
-is_at strict raw = is_tidy_as raw.kind raw.payload
+is_at strict raw = is_written_for (whole raw) raw.payload
 
 -- A fault of the payload comes before that of not being tidy.
 abbrev pub judged_frame : Bool → Result Frame Fault → ℕ → Judged Frame

@@ -2,7 +2,9 @@ ghost use Rattle.std.specs.Prelude.{◌≡◌, ◌↔◌, IfOk, IsTrue, Some};
 ghost use Rattle.amqp_frame.specs.Frames.{frame_of, channel_id_of, IsHeader};
 ghost use Rattle.amqp_frame.specs.Display.{frame_text};
 
+use crate::content_header::AMQPContentHeader;
 use crate::version::ProtocolVersion;
+use amqp_protocol::AMQPClass;
 use amqp_types::{ByteArray, ChannelId, NoMemory};
 use std::alloc::Global;
 use std::fmt;
@@ -12,6 +14,12 @@ use std::fmt;
 pub enum AMQPFrame {
     /// The eight bytes with which a connection begins.
     ProtocolHeader(ProtocolVersion),
+
+    /// A method of a class.
+    Method(ChannelId, AMQPClass),
+
+    /// A content header.
+    Header(ChannelId, AMQPContentHeader),
 
     /// A piece of a message's body.
     Body(ChannelId, ByteArray),
@@ -30,6 +38,12 @@ impl AMQPFrame {
     {
         match self {
             AMQPFrame::ProtocolHeader(version) => Ok(AMQPFrame::ProtocolHeader(*version)),
+            AMQPFrame::Method(channel_id, class) => {
+                Ok(AMQPFrame::Method(*channel_id, class.copy(alloc)?))
+            }
+            AMQPFrame::Header(channel_id, header) => {
+                Ok(AMQPFrame::Header(*channel_id, header.copy(alloc)?))
+            }
             AMQPFrame::Body(channel_id, bytes) => {
                 Ok(AMQPFrame::Body(*channel_id, bytes.copy(alloc)?))
             }
@@ -46,6 +60,8 @@ impl AMQPFrame {
     {
         match self {
             AMQPFrame::ProtocolHeader(_) => false,
+            AMQPFrame::Method(_, _) => false,
+            AMQPFrame::Header(_, _) => true,
             AMQPFrame::Body(_, _) => false,
             AMQPFrame::Heartbeat => false,
             AMQPFrame::InvalidHeartbeat(_) => false,
@@ -58,6 +74,8 @@ impl AMQPFrame {
     {
         match self {
             AMQPFrame::ProtocolHeader(_) => 0,
+            AMQPFrame::Method(channel_id, _) => *channel_id,
+            AMQPFrame::Header(channel_id, _) => *channel_id,
             AMQPFrame::Body(channel_id, _) => *channel_id,
             AMQPFrame::Heartbeat => 0,
             AMQPFrame::InvalidHeartbeat(channel_id) => *channel_id,
@@ -71,6 +89,12 @@ impl fmt::Display for AMQPFrame {
     fn fmt<W: fmt::Write>(&self, f: &mut fmt::Formatter<W>) -> fmt::Result {
         match self {
             AMQPFrame::ProtocolHeader(version) => write!(f, "AMQPFrame::ProtocolHeader({version})"),
+            AMQPFrame::Method(_, class) => {
+                let class_id = class.get_amqp_class_id();
+                let method_id = class.get_amqp_method_id();
+                write!(f, "AMQPFrame::Method({class_id}, {method_id})")
+            }
+            AMQPFrame::Header(_, _) => f.write_str("AMQPFrame::Header"),
             AMQPFrame::Body(_, _) => f.write_str("AMQPFrame::Body"),
             AMQPFrame::Heartbeat => f.write_str("AMQPFrame::Heartbeat"),
             AMQPFrame::InvalidHeartbeat(channel_id) => {

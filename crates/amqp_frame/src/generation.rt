@@ -1,13 +1,18 @@
 //! Writing frames: their size, their bytes at a place of a slice, and behind a vector.
 
-ghost use Rattle.std.specs.Prelude.{◌≡◌, ◌+◌, ◌^◌, ◌<◌, ◌≤◌, [], length, Ok, IsOk};
+ghost use Rattle.std.specs.Prelude.{◌≡◌, ◌+◌, ◌^◌, ◌<◌, ◌≤◌, [], length, Ok, IsOk, IfOk};
 ghost use Rattle.amqp_types.specs.Writing.{Puts, Appends};
-ghost use Rattle.amqp_frame.specs.Frames.{frame_of};
+ghost use Rattle.amqp_types.specs.Methods.{payload_bytes, payload_size};
+ghost use Rattle.amqp_types.specs.ContentHeaders.{content_header_bytes, content_header_size};
+ghost use Rattle.amqp_protocol.specs.Classes.{method_of};
+ghost use Rattle.amqp_frame.specs.Frames.{frame_of, header_of};
 ghost use Rattle.amqp_frame.specs.Spelling.{head, framed, proto};
-ghost use Rattle.amqp_frame.specs.Canonical.{canon, size_of, SliceAnswers};
+ghost use Rattle.amqp_frame.specs.Canonical.{canon, size_of, framed_size, SliceAnswers};
 
+use crate::content_header::{AMQPContentHeader, put_content_header, size_content_header};
 use crate::frame::AMQPFrame;
 use crate::version::ProtocolVersion;
+use amqp_protocol::{AMQPClass, put_class, size_class};
 use amqp_types::{ChannelId, ChunkSize, GenError, grow, put_bytes};
 use std::alloc::Global;
 
@@ -46,6 +51,17 @@ pub fn heartbeat_bytes(channel_id: ChannelId) -> [u8; 8]
     [8, channel[0], channel[1], 0, 0, 0, 0, 206]
 }
 
+/// The size of a frame by that of its payload.
+fn size_framed(payload: Result<u64, GenError>) -> Result<u64, GenError>
+    ensures { result ≡ framed_size payload }
+{
+    match payload {
+        Err(refusal) => Err(refusal),
+        Ok(size) if size > u32::MAX as u64 => Err(GenError::TooLong),
+        Ok(size) => Ok(size + 8),
+    }
+}
+
 /// The number of canonical bytes.
 #[tactic(auto, using(crate::proofs::Sizes::framed_length), unfolding(crate::specs::Canonical::size_of, crate::specs::Canonical::canon))]
 pub fn frame_size(frame: &AMQPFrame) -> Result<u64, GenError>
@@ -53,41 +69,105 @@ pub fn frame_size(frame: &AMQPFrame) -> Result<u64, GenError>
 {
     match frame {
         AMQPFrame::ProtocolHeader(_) => Ok(8),
-        AMQPFrame::Body(_, content) => {
-            if content.len() > u32::MAX as usize {
-                return Err(GenError::TooLong);
-            }
-            Ok(content.len() as u64 + 8)
-        }
+        AMQPFrame::Method(_, class) => size_framed(size_class(class)),
+        AMQPFrame::Header(_, header) => size_framed(size_content_header(header)),
+        AMQPFrame::Body(_, content) => size_framed(Ok(content.len() as u64)),
         AMQPFrame::Heartbeat => Ok(8),
         AMQPFrame::InvalidHeartbeat(_) => Ok(8),
     }
 }
 
-fn put_body(buf: &mut [u8], at: usize, channel_id: ChannelId, payload: &[u8]) -> usize
-    requires short { length payload.now < 2 ^ 32 }
-    requires room { at + length (framed 3 channel_id payload.now) ≤ length buf.old }
-    ensures { Puts buf.old buf.new at (framed 3 channel_id payload.now) result }
+/// Puts a method frame whose payload has this many bytes.
+fn put_method(
+    buf: &mut [u8],
+    at: usize,
+    channel_id: ChannelId,
+    class: &AMQPClass,
+    len: ChunkSize,
+) -> usize
+    requires fits { IsOk (payload_size (method_of class.now)) }
+    requires counted { length (payload_bytes (method_of class.now)) ≡ len }
+    requires room { at + length (framed 1 channel_id (payload_bytes (method_of class.now))) ≤ length buf.old }
+    ensures { Puts buf.old buf.new at (framed 1 channel_id (payload_bytes (method_of class.now))) result }
 {
-    let at = put_bytes(buf, at, &frame_head(3, channel_id, payload.len() as u32));
+    let at = put_bytes(buf, at, &frame_head(1, channel_id, len));
+    let at = put_class(buf, at, class);
+    put_bytes(buf, at, &[206])
+}
+
+/// Puts a content header frame whose payload has this many bytes.
+fn put_header(
+    buf: &mut [u8],
+    at: usize,
+    channel_id: ChannelId,
+    header: &AMQPContentHeader,
+    len: ChunkSize,
+) -> usize
+    requires fits { IsOk (content_header_size (header_of header.now)) }
+    requires counted { length (content_header_bytes (header_of header.now)) ≡ len }
+    requires room { at + length (framed 2 channel_id (content_header_bytes (header_of header.now))) ≤ length buf.old }
+    ensures { Puts buf.old buf.new at (framed 2 channel_id (content_header_bytes (header_of header.now))) result }
+{
+    let at = put_bytes(buf, at, &frame_head(2, channel_id, len));
+    let at = put_content_header(buf, at, header);
+    put_bytes(buf, at, &[206])
+}
+
+/// Puts a frame of this type around a payload.
+pub(crate) fn put_framed(
+    buf: &mut [u8],
+    at: usize,
+    frame_type: u8,
+    channel_id: ChannelId,
+    payload: &[u8],
+) -> usize
+    requires short { length payload.now < 2 ^ 32 }
+    requires room { at + length (framed frame_type channel_id payload.now) ≤ length buf.old }
+    ensures { Puts buf.old buf.new at (framed frame_type channel_id payload.now) result }
+{
+    let at = put_bytes(
+        buf,
+        at,
+        &frame_head(frame_type, channel_id, payload.len() as u32),
+    );
     let at = put_bytes(buf, at, payload);
     put_bytes(buf, at, &[206])
 }
 
-/// Puts the canonical bytes at a place of a slice, and answers the place behind them.
-#[tactic(auto, unfolding(crate::specs::Canonical::size_of, crate::specs::Canonical::canon))]
-pub fn put_frame(buf: &mut [u8], at: usize, frame: &AMQPFrame) -> usize
-    requires fits { IsOk (size_of (frame_of frame.now)) }
+/// Puts the canonical bytes, which are this many, at a place of a slice.
+#[tactic(auto, unfolding(crate::specs::Canonical::canon))]
+fn put_measured(buf: &mut [u8], at: usize, frame: &AMQPFrame, size: u64) -> usize
+    requires measured { size_of (frame_of frame.now) ≡ Ok size }
     requires room { at + length (canon (frame_of frame.now)) ≤ length buf.old }
     ensures { Puts buf.old buf.new at (canon (frame_of frame.now)) result }
 {
     match frame {
         AMQPFrame::ProtocolHeader(version) => put_bytes(buf, at, &header_bytes(*version)),
-        AMQPFrame::Body(channel_id, content) => put_body(buf, at, *channel_id, content.as_slice()),
+        AMQPFrame::Method(channel_id, class) => {
+            put_method(buf, at, *channel_id, class, (size - 8) as u32)
+        }
+        AMQPFrame::Header(channel_id, header) => {
+            put_header(buf, at, *channel_id, header, (size - 8) as u32)
+        }
+        AMQPFrame::Body(channel_id, content) => {
+            put_framed(buf, at, 3, *channel_id, content.as_slice())
+        }
         AMQPFrame::Heartbeat => put_bytes(buf, at, &heartbeat_bytes(0)),
         AMQPFrame::InvalidHeartbeat(channel_id) => {
             put_bytes(buf, at, &heartbeat_bytes(*channel_id))
         }
+    }
+}
+
+/// Puts the canonical bytes at a place of a slice, and answers the place behind them.
+pub fn put_frame(buf: &mut [u8], at: usize, frame: &AMQPFrame) -> usize
+    requires fits { IsOk (size_of (frame_of frame.now)) }
+    requires room { at + length (canon (frame_of frame.now)) ≤ length buf.old }
+    ensures { Puts buf.old buf.new at (canon (frame_of frame.now)) result }
+{
+    match frame_size(frame) {
+        Ok(size) => put_measured(buf, at, frame, size),
+        Err(_) => unreachable!(),
     }
 }
 
@@ -98,7 +178,7 @@ pub fn gen_frame(_alloc: Global, out: &mut Vec<u8>, frame: &AMQPFrame) -> Result
 {
     let size = frame_size(frame)?;
     let at = grow(out, size)?;
-    put_frame(out, at, frame);
+    put_measured(out, at, frame, size);
     Ok(())
 }
 
@@ -111,7 +191,7 @@ pub fn gen_frame_slice(buf: &mut [u8], frame: &AMQPFrame) -> Result<usize, GenEr
         Err(refusal) => Err(refusal),
         Ok(size) if size > buf.len() as u64 => Err(GenError::BufferTooSmall),
         Ok(size) => {
-            put_frame(buf, 0, frame);
+            put_measured(buf, 0, frame, size);
             Ok(size as usize)
         }
     }

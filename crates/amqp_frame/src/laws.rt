@@ -1,6 +1,6 @@
 //! Laws of frames and rows, each the contract of a function that does nothing.
 
-ghost use Rattle.amqp_frame.specs.Laws.{OneMeaning, NoFrameBeginsAnother, VerdictsAreSpellings, VerdictsAreStable, LevelsNest, OneCanonicalSpelling, CanonicalBytesReadBack, CanonicalBytesAreShortest, FrontIsLongest, WrittenAgain};
+ghost use Rattle.amqp_frame.specs.Laws.{OneMeaning, NoFrameBeginsAnother, VerdictsAreSpellings, VerdictsAreStable, LevelsNest, OneCanonicalSpelling, EqualBytesAreEqualFrames, CanonicalBytesReadBack, CanonicalBytesAreShortest, FrontIsLongest, WrittenAgain, OuterLookIsItsParts};
 
 /// No bytes spell two rows of frames.
 pub fn one_meaning()
@@ -32,6 +32,11 @@ pub fn one_canonical_spelling()
     ensures { OneCanonicalSpelling }
 {}
 
+/// Two rows have equal canonical bytes exactly where they are the same frames.
+pub fn equal_bytes_are_equal_frames()
+    ensures { EqualBytesAreEqualFrames }
+{}
+
 /// Canonical bytes are read as the frame that they were written for.
 pub fn canonical_bytes_read_back()
     ensures { CanonicalBytesReadBack }
@@ -50,4 +55,9 @@ pub fn front_is_longest()
 /// What was written, given again, is taken whole and gives itself.
 pub fn written_again()
     ensures { WrittenAgain }
+{}
+
+/// The outer look without a limit is a type byte, and behind it a version or a raw frame.
+pub fn outer_look_is_its_parts()
+    ensures { OuterLookIsItsParts }
 {}

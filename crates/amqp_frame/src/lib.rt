@@ -2,6 +2,7 @@
 #![tactic(auto)]
 
 mod channel;
+mod content_header;
 mod frame;
 mod frame_type;
 mod generation;
@@ -9,19 +10,24 @@ mod laws;
 mod looking;
 mod parsing;
 mod raw_frame;
+mod rewriting;
+mod shapes;
+mod strict;
+mod strict_tables;
 mod version;
 
 pub use amqp_types::{GenError, ParserError};
 pub use channel::AMQPChannel;
+pub use content_header::{AMQPContentHeader, parse_content_header};
 pub use frame::{AMQPFrame, release};
 pub use frame_type::AMQPFrameType;
 pub use generation::{
     frame_head, frame_size, gen_frame, gen_frame_slice, header_bytes, heartbeat_bytes, put_frame,
 };
 pub use laws::{
-    canonical_bytes_are_shortest, canonical_bytes_read_back, front_is_longest, levels_nest,
-    no_frame_begins_another, one_canonical_spelling, one_meaning, verdicts_are_spellings,
-    verdicts_are_stable, written_again,
+    canonical_bytes_are_shortest, canonical_bytes_read_back, equal_bytes_are_equal_frames,
+    front_is_longest, levels_nest, no_frame_begins_another, one_canonical_spelling, one_meaning,
+    outer_look_is_its_parts, verdicts_are_spellings, verdicts_are_stable, written_again,
 };
 pub use looking::{FrameLayout, Look, look_at};
 pub use parsing::{
@@ -29,6 +35,7 @@ pub use parsing::{
     parse_raw_frame,
 };
 pub use raw_frame::AMQPRawFrame;
+pub use rewriting::put_canonical;
 pub use version::ProtocolVersion;
 
 #[cfg(test)]

@@ -1,19 +1,27 @@
 //! Reading frames and their parts from the front of a slice.
 
-ghost use Rattle.std.specs.Prelude.{◌≡◌, ◌≤◌, length, None, Err, IfOk};
+ghost use Rattle.std.specs.Prelude.{◌≡◌, ◌≤◌, ◌<◌, ◌+◌, ◌^◌, length, None, Err, IfOk, IfErr};
 ghost use Rattle.amqp_types.specs.Levels.{plain};
 ghost use Rattle.amqp_types.specs.Answers.{Answers, AnswersFully, AnswersWhole};
+ghost use Rattle.amqp_types.specs.ValueJudging.{inside_error};
+ghost use Rattle.amqp_types.specs.ValueLaws.{IsWithin as IsSizedWithin};
+ghost use Rattle.amqp_types.specs.Methods.{judge_payload};
+ghost use Rattle.amqp_types.specs.ContentHeaders.{judge_content_header};
+ghost use Rattle.amqp_protocol.specs.Classes.{method_of};
 ghost use Rattle.amqp_frame.specs.Channels.{judge_channel};
-ghost use Rattle.amqp_frame.specs.Frames.{frame_of, raw_of, beat_on, OwnsMemory};
+ghost use Rattle.amqp_frame.specs.Canonical.{canon, size_of};
+ghost use Rattle.amqp_frame.specs.Frames.{frame_of, header_of, raw_of, beat_on, OwnsMemory};
 ghost use Rattle.amqp_frame.specs.Outer.{judge_frame_type, judge_version, judge_raw, BeginsWith};
-ghost use Rattle.amqp_frame.specs.Verdicts.{verdict, whole};
+ghost use Rattle.amqp_frame.specs.Verdicts.{IsPayloadError, all_of, verdict, whole, whole_as};
 
 use crate::channel::AMQPChannel;
+use crate::content_header::{AMQPContentHeader, parse_content_header};
 use crate::frame::AMQPFrame;
 use crate::frame_type::AMQPFrameType;
 use crate::looking::{Look, agrees, look_at, look_raw};
 use crate::raw_frame::AMQPRawFrame;
 use crate::version::ProtocolVersion;
+use amqp_protocol::{AMQPClass, parse_class};
 use amqp_types::{ByteArray, ChannelId, ParserError, parse_id};
 use std::alloc::Global;
 
@@ -104,14 +112,53 @@ fn heartbeat(channel_id: ChannelId) -> AMQPFrame
     }
 }
 
-/// Reads a whole payload. A body is copied; a heartbeat's payload is dropped.
-#[tactic(auto, unfolding(crate::specs::Verdicts::whole_as))]
-pub fn parse_payload(alloc: Global, raw: AMQPRawFrame<'_>) -> Result<AMQPFrame, ParserError>
-    ensures whole { AnswersWhole frame_of result (whole (raw_of raw.entry)) }
-    ensures memory { result ≡ Err ParserError.NoMemory → OwnsMemory raw.entry.frame_type }
+/// A refusal of what stands inside a payload whose bytes are all there.
+fn inside(error: ParserError) -> ParserError
+    ensures { result ≡ inside_error error }
 {
-    match raw.frame_type {
-        AMQPFrameType::ProtocolHeader => match raw.payload {
+    match error {
+        ParserError::Incomplete => ParserError::ShortPayload,
+        error => error,
+    }
+}
+
+/// Reads the method that a whole payload is.
+#[tactic(auto, using(crate::proofs::Payloads::refused_all))]
+fn parse_method(alloc: Global, payload: &[u8]) -> Result<AMQPClass, ParserError>
+    ensures { AnswersWhole method_of result (all_of judge_payload payload.now) }
+{
+    match parse_class(alloc, payload) {
+        Err(error) => Err(inside(error)),
+        Ok((used, _)) if used < payload.len() => Err(ParserError::TrailingBytes),
+        Ok((_, class)) => Ok(class),
+    }
+}
+
+/// Reads the content header that a whole payload is.
+#[tactic(auto, using(crate::proofs::Payloads::refused_all))]
+fn parse_header(alloc: Global, payload: &[u8]) -> Result<AMQPContentHeader, ParserError>
+    ensures { AnswersWhole header_of result (all_of judge_content_header payload.now) }
+{
+    match parse_content_header(alloc, payload) {
+        Err(error) => Err(inside(error)),
+        Ok((used, _)) if used < payload.len() => Err(ParserError::TrailingBytes),
+        Ok((_, header)) => Ok(header),
+    }
+}
+
+/// Reads the frame that a whole payload of this type is.
+#[tactic(auto, using(crate::proofs::Payloads::refused_map), unfolding(crate::specs::Verdicts::whole_as))]
+fn read_as(
+    alloc: Global,
+    frame_type: AMQPFrameType,
+    channel_id: ChannelId,
+    payload: &[u8],
+) -> Result<AMQPFrame, ParserError>
+    ensures whole { AnswersWhole frame_of result (whole_as frame_type channel_id payload.now) }
+    ensures memory { result ≡ Err ParserError.NoMemory → OwnsMemory frame_type }
+{
+    match frame_type {
+        AMQPFrameType::ProtocolHeader => match payload {
             [major, minor, revision] => Ok(AMQPFrame::ProtocolHeader(ProtocolVersion {
                 major: *major,
                 minor: *minor,
@@ -120,18 +167,54 @@ pub fn parse_payload(alloc: Global, raw: AMQPRawFrame<'_>) -> Result<AMQPFrame, 
             [_, _, _, _, ..] => Err(ParserError::TrailingBytes),
             _ => Err(ParserError::ShortPayload),
         },
-        AMQPFrameType::Method | AMQPFrameType::Header => Err(ParserError::NotBuilt),
-        AMQPFrameType::Body => {
-            let bytes = ByteArray::new(alloc, raw.payload)?;
-            Ok(AMQPFrame::Body(raw.channel_id, bytes))
+        AMQPFrameType::Method => {
+            let class = parse_method(alloc, payload)?;
+            Ok(AMQPFrame::Method(channel_id, class))
         }
-        AMQPFrameType::Heartbeat => Ok(heartbeat(raw.channel_id)),
+        AMQPFrameType::Header => {
+            let header = parse_header(alloc, payload)?;
+            Ok(AMQPFrame::Header(channel_id, header))
+        }
+        AMQPFrameType::Body => {
+            let bytes = ByteArray::new(alloc, payload)?;
+            Ok(AMQPFrame::Body(channel_id, bytes))
+        }
+        AMQPFrameType::Heartbeat => Ok(heartbeat(channel_id)),
     }
 }
 
-/// Reads one frame at the front, with no limit on its payload.
+/// The same, with what follows from the bytes that were read.
+fn read_whole(
+    alloc: Global,
+    frame_type: AMQPFrameType,
+    channel_id: ChannelId,
+    payload: &[u8],
+) -> Result<AMQPFrame, ParserError>
+    ensures whole { AnswersWhole frame_of result (whole_as frame_type channel_id payload.now) }
+    ensures inside { IfErr result IsPayloadError }
+    ensures memory { result ≡ Err ParserError.NoMemory → OwnsMemory frame_type }
+    ensures within { length payload.now < 2 ^ 32
+        → IfOk result (λ frame. IsSizedWithin (size_of (frame_of frame)) (canon (frame_of frame)) (length payload.now + 8)) }
+{
+    read_as(alloc, frame_type, channel_id, payload)
+}
+
+/// Reads a whole payload. A body is copied; a heartbeat's payload is dropped.
+pub fn parse_payload(alloc: Global, raw: AMQPRawFrame<'_>) -> Result<AMQPFrame, ParserError>
+    ensures whole { AnswersWhole frame_of result (whole (raw_of raw.entry)) }
+    ensures inside { IfErr result IsPayloadError }
+    ensures memory { result ≡ Err ParserError.NoMemory → OwnsMemory raw.entry.frame_type }
+
+    // What was read is neither long nor too deep, and is written in no more bytes than it was read from.
+    ensures within { length raw.entry.payload.now < 2 ^ 32
+        → IfOk result (λ frame. IsSizedWithin (size_of (frame_of frame)) (canon (frame_of frame)) (length raw.entry.payload.now + 8)) }
+{
+    read_whole(alloc, raw.frame_type, raw.channel_id, raw.payload)
+}
+
+/// Reads the frame at the front.
 #[tactic(auto, using(crate::proofs::Payloads::refused_frame, crate::proofs::OuterLook::never_large), unfolding(crate::specs::Verdicts::verdict))]
-pub fn parse_frame(alloc: Global, i: &[u8]) -> Result<(usize, AMQPFrame), ParserError>
+fn read_frame(alloc: Global, i: &[u8]) -> Result<(usize, AMQPFrame), ParserError>
     ensures judged { Answers frame_of result (verdict plain None i.now) }
     ensures used { IfOk result (λ found. found.0 ≤ length i.now) }
     ensures memory { result ≡ Err ParserError.NoMemory → BeginsWith OwnsMemory None i.now }
@@ -143,13 +226,21 @@ pub fn parse_frame(alloc: Global, i: &[u8]) -> Result<(usize, AMQPFrame), Parser
         Look::TooLarge => unreachable!(),
         Look::BadFrameEnd => Err(ParserError::BadFrameEnd),
         Look::Whole(layout) => {
-            let raw = AMQPRawFrame {
-                frame_type: layout.frame_type,
-                channel_id: layout.channel_id,
-                payload: &i[layout.payload_start..layout.payload_start + layout.payload_len],
-            };
-            let frame = parse_payload(alloc, raw)?;
+            let payload = &i[layout.payload_start..layout.payload_start + layout.payload_len];
+            let frame = read_as(alloc, layout.frame_type, layout.channel_id, payload)?;
             Ok((layout.frame_len, frame))
         }
     }
+}
+
+/// Reads one frame at the front, with no limit on its payload.
+pub fn parse_frame(alloc: Global, i: &[u8]) -> Result<(usize, AMQPFrame), ParserError>
+    ensures judged { Answers frame_of result (verdict plain None i.now) }
+    ensures used { IfOk result (λ found. found.0 ≤ length i.now) }
+    ensures memory { result ≡ Err ParserError.NoMemory → BeginsWith OwnsMemory None i.now }
+
+    // What was read is neither long nor too deep, and is written in no more bytes than were used.
+    ensures within { IfOk result (λ found. IsSizedWithin (size_of (frame_of found.1)) (canon (frame_of found.1)) found.0) }
+{
+    read_frame(alloc, i)
 }

@@ -1,5 +1,8 @@
 use super::*;
-use amqp_types::ByteArray;
+use amqp_properties::AMQPProperties;
+use amqp_protocol::{AMQPClass, queue};
+use amqp_types::{ByteArray, ShortString};
+use amqp_values::FieldTable;
 use std::test::Fail;
 
 /// A body `h` on channel 1.
@@ -45,9 +48,9 @@ fn faults_are_named(rt: HostRuntime) -> Result<(), Fail> {
         (&[1, 0, 1, 0, 0, 0, 2, 0, 99, 205], ParserError::BadFrameEnd),
         (
             &[1, 0, 1, 0, 0, 0, 4, 0, 85, 0, 10, 206],
-            ParserError::NotBuilt,
+            ParserError::ShortPayload,
         ),
-        (&[2, 0, 1, 0, 0, 0, 0, 206], ParserError::NotBuilt),
+        (&[2, 0, 1, 0, 0, 0, 0, 206], ParserError::ShortPayload),
     ];
     for (bytes, error) in rows {
         match parse_frame(rt.alloc(), bytes) {
@@ -104,6 +107,106 @@ fn frames_are_written(rt: HostRuntime) -> Result<(), Fail> {
     assert_eq!(rt; frame.copy(rt.alloc())?, frame);
     assert!(rt; !frame.is_header());
     assert_eq!(rt; frame.channel_id(), 1);
+    Ok(())
+}
+
+/// `queue.declare` of `some_queue` on channel 1, with all its flags.
+const DECLARE: [u8; 30] = [
+    1, 0, 1, 0, 0, 0, 22, 0, 50, 0, 10, 0, 0, 10, 115, 111, 109, 101, 95, 113, 117, 101, 117, 101,
+    31, 0, 0, 0, 0, 206,
+];
+
+/// A content header on channel 1, for a body of 5 bytes and with no properties.
+const HEADER: [u8; 22] = [
+    2, 0, 1, 0, 0, 0, 14, 0, 60, 0, 0, 0, 0, 0, 0, 0, 0, 0, 5, 0, 0, 206,
+];
+
+/// The frame that is spelled so.
+fn declare(rt: &HostRuntime) -> Result<AMQPFrame, Fail> {
+    let declare = queue::Declare {
+        queue: ShortString::new(rt.alloc(), "some_queue")?,
+        passive: true,
+        durable: true,
+        exclusive: true,
+        auto_delete: true,
+        nowait: true,
+        arguments: FieldTable::new(rt.alloc()),
+    };
+    let class = AMQPClass::Queue(queue::AMQPMethod::Declare(declare));
+    Ok(AMQPFrame::Method(1, class))
+}
+
+#[test]
+fn methods_are_read(rt: HostRuntime) -> Result<(), Fail> {
+    let frame = declare(&rt)?;
+    let (used, read) = parse_frame(rt.alloc(), &DECLARE)?;
+    assert_eq!(rt; used, 30);
+    assert!(rt; read == frame);
+    assert!(rt; read.copy(rt.alloc())? == frame);
+    assert!(rt; !frame.is_header());
+    assert_eq!(rt; frame.channel_id(), 1);
+    let text = format!(in rt.alloc(); "{frame}")?;
+    assert_eq!(rt; text.as_str(), "AMQPFrame::Method(50, 10)");
+    Ok(())
+}
+
+#[test]
+fn methods_are_written(rt: HostRuntime) -> Result<(), Fail> {
+    let frame = declare(&rt)?;
+    assert_eq!(rt; frame_size(&frame), Ok(30));
+    let mut out = Vec::new(rt.alloc());
+    gen_frame(rt.alloc(), &mut out, &frame)?;
+    assert_eq!(rt; out.as_slice(), DECLARE.as_slice());
+    let mut room = vec![in rt.alloc(); 7; 31]?;
+    assert_eq!(rt; gen_frame_slice(&mut room, &frame), Ok(30));
+    assert!(rt; room.starts_with(&DECLARE));
+    assert_eq!(rt; room[30], 7);
+    let mut short = [7; 29];
+    assert_eq!(rt;
+        gen_frame_slice(&mut short, &frame),
+        Err(GenError::BufferTooSmall)
+    );
+    assert_eq!(rt; short, [7; 29]);
+    Ok(())
+}
+
+/// Whether unused bits are set or not, the same bytes are put.
+#[test]
+fn canonical_bytes_are_put(rt: HostRuntime) -> Result<(), Fail> {
+    for flags in [1, 255] {
+        let raw = AMQPRawFrame {
+            frame_type: AMQPFrameType::Method,
+            channel_id: 3,
+            payload: &[0, 85, 0, 10, flags],
+        };
+        let mut buf = [7; 15];
+        assert_eq!(rt; put_canonical(rt.alloc(), &mut buf, 1, raw), Ok(14));
+        assert_eq!(rt; buf, [7, 1, 0, 3, 0, 0, 0, 5, 0, 85, 0, 10, 1, 206, 7]);
+    }
+    Ok(())
+}
+
+#[test]
+fn content_headers_are_frames(rt: HostRuntime) -> Result<(), Fail> {
+    let header = AMQPContentHeader {
+        class_id: 60,
+        body_size: 5,
+        properties: AMQPProperties::default(),
+    };
+    let (used, read) = parse_content_header(rt.alloc(), &HEADER[7..21])?;
+    assert_eq!(rt; used, 14);
+    assert!(rt; read == header);
+    let frame = AMQPFrame::Header(1, header);
+    let (used, raw) = parse_raw_frame(AMQPFrameType::Header, &HEADER[1..])?;
+    assert_eq!(rt; used, 21);
+    assert!(rt; parse_payload(rt.alloc(), raw)? == frame);
+    let mut out = Vec::new(rt.alloc());
+    gen_frame(rt.alloc(), &mut out, &frame)?;
+    assert_eq!(rt; out.as_slice(), HEADER.as_slice());
+    assert!(rt; frame.copy(rt.alloc())? == frame);
+    assert!(rt; frame.is_header());
+    let text = format!(in rt.alloc(); "{frame}")?;
+    assert_eq!(rt; text.as_str(), "AMQPFrame::Header");
     Ok(())
 }
 

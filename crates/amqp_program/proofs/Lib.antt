@@ -1,5 +1,6 @@
-pub mod Words
 pub mod TextReading
 pub mod HexRuns
 pub mod RawRuns
 pub mod Statuses
+pub mod Numerals
+pub mod MakeRuns

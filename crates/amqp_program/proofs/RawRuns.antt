@@ -24,7 +24,6 @@ done_or_no_memory (Err errors.NotUtf8) h = absurd h
 done_or_no_memory (Err errors.UnknownTag) h = absurd h
 done_or_no_memory (Err errors.TooDeep) h = absurd h
 done_or_no_memory (Err errors.NotTidy) h = absurd h
-done_or_no_memory (Err errors.NotBuilt) h = absurd h
 done_or_no_memory (Err errors.CutShort) h = absurd h
 done_or_no_memory (Err errors.TurnsSpent) h = absurd h
 done_or_no_memory (Err errors.ReadFault) h = absurd h

@@ -26,7 +26,6 @@ error_status errors.NotUtf8 = (λ h. absurd (omega arith), λ h. absurd (omega a
 error_status errors.UnknownTag = (λ h. absurd (omega arith), λ h. absurd (omega arith))
 error_status errors.TooDeep = (λ h. absurd (omega arith), λ h. absurd (omega arith))
 error_status errors.NotTidy = (λ h. absurd (omega arith), λ h. absurd (omega arith))
-error_status errors.NotBuilt = (λ h. absurd (omega arith), λ h. absurd (omega arith))
 error_status errors.CutShort = (λ h. absurd (omega arith), λ h. absurd (omega arith))
 error_status errors.TurnsSpent = (λ h. absurd (omega arith), λ h. absurd (omega arith))
 error_status errors.ReadFault = (λ h. absurd (omega arith), λ h. absurd (omega arith))

@@ -1,7 +1,11 @@
 -- The forms of words.
-use Rattle.std.specs.Prelude.{ℕ, List, [], ◌∷◌, map, codes, Option, Some, None, if◌then◌else◌, String, string_bytes}
+use Rattle.std.specs.Prelude.{ℕ, List, [], ◌∷◌, map, codes, Option, Some, None, ◌==◌, ◌&&◌, ◌||◌, Bool, nat_lt, nat_le, length, slice_index, if◌then◌else◌, String, string_bytes}
+use Rattle.std.specs.Fmt.{decimal}
+use Rattle.std.specs.Option.{option_map}
 use Rattle.std.specs.Str.{bytes_eq}
+use Rattle.std.specs.Str.Parse.{digits_value}
 use Rattle.std.specs.declared.alloc.Global.{Global}
+use Rattle.amqp_stream.specs.Made.{most_frames}
 use Rattle.amqp_program.specs.declared.command.Command.{Command}
 use Rattle.amqp_program.specs.declared.command.Command.TheVariants as commands
 
@@ -17,8 +21,23 @@ command_named word =
     else (if bytes_eq word (codes "--help") then Some commands.Help
     else (if bytes_eq word (codes "--version") then Some commands.Version else None)))
 
--- the command that the words after the program's name ask for: each form is one word
+-- the number of frames that a word names: the word is how the number is printed, and so many frames can be made
+unfoldable pub frames_named : List ℕ → Option ℕ
+frames_named word =
+    let n = digits_value 10 word in
+    if bytes_eq word (decimal n) && nat_le n most_frames then Some n else None
+
+-- no number is printed so: a plus stands first, or a zero and more behind it
+abbrev pub has_padding : List ℕ → Bool
+has_padding word = (slice_index word 0 == 43) || (nat_lt 1 (length word) && (slice_index word 0 == 48))
+
+-- the command of two words: `make` and a number of frames
+abbrev pub command_with : List ℕ → List ℕ → Option Command
+command_with word number = if bytes_eq word (codes "make") then option_map commands.Make (frames_named number) else None
+
+-- the command that the words after the program's name ask for: each form is one word, or two
 abbrev pub command_of : List (List ℕ) → Option Command
 command_of [] = None
 command_of (word ∷ []) = command_named word
-command_of (word ∷ other ∷ more) = None
+command_of (word ∷ number ∷ []) = command_with word number
+command_of (word ∷ number ∷ other ∷ more) = None

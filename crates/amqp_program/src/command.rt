@@ -1,5 +1,5 @@
 ghost use Rattle.std.specs.Prelude.{◌≡◌};
-ghost use Rattle.amqp_program.specs.Commands.{command_of, texts_of};
+ghost use Rattle.amqp_program.specs.Commands.{command_named, command_of, command_with, frames_named, has_padding, texts_of};
 
 /// What the words ask for.
 #[derive(Clone, Copy, Debug, PartialEq, Eq)]
@@ -10,6 +10,10 @@ pub enum Command {
     /// `raw`: canonicalizes bytes.
     Raw,
 
+    /// `make N`: makes so many frames, and prints the number of their bytes and of their
+    /// canonical bytes.
+    Make(u32),
+
     /// `--help`: prints the forms of words.
     Help,
 
@@ -17,18 +21,62 @@ pub enum Command {
     Version,
 }
 
-/// The command that the words after the program's name ask for, if they are one of the forms.
-pub fn parse_command(words: &[String]) -> Option<Command>
-    ensures { result ≡ command_of (texts_of words.now) }
+/// The most frames that are made.
+const MAX_FRAMES: u32 = 100_000;
+
+/// Whether a word begins with a sign, or with a zero and more behind it.
+fn is_padded(word: &str) -> bool
+    ensures { result ≡ has_padding word.now }
 {
-    let [word] = words else {
+    word.starts_with('+') || word.len() > 1 && word.starts_with('0')
+}
+
+/// The number of frames that a word names: `0`, or digits without a leading zero.
+fn parse_frames(word: &str) -> Option<u32>
+    ensures { result ≡ frames_named word.now }
+{
+    if is_padded(word) {
         return None;
-    };
-    match word.as_str() {
+    }
+    match word.parse::<u32>() {
+        Ok(frames) if frames <= MAX_FRAMES => Some(frames),
+        _ => None,
+    }
+}
+
+/// The command of a single word.
+fn parse_word(word: &str) -> Option<Command>
+    ensures { result ≡ command_named word.now }
+{
+    match word {
         "hex" => Some(Command::Hex),
         "raw" => Some(Command::Raw),
         "--help" => Some(Command::Help),
         "--version" => Some(Command::Version),
+        _ => None,
+    }
+}
+
+/// The command of two words.
+fn parse_words(word: &str, number: &str) -> Option<Command>
+    ensures { result ≡ command_with word.now number.now }
+{
+    if word != "make" {
+        return None;
+    }
+    match parse_frames(number) {
+        Some(frames) => Some(Command::Make(frames)),
+        None => None,
+    }
+}
+
+/// The command that the words after the program's name ask for, if they are one of the forms.
+pub fn parse_command(words: &[String]) -> Option<Command>
+    ensures { result ≡ command_of (texts_of words.now) }
+{
+    match words {
+        [word] => parse_word(word.as_str()),
+        [word, number] => parse_words(word.as_str(), number.as_str()),
         _ => None,
     }
 }

@@ -3,6 +3,7 @@
 
 mod command;
 mod hex_command;
+mod make_command;
 mod print_command;
 mod raw_command;
 mod report;
@@ -40,3 +41,5 @@ fn main(rt: HostRuntime) -> ExitCode {
 
 #[cfg(test)]
 mod tests;
+#[cfg(test)]
+mod wire_tests;

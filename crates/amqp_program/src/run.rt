@@ -1,9 +1,11 @@
-ghost use Rattle.std.specs.Prelude.{◌≡◌, ◌↔◌, Some, None};
+ghost use Rattle.std.specs.Prelude.{◌≡◌, ◌↔◌, ℕ, Some, None};
 ghost use Rattle.amqp_program.specs.Commands.{command_of, texts_of};
+ghost use Rattle.amqp_program.specs.Makes.{RunsMake};
 ghost use Rattle.amqp_program.specs.Runs.{RunsHex, RunsRaw, Prints};
 
 use crate::command::{Command, parse_command};
 use crate::hex_command::run_hex;
+use crate::make_command::run_make;
 use crate::print_command::{HELP, VERSION, print};
 use crate::raw_command::run_raw;
 use amqp_stream::{Sink, Source};
@@ -17,6 +19,8 @@ pub fn run<S: Source, K: Sink>(alloc: Global, words: &[String], source: &mut S, 
         → RunsHex (S.supply source.old) (S.supply source.new) (K.store sink.old) (K.store sink.new) result }
     ensures raw { command_of (texts_of words.now) ≡ Some Command.Raw
         → RunsRaw (S.supply source.old) (S.supply source.new) (K.store sink.old) (K.store sink.new) result }
+    ensures make { (n : ℕ) → command_of (texts_of words.now) ≡ Some (Command.Make n)
+        → RunsMake n (K.store sink.old) (K.store sink.new) result × (source.new ≡ source.old) }
     ensures help { command_of (texts_of words.now) ≡ Some Command.Help
         → Prints HELP.now (K.store sink.old) (K.store sink.new) result × (source.new ≡ source.old) }
     ensures version { command_of (texts_of words.now) ≡ Some Command.Version
@@ -29,6 +33,7 @@ pub fn run<S: Source, K: Sink>(alloc: Global, words: &[String], source: &mut S, 
     match parse_command(words) {
         Some(Command::Hex) => run_hex(alloc, source, sink),
         Some(Command::Raw) => run_raw(alloc, source, sink),
+        Some(Command::Make(frames)) => run_make(alloc, frames, sink),
         Some(Command::Help) => print(sink, HELP),
         Some(Command::Version) => print(sink, VERSION),
         None => 2,

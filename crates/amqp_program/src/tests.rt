@@ -44,7 +44,7 @@ fn hex_reports(rt: HostRuntime) -> Result<(), Fail> {
             10,
         ),
         ("0100010000000400 55000ace", "BadHex\n", 7),
-        ("010001000000040055000ace", "\nNotBuilt\n", 8),
+        ("010001000000040055000ace", "\nShortPayload\n", 16),
         ("4", "BadHex\n", 7),
         ("01\n\n", "BadHex\n", 7),
     ];
@@ -115,11 +115,16 @@ fn a_text_has_a_longest(rt: HostRuntime) -> Result<(), Fail> {
 
 #[test]
 fn words_are_told_apart(rt: HostRuntime) -> Result<(), Fail> {
-    let rows: [(&[&str], u8, &str); 7] = [
+    let rows: [(&[&str], u8, &str); 12] = [
         (&[], 2, ""),
         (&["hex", "x"], 2, ""),
+        (&["make"], 2, ""),
+        (&["make", ""], 2, ""),
         (&["make", "100001"], 2, ""),
         (&["make", "07"], 2, ""),
+        (&["make", "+7"], 2, ""),
+        (&["make", "7", "8"], 2, ""),
+        (&["made", "7"], 2, ""),
         (&["HEX"], 2, ""),
         (&["--help"], 0, HELP),
         (&["--version"], 0, VERSION),
@@ -127,6 +132,24 @@ fn words_are_told_apart(rt: HostRuntime) -> Result<(), Fail> {
     for (words, status, printed) in rows {
         let found = ran(rt.alloc(), words, b"0800000000000107ce", &[])?;
         assert_eq!(rt; found.0, status);
+        assert_eq!(rt; found.1.as_slice(), printed.as_bytes());
+    }
+    Ok(())
+}
+
+#[test]
+fn made_frames_are_counted(rt: HostRuntime) -> Result<(), Fail> {
+    let rows: [(&str, &str); 6] = [
+        ("0", "frames 0 in 0 out 0\n"),
+        ("1", "frames 1 in 9 out 8\n"),
+        ("2", "frames 2 in 18 out 17\n"),
+        ("4", "frames 4 in 59 out 54\n"),
+        ("6", "frames 6 in 77 out 71\n"),
+        ("100000", "frames 100000 in 1475000 out 1350000\n"),
+    ];
+    for (number, printed) in rows {
+        let found = ran(rt.alloc(), &["make", number], b"", &[])?;
+        assert_eq!(rt; found.0, 0);
         assert_eq!(rt; found.1.as_slice(), printed.as_bytes());
     }
     Ok(())

@@ -1,15 +1,11 @@
 -- The laws of content headers.
-use Rattle.std.proofs.Common.{◌≡◌, ℕ, true, ◌+◌, ◌<◌, ◌^◌, List, [], ◌∷◌, ◌++◌, length, Option, refl, sym, ap, ap₂, subst, ◌∙◌}
-use Rattle.amqp_types.specs.Levels.{Level, plain, tidy, strict}
-use Rattle.amqp_types.specs.Judging.{Judge, took}
-use Rattle.amqp_types.specs.Sequences.{judge_both, SpellsBoth}
-use Rattle.amqp_types.specs.Numbers.{bytes2, bytes8, number_bytes}
-use Rattle.amqp_types.specs.FormLaws.{IsLawful}
-use Rattle.amqp_types.specs.Slots.{Item, number_item, number_form, Slot, kept_slot, reserved_slot}
+use Rattle.std.proofs.Common.{◌≡◌, ℕ, true, false, List, [], ◌∷◌, ◌++◌, Option, refl, sym, ap, ap₂, subst, ◌∙◌}
+use Rattle.amqp_types.specs.Levels.{plain, strict}
+use Rattle.amqp_types.specs.Slots.{Item, number_item}
 use Rattle.amqp_types.specs.SlotJudging.{judge_slots}
-use Rattle.amqp_types.specs.SlotBytes.{form_bytes, slots_bytes}
-use Rattle.amqp_types.specs.SlotSpelling.{SpellsForm, SpellsSlots}
-use Rattle.amqp_types.specs.SlotLaws.{are_least, AreSlotsHeld}
+use Rattle.amqp_types.specs.SlotBytes.{slots_bytes}
+use Rattle.amqp_types.specs.SlotSpelling.{SpellsSlots}
+use Rattle.amqp_types.specs.SlotLaws.{are_least}
 use Rattle.amqp_types.specs.PropertyJudging.{judge_properties}
 use Rattle.amqp_types.specs.PropertyBytes.{properties_bytes, any_deep_option, any_long_option}
 use Rattle.amqp_types.specs.PropertySpelling.{SpellsProperties}
@@ -20,7 +16,7 @@ use Rattle.amqp_values.proofs.SlotsHeld.{slots_held}
 use Rattle.amqp_values.proofs.ValueLaws.{sized}
 use Rattle.amqp_properties.proofs.PropertyLaws.{properties_lawful, properties_bounded, properties_held}
 
-least : are_least header_slots ≡ true
+pub least : are_least header_slots ≡ true
 unfolding header_slots
 least = refl
 
@@ -70,20 +66,24 @@ slots_are_held : (header : ContentHeader) → IsHeaderHeld header → SpellsSlot
 unfolding header_slots
 slots_are_held header h = slots_held header_slots (header_items header) refl (h.class_fits, (h.size_fits, refl)) refl refl
 
+-- what programs hold is spelled strictly by its canonical bytes
+pub header_held : (header : ContentHeader) → IsHeaderHeld header → any_deep_option header.options ≡ false → any_long_option header.options ≡ false → SpellsContentHeader strict (content_header_bytes header) header
+unfolding content_header_bytes
+header_held header h shallow short = record {
+  front = slots_bytes header_slots (header_items header);
+  behind = properties_bytes header.options;
+  one = header_items header;
+  two = header.options;
+  bytes_are = refl;
+  first_is = slots_are_held header h;
+  second_is = properties_held header.options h.held shallow short;
+  joined = refl;
+}
+
 pub content_headers_read_back : HeldContentHeadersAreReadBack
-unfolding content_header_size content_header_bytes
+unfolding content_header_size
 content_headers_read_back header rest h size =
-    let ok = sized (any_deep_option header.options) (any_long_option header.options) (content_header_bytes header) size in
     let bytes = content_header_bytes header in
+    let ok = sized (any_deep_option header.options) (any_long_option header.options) bytes size in
     let law = content_headers_lawful in
-    let spelled : SpellsContentHeader strict bytes header = record {
-      front = slots_bytes header_slots (header_items header);
-      behind = properties_bytes header.options;
-      one = header_items header;
-      two = header.options;
-      bytes_are = refl;
-      first_is = slots_are_held header h;
-      second_is = properties_held header.options h.held ok.0 ok.1;
-      joined = refl;
-    } in
-    law.exact.taken bytes rest header (law.tidy_is_plain bytes header (law.strict_is_tidy bytes header spelled))
+    law.exact.taken bytes rest header (law.tidy_is_plain bytes header (law.strict_is_tidy bytes header (header_held header h ok.0 ok.1)))

@@ -3,3 +3,5 @@ pub mod Masks
 pub mod Options
 pub mod PropertyLaws
 pub mod HeaderLaws
+pub mod Tidiness
+pub mod PropertyFaults

@@ -1,16 +1,15 @@
 -- The laws of properties.
-use Rattle.std.proofs.Common.{◌≡◌, ℕ, suc, ◌+◌, ◌<◌, ◌≤◌, ◌^◌, Bool, true, false, ◌||◌, List, [], ◌∷◌, ◌++◌, length, take, drop, map, Option, Some, None, Ok, refl, sym, ap, ap₂, subst, ◌∙◌, append_assoc, arith}
+use Rattle.std.proofs.Common.{◌≡◌, ℕ, suc, ◌+◌, ◌≤◌, Bool, true, false, ◌||◌, List, [], ◌∷◌, ◌++◌, length, take, drop, map, Option, Some, None, refl, sym, ap, ap₂, subst, ◌∙◌, append_assoc, arith}
 use Rattle.std.specs.Prelude.{is_some}
 use Rattle.std.proofs.lemmas.List.{length-append, length-drop, drop_at}
 use Rattle.std.proofs.Math.Seq.{take-add}
 use Rattle.amqp_types.specs.Levels.{Level, plain, tidy, strict}
-use Rattle.amqp_types.specs.Judging.{Judge, took, ◌>>=◌, IsBytes, IsExact}
-use Rattle.amqp_types.specs.Numbers.{bytes2, number_bytes, judge_number, SpellsNumber}
-use Rattle.amqp_types.specs.Flags.{flag_at, FromTidy}
+use Rattle.amqp_types.specs.Judging.{took, ◌>>=◌, IsBytes, IsExact}
+use Rattle.amqp_types.specs.Numbers.{bytes2, number_bytes, judge_number}
+use Rattle.amqp_types.specs.Flags.{flag_at}
 use Rattle.amqp_types.specs.FormLaws.{IsLawful}
-use Rattle.amqp_types.specs.Slots.{Item, number_item, Form, number_form}
+use Rattle.amqp_types.specs.Slots.{Item}
 use Rattle.amqp_types.specs.SlotBytes.{form_bytes, is_deep_item, is_long_item}
-use Rattle.amqp_types.specs.SlotLaws.{IsFormHeld}
 use Rattle.amqp_types.specs.Properties.{Property, properties, later_properties}
 use Rattle.amqp_types.specs.PropertyJudging.{judge_set, judge_properties}
 use Rattle.amqp_types.specs.PropertyBytes.{mask_of, optional_bytes, set_bytes, properties_bytes, properties_size, is_deep_option, is_long_option, any_deep_option, any_long_option}
@@ -23,11 +22,11 @@ use Rattle.amqp_types.proofs.FormLaws.{is_plain, one_at_each}
 use Rattle.amqp_values.proofs.SlotLaws.{either}
 use Rattle.amqp_values.proofs.SlotsHeld.{form_held}
 use Rattle.amqp_values.proofs.ValueLaws.{sized}
-use Rattle.amqp_properties.proofs.Masks.{set_flags, set_flags-length, flags_mask, mask_of-flags, IsMaskOf, flags_mask_is, mask_is}
+use Rattle.amqp_properties.proofs.Masks.{set_flags, flags_mask, mask_of-flags, IsMaskOf, flags_mask_is, mask_is}
 use Rattle.amqp_properties.proofs.Options.{sets_lawful, set_gives, same_set}
 
 -- the fact on the table: each property gives one item
-one_each : give_one properties ≡ true
+pub one_each : give_one properties ≡ true
 unfolding properties later_properties
 one_each = refl
 

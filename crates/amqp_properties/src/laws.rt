@@ -1,7 +1,9 @@
 //! Laws of properties and content headers, each the contract of a function that does nothing.
 
 ghost use Rattle.amqp_types.specs.PropertyLaws.{SetsAreLawful, PropertiesAreLawful, SpelledPropertiesAreBounded, HeldPropertiesAreReadBack};
+ghost use Rattle.amqp_types.specs.PayloadFaults.{ContentHeadersFailInside};
 ghost use Rattle.amqp_types.specs.ContentHeaders.{ContentHeadersAreLawful, SpelledContentHeadersAreBounded, HeldContentHeadersAreReadBack};
+ghost use Rattle.amqp_types.specs.Tidiness.{TidyPropertiesAreTold, TidyContentHeadersAreTold};
 
 /// The laws of lists of properties that give one item each, whatever the mask.
 pub fn sets_are_lawful()
@@ -36,4 +38,19 @@ pub fn spelled_content_headers_are_bounded()
 /// Content headers that programs hold and write are read back.
 pub fn held_content_headers_are_read_back()
     ensures { HeldContentHeadersAreReadBack }
+{}
+
+/// A test tells which properties are tidy.
+pub fn tidy_properties_are_told()
+    ensures { TidyPropertiesAreTold }
+{}
+
+/// A test tells which payloads of content headers are tidy.
+pub fn tidy_content_headers_are_told()
+    ensures { TidyContentHeadersAreTold }
+{}
+
+/// The payload of a content header shows only faults of what stands inside it.
+pub fn content_headers_fail_inside()
+    ensures { ContentHeadersFailInside }
 {}

@@ -69,7 +69,6 @@ exact level m turns a b k l (Err errors.NotUtf8) bytes e c = bad_at level m byte
 exact level m turns a b k l (Err errors.UnknownTag) bytes e c = bad_at level m bytes c.taken c.written b.left _ (sym e ∙ c.takes.bytes) c.cause c.writes
 exact level m turns a b k l (Err errors.TooDeep) bytes e c = bad_at level m bytes c.taken c.written b.left _ (sym e ∙ c.takes.bytes) c.cause c.writes
 exact level m turns a b k l (Err errors.NotTidy) bytes e c = bad_at level m bytes c.taken c.written b.left _ (sym e ∙ c.takes.bytes) c.cause.1 c.writes
-exact level m turns a b k l (Err errors.NotBuilt) bytes e c = bad_at level m bytes c.taken c.written b.left _ (sym e ∙ c.takes.bytes) c.cause c.writes
 exact level m turns a b k l (Err errors.ShortPayload) bytes e c = bad_at level m bytes c.taken c.written b.left _ (sym e ∙ c.takes.bytes) c.cause c.writes
 exact level m turns a b k l (Err errors.TrailingBytes) bytes e c = bad_at level m bytes c.taken c.written b.left _ (sym e ∙ c.takes.bytes) c.cause c.writes
 exact level m turns a b k l (Err errors.CutShort) bytes e c =
@@ -104,7 +103,6 @@ valid_answer level m turns a b k l (Err errors.NotUtf8) bytes p enough e f c h =
 valid_answer level m turns a b k l (Err errors.UnknownTag) bytes p enough e f c h = absurd (let x = h.0 ∙ answer_row level m bytes p in cc)
 valid_answer level m turns a b k l (Err errors.TooDeep) bytes p enough e f c h = absurd (let x = h.0 ∙ answer_row level m bytes p in cc)
 valid_answer level m turns a b k l (Err errors.NotTidy) bytes p enough e f c h = absurd (let x = h.0 ∙ answer_row level m bytes p in cc)
-valid_answer level m turns a b k l (Err errors.NotBuilt) bytes p enough e f c h = absurd (let x = h.0 ∙ answer_row level m bytes p in cc)
 valid_answer level m turns a b k l (Err errors.ShortPayload) bytes p enough e f c h = absurd (let x = h.0 ∙ answer_row level m bytes p in cc)
 valid_answer level m turns a b k l (Err errors.TrailingBytes) bytes p enough e f c h = absurd (let x = h.0 ∙ answer_row level m bytes p in cc)
 valid_answer level m turns a b k l (Err errors.CutShort) bytes p enough e f c h = absurd (let x = h.0 ∙ answer_row level m bytes p in cc)

@@ -158,8 +158,6 @@ finish_refused level m turns left a c k l held raw n errors.UnknownTag next foun
     finish_bad level m turns left a c k l held 0 _ (Err errors.UnknownTag) next (λ e. absurd cc) (verdict-fault level (Some m) held raw n _ found h) (λ t w e. e) (λ t w e. e)
 finish_refused level m turns left a c k l held raw n errors.TooDeep next found h =
     finish_bad level m turns left a c k l held 0 _ (Err errors.TooDeep) next (λ e. absurd cc) (verdict-fault level (Some m) held raw n _ found h) (λ t w e. e) (λ t w e. e)
-finish_refused level m turns left a c k l held raw n errors.NotBuilt next found h =
-    finish_bad level m turns left a c k l held 0 _ (Err errors.NotBuilt) next (λ e. absurd cc) (verdict-fault level (Some m) held raw n _ found h) (λ t w e. e) (λ t w e. e)
 finish_refused level m turns left a c k l held raw n errors.NoMemory next found h =
     let cause : AtTypedFrame level m (next.used ++ held) (canon_row next.frames ++ []) = record {
       row = next.used;
@@ -240,7 +238,6 @@ refusal_of raw l l' waiting now errors.NotUtf8 ne h = h
 refusal_of raw l l' waiting now errors.UnknownTag ne h = h
 refusal_of raw l l' waiting now errors.TooDeep ne h = h
 refusal_of raw l l' waiting now errors.NotTidy ne h = h
-refusal_of raw l l' waiting now errors.NotBuilt ne h = h
 refusal_of raw l l' waiting now errors.ShortPayload ne h = h
 refusal_of raw l l' waiting now errors.TrailingBytes ne h = h
 refusal_of raw l l' waiting now errors.CutShort ne h = h

@@ -5,3 +5,8 @@ pub mod Writes
 pub mod Running
 pub mod Finishing
 pub mod Exact
+pub mod MadeSizes
+pub mod MadeRows
+pub mod MadeFrames
+pub mod Giving
+pub mod Behind

@@ -6,19 +6,22 @@ use Rattle.std.proofs.lemmas.Grind.{flat_map-append}
 use Rattle.std.proofs.Math.Nat.{mul-le-mul_right}
 use Rattle.amqp_types.specs.Levels.{Level}
 use Rattle.amqp_types.specs.Judging.{past, IsBytes}
-use Rattle.amqp_frame.specs.Frames.{Frame, raw_of}
+use Rattle.amqp_frame.specs.declared.frame_type.AMQPFrameType.{AMQPFrameType}
+use Rattle.amqp_frame.specs.declared.frame_type.AMQPFrameType.TheVariants as kinds
+use Rattle.amqp_frame.specs.Frames.{Frame, IsTyped, raw_of}
 use Rattle.amqp_frame.specs.declared.raw_frame.AMQPRawFrame.{AMQPRawFrame}
 use Rattle.amqp_frame.specs.Outer.{outer}
 use Rattle.amqp_frame.specs.Verdicts.{whole, is_at}
 use Rattle.amqp_frame.specs.Fronts.{front, Precedes}
 use Rattle.amqp_frame.specs.Canonical.{canon, canon_row}
 use Rattle.amqp_frame.proofs.OuterLook.{outer-in_bounds}
+use Rattle.amqp_frame.proofs.Made.{outer-beside}
 use Rattle.amqp_frame.proofs.Cuts.{Precedes-none, Precedes-more, verdict-whole}
 use Rattle.amqp_stream.specs.declared.errors.ReadError.{ReadError}
 use Rattle.amqp_stream.specs.Ends.{Supply, Store, Takes, Gains}
 use Rattle.amqp_stream.specs.declared.sink.SinkFault.{SinkFault}
 use Rattle.amqp_stream.specs.Reading.{Holding, idle_reads, PullsTo, IsLent, HasNext}
-use Rattle.amqp_stream.specs.Writing.{WritesAll, WritesFrame, MakesReady}
+use Rattle.amqp_stream.specs.Writing.{WritesAll, WritesFrame, Gathered, behind, alone, through, MakesReady}
 use Rattle.amqp_stream.proofs.Adding.{Takes-then, Takes-none, Gains-none, Gains-then, IsBytes-append, IsBytes-nil}
 
 -- The frames in front of what is held were written.
@@ -110,12 +113,13 @@ canon_row-more : (frames : List Frame) (f : Frame) → canon_row (frames ++ f �
 canon_row-more frames f = flat_map-append canon frames (f ∷ []) ∙ ap (λ (xs : List ℕ). canon_row frames ++ xs) (append-nil (canon f))
 
 -- a frame that was gathered, behind those that wait
-pub record Gathered (level : Level) (m turns left : ℕ) (a c : Supply) (k l : Store) (pend waiting after bytes : List ℕ) : Type 0 where
+pub record FrameGathered (level : Level) (m turns left : ℕ) (a c : Supply) (k l : Store) (pend waiting after bytes : List ℕ) : Type 0 where
   pub more : List ℕ
   pub pending : Pending level m (pend ++ more) (waiting ++ bytes)
+  pub single : Pending level m more bytes
   pub running : Running level m turns left a c k l ((pend ++ more) ++ after) 0
 
-pub frame_gathers : (level : Level) (m turns left left' : ℕ) (a b c : Supply) (k l : Store) (pend waiting held after : List ℕ) (raw : AMQPRawFrame) (f : Frame) → Running level m turns left a b k l (pend ++ held) 0 → Pending level m pend waiting → (pend ≡ []) ⊎ (outer (Some m) held ≢ past) → PullsTo (IsLent m) m b c left left' held after (Ok (Some raw)) → is_at level (raw_of raw) ≡ true → whole (raw_of raw) ≡ Ok f → Gathered level m turns left' a c k l pend waiting after (canon f)
+pub frame_gathers : (level : Level) (m turns left left' : ℕ) (a b c : Supply) (k l : Store) (pend waiting held after : List ℕ) (raw : AMQPRawFrame) (f : Frame) → Running level m turns left a b k l (pend ++ held) 0 → Pending level m pend waiting → (pend ≡ []) ⊎ (outer (Some m) held ≢ past) → PullsTo (IsLent m) m b c left left' held after (Ok (Some raw)) → is_at level (raw_of raw) ≡ true → whole (raw_of raw) ≡ Ok f → FrameGathered level m turns left' a c k l pend waiting after (canon f)
 frame_gathers level m turns left left' a b c k l pend waiting held after raw f run w ready p at_level is =
     let next = Running-next level m turns left left' a b c k l pend held after (Ok (Some raw)) run p ready in
     let n = p.ends.0 in
@@ -127,6 +131,11 @@ frame_gathers level m turns left left' a b c k l pend waiting held after raw f r
         frames = w.frames ++ f ∷ [];
         row = Precedes-more level (Some m) pend p.b w.frames f n w.row found;
         waits = ap (λ (xs : List ℕ). xs ++ canon f) w.waits ∙ sym (canon_row-more w.frames f);
+      };
+      single = record {
+        frames = f ∷ [];
+        row = Precedes-more level (Some m) [] p.b [] f n (Precedes-none level (Some m)) found;
+        waits = sym (append-nil (canon f));
       };
       running = subst (λ (xs : List ℕ). Running level m turns left' a c k l ((pend ++ take n p.b) ++ xs) 0) (sym p.ends.2) (subst (λ (xs : List ℕ). Running level m turns left' a c k l xs 0) (sym joined) next);
     }
@@ -180,23 +189,33 @@ Ready-settled level m turns left a b k l l' held waiting after u g h = elim h [
   | inr d ↦ let P : Store → Type 0 = λ x. Ready level m turns left a b k x held after in subst P (sym d.1) (subst (Ready level m turns left a b k l held) (sym d.2) (Ready-decided level m turns left a b k l held waiting g d.0))
 ]
 
+-- what was gathered waits, or was written
+gathered_going : (level : Level) (m turns left : ℕ) (a c : Supply) (k l l' : Store) (waiting now after bytes pend : List ℕ) → Pending level m pend waiting → FrameGathered level m turns left a c k l pend waiting after bytes → Gathered l l' waiting now bytes → Going level m turns left a c k l' after now
+gathered_going level m turns left a c k l l' waiting now after bytes pend w g (behind none waits) = record {
+  pend = pend ++ g.more;
+  pending = subst (Pending level m (pend ++ g.more)) (sym waits) g.pending;
+  running = subst-store level m turns left a c k l l' _ g.running none;
+}
+gathered_going level m turns left a c k l l' waiting now after bytes pend w g (alone written waits) =
+    let joined : (pend ++ g.more) ++ after ≡ pend ++ (g.more ++ after) = append_assoc pend g.more after in
+    let running = subst (λ (xs : List ℕ). Running level m turns left a c k l xs 0) joined g.running in
+    record {
+      pend = g.more;
+      pending = subst (Pending level m g.more) (sym waits) g.single;
+      running = Running-flushed level m turns left a c k l l' pend (g.more ++ after) waiting 0 running w written;
+    }
+gathered_going level m turns left a c k l l' waiting now after bytes pend w g (through written none) = record {
+  pend = [];
+  pending = Pending-none level m now none;
+  running = Running-flushed level m turns left a c k l l' (pend ++ g.more) after (waiting ++ bytes) 0 g.running g.pending written;
+}
+
 -- a frame that was gathered or written
 pub Going-frame : (level : Level) (m turns left left' : ℕ) (a b c : Supply) (k l l' : Store) (waiting now held after : List ℕ) (raw : AMQPRawFrame) (u : Unit {0}) → Ready level m turns left a b k l held waiting → PullsTo (IsLent m) m b c left left' held after (Ok (Some raw)) → is_at level (raw_of raw) ≡ true → WritesFrame (raw_of raw) l l' waiting now (Ok u) → Going level m turns left' a c k l' after now
 Going-frame level m turns left left' a b c k l l' waiting now held after raw u r p at_level w =
     let f = w.0 in
     let g = frame_gathers level m turns left left' a b c k l r.going.pend waiting held after raw f r.going.running r.going.pending r.ready p at_level w.1 in
-    elim w.2 [
-      | inl waits ↦ record {
-        pend = r.going.pend ++ g.more;
-        pending = subst (Pending level m (r.going.pend ++ g.more)) (sym waits.1) g.pending;
-        running = subst-store level m turns left' a c k l l' _ g.running waits.0;
-      }
-      | inr through ↦ record {
-        pend = [];
-        pending = Pending-none level m now through.1;
-        running = Running-flushed level m turns left' a c k l l' (r.going.pend ++ g.more) after (waiting ++ canon f) 0 g.running g.pending through.0;
-      }
-    ]
+    gathered_going level m turns left' a c k l l' waiting now after (canon f) r.going.pend r.going.pending g w.2
 
 -- each turn of the loop uses turns or bytes
 pub falls : (m left left' h h' t : ℕ) → left' ≤ left → (0 < t → left' < left) → h' + 8 ≤ h + t → h + t ≤ m + 8 → left' * (m + 9) + h' < left * (m + 9) + h
@@ -211,6 +230,19 @@ falls m left left' h h' t p q r s = elim (cases_lt left' left) [
 -- the payload that is lent fits four bytes of length
 pub lent_fits : (m left left' : ℕ) (b c : Supply) (held after : List ℕ) (raw : AMQPRawFrame) → m < 2 ^ 32 → PullsTo (IsLent m) m b c left left' held after (Ok (Some raw)) → length raw.payload.now < 2 ^ 32
 lent_fits m left left' b c held after raw h p = omega (arith, (outer-in_bounds (Some m) p.b (raw_of raw) p.ends.0 p.ends.1).payload m refl)
+
+typed_framed : (kind : AMQPFrameType) → IsTyped kind → kind ≢ kinds.ProtocolHeader
+typed_framed kinds.ProtocolHeader t e = t
+typed_framed kinds.Method t e = absurd cc
+typed_framed kinds.Header t e = absurd cc
+typed_framed kinds.Body t e = t
+typed_framed kinds.Heartbeat t e = t
+
+-- a method or content header that is lent has eight bytes beside its payload, within the limit
+pub lent_room : (m left left' : ℕ) (b c : Supply) (held after : List ℕ) (raw : AMQPRawFrame) → PullsTo (IsLent m) m b c left left' held after (Ok (Some raw)) → IsTyped raw.frame_type → length raw.payload.now + 8 ≤ m + 8
+lent_room m left left' b c held after raw p typed =
+    let found = p.ends.1 in
+    omega (arith, outer-beside (Some m) p.b (raw_of raw) p.ends.0 found (typed_framed raw.frame_type typed), (outer-in_bounds (Some m) p.b (raw_of raw) p.ends.0 found).limit m refl)
 
 -- a frame that is lent uses turns or bytes
 pub lent_falls : (m left left' : ℕ) (b c : Supply) (held after : List ℕ) (raw : AMQPRawFrame) → PullsTo (IsLent m) m b c left left' held after (Ok (Some raw)) → left' * (m + 9) + length after < left * (m + 9) + length held

@@ -5,17 +5,15 @@ use Rattle.std.proofs.Math.Seq.{take-add}
 use Rattle.std.proofs.lemmas.Bool.{cases_eq, eq-eqb, ne_eqb}
 use Rattle.amqp_frame.specs.declared.frame_type.AMQPFrameType.TheVariants as kinds
 use Rattle.amqp_frame.specs.Frames.{Raw, Frame, Body, Proto, IsTyped, beat_on}
-use Rattle.amqp_frame.specs.Verdicts.{whole, whole_as}
+use Rattle.amqp_frame.specs.Verdicts.{IsPayloadError, whole, whole_as}
 use Rattle.amqp_frame.specs.Spelling.{framed, proto}
 use Rattle.amqp_frame.specs.Canonical.{canon}
 use Rattle.amqp_types.specs.Answers.{RefusesWhole}
 use Rattle.amqp_types.specs.declared.errors.ParserError.{ParserError}
 use Rattle.amqp_types.specs.declared.errors.ParserError.TheVariants as parses
-use Rattle.amqp_stream.specs.declared.errors.StreamError.TheVariants as errors
 use Rattle.amqp_stream.specs.declared.sink.SinkFault.{SinkFault}
-use Rattle.amqp_stream.specs.declared.errors.StreamError.{StreamError}
 use Rattle.amqp_stream.specs.Ends.{Store, Gains, Rises}
-use Rattle.amqp_stream.specs.Writing.{IsRefusal, payload_fault, WritesAll, WritesFrame, Gathers, GathersTyped, stream_result}
+use Rattle.amqp_stream.specs.Writing.{payload_fault, WritesAll, WritesFrame, behind, alone, through, Gathers, stream_result}
 use Rattle.amqp_stream.proofs.Adding.{Rises-later, Gains-none, Gains-then}
 
 -- one more write
@@ -63,10 +61,14 @@ WritesAll-front a b p q xs e same f = record {
 
 -- bytes that were gathered, or written behind those that waited
 pub pushed_gathers : (a : Store) (before after bytes : List ℕ) (u : Unit {0}) → after ≡ before ++ bytes → Gathers a a before after bytes (Ok u)
-pushed_gathers a before after bytes u e = inl (Gains-none a, e)
+pushed_gathers a before after bytes u e = behind (Gains-none a) e
+
+-- bytes that wait alone, since what waited was written
+pub alone_gathers : (a b : Store) (before after bytes : List ℕ) (u v : Unit {0}) → WritesAll a b before (Ok u) → after ≡ bytes → Gathers a b before after bytes (Ok v)
+alone_gathers a b before after bytes u v w e = alone (subst (Gains a b) w.ok w.gains) e
 
 pub written_gathers : (a b c : Store) (before after bytes : List ℕ) (u : Unit {0}) (r : Result (Unit {0}) SinkFault) → after ≡ [] → WritesAll a b before (Ok u) → WritesAll b c bytes r → Gathers a c before after bytes r
-written_gathers a b c before after bytes u (Ok v) e f g = let all = WritesAll-then a b c before bytes u (Ok v) f g in inr (subst (Gains a c) all.ok all.gains, e)
+written_gathers a b c before after bytes u (Ok v) e f g = let all = WritesAll-then a b c before bytes u (Ok v) f g in through (subst (Gains a c) all.ok all.gains) e
 written_gathers a b c before after bytes u (Err d) e f g = WritesAll-then a b c before bytes u (Err d) f g
 
 pub flush_failed : (a b : Store) (before after bytes : List ℕ) (e : SinkFault) → WritesAll a b before (Err e) → Gathers a b before after bytes (Err e)
@@ -75,6 +77,10 @@ flush_failed a b before after bytes e f = WritesAll-front a b before bytes befor
 pub gathered : (raw : Raw) (a b : Store) (before after : List ℕ) (f : Frame) (bytes : List ℕ) (r : Result (Unit {0}) SinkFault) → whole raw ≡ Ok f → bytes ≡ canon f → Gathers a b before after bytes r → WritesFrame raw a b before after (stream_result r)
 gathered raw a b before after f bytes (Ok u) w e h = (f, w, subst (λ (xs : List ℕ). Gathers a b before after xs (Ok u)) e h)
 gathered raw a b before after f bytes (Err d) w e h = (f, w, d, subst (λ (xs : List ℕ). Gathers a b before after xs (Err d)) e h)
+
+-- canonical bytes that wait behind the others
+pub added : (raw : Raw) (a : Store) (before after : List ℕ) (f : Frame) → whole raw ≡ Ok f → after ≡ before ++ canon f → WritesFrame raw a a before after (Ok tt)
+added raw a before after f w e = (f, w, behind (Gains-none a) e)
 
 pub gathered-body : (raw : Raw) (a b : Store) (before after : List ℕ) (r : Result (Unit {0}) SinkFault) → raw.kind ≡ kinds.Body → Gathers a b before after (framed 3 raw.channel raw.payload) r → WritesFrame raw a b before after (stream_result r)
 unfolding whole_as canon
@@ -113,40 +119,21 @@ WritesAll-second a b c h payload end xs u e same f g = WritesAll-then a b c h (p
 pub WritesAll-third : (a b c d : Store) (h payload end xs : List ℕ) (u v : Unit {0}) (r : Result (Unit {0}) SinkFault) → xs ≡ h → WritesAll a b xs (Ok u) → WritesAll b c payload (Ok v) → WritesAll c d end r → WritesAll a d (h ++ (payload ++ end)) r
 WritesAll-third a b c d h payload end xs u v r same f g k = WritesAll-then a b d h (payload ++ end) u r (renamed a b xs h (Ok u) same f) (WritesAll-then b c d payload end v r g k)
 
--- a payload that is refused
-pub payload_refused : (raw : Raw) (error : ParserError) → IsTyped raw.kind → RefusesWhole error (whole raw) → IsRefusal raw (payload_fault error)
-payload_refused raw parses.ShortPayload t h = h
-payload_refused raw parses.TrailingBytes t h = h
-payload_refused raw parses.UnknownClass t h = h
-payload_refused raw parses.UnknownMethod t h = h
-payload_refused raw parses.NotUtf8 t h = h
-payload_refused raw parses.UnknownTag t h = h
-payload_refused raw parses.TooDeep t h = h
-payload_refused raw parses.NotBuilt t h = h
-payload_refused raw parses.NoMemory t h = t
-payload_refused raw parses.Incomplete t h = absurd h
-payload_refused raw parses.UnknownFrameType t h = t
-payload_refused raw parses.BadProtocolHeader t h = t
-payload_refused raw parses.BadFrameEnd t h = t
+-- a method or content header that was not read
+pub typed_refused : (raw : Raw) (a : Store) (before : List ℕ) (error : ParserError) → IsTyped raw.kind → IsPayloadError error → RefusesWhole error (whole raw) → WritesFrame raw a a before before (Err (payload_fault error))
+typed_refused raw a before parses.ShortPayload t i h = (h, (Gains-none a, refl))
+typed_refused raw a before parses.TrailingBytes t i h = (h, (Gains-none a, refl))
+typed_refused raw a before parses.UnknownClass t i h = (h, (Gains-none a, refl))
+typed_refused raw a before parses.UnknownMethod t i h = (h, (Gains-none a, refl))
+typed_refused raw a before parses.NotUtf8 t i h = (h, (Gains-none a, refl))
+typed_refused raw a before parses.UnknownTag t i h = (h, (Gains-none a, refl))
+typed_refused raw a before parses.TooDeep t i h = (h, (Gains-none a, refl))
+typed_refused raw a before parses.NoMemory t i h = (t, (Gains-none a, refl))
+typed_refused raw a before parses.Incomplete t i h = absurd i
+typed_refused raw a before parses.UnknownFrameType t i h = absurd i
+typed_refused raw a before parses.BadProtocolHeader t i h = absurd i
+typed_refused raw a before parses.BadFrameEnd t i h = absurd i
 
--- a method or content header that waits or is refused, with nothing written
-pub typed_writes : (raw : Raw) (a : Store) (before after : List ℕ) (r : Result (Unit {0}) StreamError) → GathersTyped raw before after r → WritesFrame raw a a before after r
-typed_writes raw a before after (Ok done) h = (h.0, h.1, inl (Gains-none a, h.2))
-typed_writes raw a before after (Err errors.WriteFault) h = absurd h.0
-typed_writes raw a before after (Err errors.UnknownFrameType) h = (h.0, (Gains-none a, h.1))
-typed_writes raw a before after (Err errors.BadProtocolHeader) h = (h.0, (Gains-none a, h.1))
-typed_writes raw a before after (Err errors.TooLarge) h = (h.0, (Gains-none a, h.1))
-typed_writes raw a before after (Err errors.BadFrameEnd) h = (h.0, (Gains-none a, h.1))
-typed_writes raw a before after (Err errors.UnknownClass) h = (h.0, (Gains-none a, h.1))
-typed_writes raw a before after (Err errors.UnknownMethod) h = (h.0, (Gains-none a, h.1))
-typed_writes raw a before after (Err errors.ShortPayload) h = (h.0, (Gains-none a, h.1))
-typed_writes raw a before after (Err errors.TrailingBytes) h = (h.0, (Gains-none a, h.1))
-typed_writes raw a before after (Err errors.NotUtf8) h = (h.0, (Gains-none a, h.1))
-typed_writes raw a before after (Err errors.UnknownTag) h = (h.0, (Gains-none a, h.1))
-typed_writes raw a before after (Err errors.TooDeep) h = (h.0, (Gains-none a, h.1))
-typed_writes raw a before after (Err errors.NotTidy) h = (h.0, (Gains-none a, h.1))
-typed_writes raw a before after (Err errors.NotBuilt) h = (h.0, (Gains-none a, h.1))
-typed_writes raw a before after (Err errors.CutShort) h = (h.0, (Gains-none a, h.1))
-typed_writes raw a before after (Err errors.TurnsSpent) h = (h.0, (Gains-none a, h.1))
-typed_writes raw a before after (Err errors.ReadFault) h = (h.0, (Gains-none a, h.1))
-typed_writes raw a before after (Err errors.NoMemory) h = (h.0, (Gains-none a, h.1))
+-- a refused frame left what waits
+pub added_refused : (raw : Raw) (a : Store) (before after : List ℕ) (error : ParserError) → IsTyped raw.kind → IsPayloadError error → RefusesWhole error (whole raw) → after ≡ before → WritesFrame raw a a before after (Err (payload_fault error))
+added_refused raw a before after error t i h same = subst (λ (bytes : List ℕ). WritesFrame raw a a before bytes (Err (payload_fault error))) (sym same) (typed_refused raw a before error t i h)

@@ -1,7 +1,7 @@
 -- What canonicalizing a stream does.
 use Rattle.std.specs.Prelude.{◌≡◌, ℕ, ◌+◌, ◌<◌, ◌≤◌, List, [], ◌∷◌, ◌++◌, length, Some, Result, Ok, Err}
 use Rattle.amqp_types.specs.Levels.{Level, plain, tidy, strict}
-use Rattle.amqp_types.specs.Judging.{unknown_frame_type, bad_protocol_header, too_large, bad_frame_end, unknown_class, unknown_method, short_payload, trailing_bytes, not_utf8, unknown_tag, too_deep, not_tidy, not_built, Judged, past, fault, took, IsBytes}
+use Rattle.amqp_types.specs.Judging.{unknown_frame_type, bad_protocol_header, too_large, bad_frame_end, unknown_class, unknown_method, short_payload, trailing_bytes, not_utf8, unknown_tag, too_deep, not_tidy, Judged, past, fault, took, IsBytes}
 use Rattle.amqp_frame.specs.Frames.{Frame, IsTyped}
 use Rattle.amqp_frame.specs.Outer.{BeginsWith}
 use Rattle.amqp_frame.specs.Verdicts.{verdict}
@@ -65,7 +65,6 @@ HasCause level m turns taken written a b k l (Err errors.NotUtf8) = place_verdic
 HasCause level m turns taken written a b k l (Err errors.UnknownTag) = place_verdict level m taken ≡ fault unknown_tag
 HasCause level m turns taken written a b k l (Err errors.TooDeep) = place_verdict level m taken ≡ fault too_deep
 HasCause level m turns taken written a b k l (Err errors.NotTidy) = AsksTidy level × (place_verdict level m taken ≡ fault not_tidy)
-HasCause level m turns taken written a b k l (Err errors.NotBuilt) = place_verdict level m taken ≡ fault not_built
 HasCause level m turns taken written a b k l (Err errors.CutShort) = IsUndecided level (Some m) (place level (Some m) taken) × IsEmpty b.left
 HasCause level m turns taken written a b k l (Err errors.TurnsSpent) = (place_verdict level m taken ≡ past) × (turns ≤ length taken)
 HasCause level m turns taken written a b k l (Err errors.ReadFault) = Rises a.faults b.faults

@@ -1,6 +1,6 @@
 -- The errors of streams: the faults of bytes that they tell, their names and statuses.
 use Rattle.std.specs.Prelude.{ℕ, List, codes, Option, Some, None}
-use Rattle.amqp_types.specs.Judging.{Fault, unknown_frame_type, bad_protocol_header, too_large, bad_frame_end, unknown_class, unknown_method, short_payload, trailing_bytes, not_utf8, unknown_tag, too_deep, not_tidy, not_built}
+use Rattle.amqp_types.specs.Judging.{Fault, unknown_frame_type, bad_protocol_header, too_large, bad_frame_end, unknown_class, unknown_method, short_payload, trailing_bytes, not_utf8, unknown_tag, too_deep, not_tidy}
 use Rattle.amqp_stream.specs.declared.errors.ReadError.{ReadError}
 use Rattle.amqp_stream.specs.declared.errors.ReadError.TheVariants as reads
 use Rattle.amqp_stream.specs.declared.errors.StreamError.{StreamError}
@@ -30,7 +30,6 @@ error_of not_utf8 = errors.NotUtf8
 error_of unknown_tag = errors.UnknownTag
 error_of too_deep = errors.TooDeep
 error_of not_tidy = errors.NotTidy
-error_of not_built = errors.NotBuilt
 
 -- the fault of bytes that an error of reading tells of
 abbrev pub read_fault : ReadError → Option Fault
@@ -64,7 +63,6 @@ stream_error_name errors.NotUtf8 = codes "NotUtf8"
 stream_error_name errors.UnknownTag = codes "UnknownTag"
 stream_error_name errors.TooDeep = codes "TooDeep"
 stream_error_name errors.NotTidy = codes "NotTidy"
-stream_error_name errors.NotBuilt = codes "NotBuilt"
 stream_error_name errors.CutShort = codes "CutShort"
 stream_error_name errors.TurnsSpent = codes "TurnsSpent"
 stream_error_name errors.ReadFault = codes "ReadFault"
@@ -76,7 +74,6 @@ abbrev pub stream_error_status : StreamError → ℕ
 stream_error_status errors.NoMemory = 3
 stream_error_status errors.ReadFault = 4
 stream_error_status errors.WriteFault = 5
-stream_error_status errors.NotBuilt = 8
 stream_error_status errors.UnknownFrameType = 10
 stream_error_status errors.BadProtocolHeader = 11
 stream_error_status errors.TooLarge = 12

@@ -3,5 +3,8 @@ pub mod Scripts
 pub mod Errors
 pub mod Spans
 pub mod Reading
+pub mod Waiting
 pub mod Writing
 pub mod Canonicalizing
+pub mod Made
+pub mod Making

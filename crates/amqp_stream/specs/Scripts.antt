@@ -1,10 +1,14 @@
--- Sources and sinks in memory, some of which follow a script: which calls fail, and how many bytes each call takes at most.
-use Rattle.std.specs.Prelude.{ℕ, min, max, List, length, nat_lt, if◌then◌else◌, slice_index, Some}
-use Rattle.amqp_stream.specs.Ends.{Supply, Store, Bytes}
+-- Sources and sinks in memory, and a sink that counts. Some follow a script: which calls fail, and how many bytes each call takes at most.
+use Rattle.std.specs.Prelude.{ℕ, min, max, List, length, nat_lt, if◌then◌else◌, slice_index, Some, None}
+use Rattle.amqp_stream.specs.Ends.{Supply, Store, Number, Bytes}
 
 -- at most so many bytes: as the script has it for the call, one at least, and past its end as many as fit
 abbrev pub most_of : List ℕ → ℕ → ℕ → ℕ
 most_of pieces call fit = if nat_lt call (length pieces) then min fit (max 1 (slice_index pieces call)) else fit
+
+-- a source that tells the bytes that are left, counts no reads and never fails
+abbrev pub faultless : List ℕ → Supply
+faultless left = record { left = Some left; reads = None; faults = 0 }
 
 -- a source that follows a script; its calls are counted from 0
 pub record ScriptedSource : Type 0 where
@@ -31,3 +35,11 @@ pub record ScriptedSink : Type 0 where
   pub pieces : List ℕ
   pub failing : List ℕ
   pub writes : ℕ
+
+-- a sink that counts what it takes
+pub record Counted : Type 0 where
+  pub total : ℕ
+  pub faults : ℕ
+
+abbrev pub count_of : Counted → Store
+count_of s = record { taken = Number s.total; faults = s.faults }

@@ -1,6 +1,6 @@
 -- What calls write, and what waits to be written.
 use Rattle.std.specs.Prelude.{◌≡◌, ◌≢◌, ◌⊎◌, ℕ, Some, List, [], ◌++◌, Result, Ok, Err, OnOk, OnErr}
-use Rattle.amqp_types.specs.Judging.{past, short_payload, trailing_bytes, unknown_class, unknown_method, not_utf8, unknown_tag, too_deep, not_built}
+use Rattle.amqp_types.specs.Judging.{past, short_payload, trailing_bytes, unknown_class, unknown_method, not_utf8, unknown_tag, too_deep}
 use Rattle.amqp_types.specs.declared.errors.ParserError.{ParserError}
 use Rattle.amqp_types.specs.declared.errors.ParserError.TheVariants as parser_errors
 use Rattle.amqp_frame.specs.Frames.{Raw, Frame, IsTyped}
@@ -29,9 +29,15 @@ abbrev pub stream_result : Result (Unit {0}) SinkFault → Result (Unit {0}) Str
 stream_result (Ok done) = Ok done
 stream_result (Err bad) = Err errors.WriteFault
 
--- the bytes wait behind those that waited, or all of them were written
+-- How bytes were gathered: they wait behind those that waited; or those were written, and they wait alone; or all of them were written.
+pub data Gathered (old new : Store) (before after bytes : List ℕ) : Type 0 where
+  behind : Gains old new [] → after ≡ before ++ bytes → Gathered old new before after bytes
+  alone : Gains old new before → after ≡ bytes → Gathered old new before after bytes
+  through : Gains old new (before ++ bytes) → after ≡ [] → Gathered old new before after bytes
+
+-- bytes were gathered, or a write failed
 abbrev pub Gathers : Store → Store → List ℕ → List ℕ → List ℕ → Result (Unit {0}) SinkFault → Type 0
-Gathers old new before after bytes (Ok done) = (Gains old new [] × (after ≡ before ++ bytes)) ⊎ (Gains old new (before ++ bytes) × (after ≡ []))
+Gathers old new before after bytes (Ok done) = Gathered old new before after bytes
 Gathers old new before after bytes (Err bad) = WritesAll old new (before ++ bytes) (Err bad)
 
 -- nothing was written, and what waited waits still
@@ -58,7 +64,6 @@ payload_fault parser_errors.UnknownMethod = errors.UnknownMethod
 payload_fault parser_errors.NotUtf8 = errors.NotUtf8
 payload_fault parser_errors.UnknownTag = errors.UnknownTag
 payload_fault parser_errors.TooDeep = errors.TooDeep
-payload_fault parser_errors.NotBuilt = errors.NotBuilt
 payload_fault parser_errors.NoMemory = errors.NoMemory
 payload_fault parser_errors.Incomplete = errors.NoMemory
 payload_fault parser_errors.UnknownFrameType = errors.NoMemory
@@ -74,14 +79,8 @@ IsRefusal raw errors.UnknownMethod = whole raw ≡ Err unknown_method
 IsRefusal raw errors.NotUtf8 = whole raw ≡ Err not_utf8
 IsRefusal raw errors.UnknownTag = whole raw ≡ Err unknown_tag
 IsRefusal raw errors.TooDeep = whole raw ≡ Err too_deep
-IsRefusal raw errors.NotBuilt = whole raw ≡ Err not_built
 IsRefusal raw errors.NoMemory = IsTyped raw.kind
 IsRefusal raw error = ⊥
-
--- the frame of a method or content header waits behind the bytes that waited, or it is told why not
-abbrev pub GathersTyped : Raw → List ℕ → List ℕ → Result (Unit {0}) StreamError → Type 0
-GathersTyped raw before after (Ok done) = (frame : Frame) × (whole raw ≡ Ok frame) × (after ≡ before ++ canon frame)
-GathersTyped raw before after (Err error) = IsRefusal raw error × (after ≡ before)
 
 -- a frame was written or gathered, or it is told why not
 abbrev pub WritesFrame : Raw → Store → Store → List ℕ → List ℕ → Result (Unit {0}) StreamError → Type 0

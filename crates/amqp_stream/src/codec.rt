@@ -1,4 +1,4 @@
-ghost use Rattle.std.specs.Prelude.{◌≡◌, ◌⊎◌, ℕ, List, [], Some, IfOk};
+ghost use Rattle.std.specs.Prelude.{◌≡◌, ◌+◌, ◌≤◌, ◌⊎◌, ℕ, List, [], Some, IfOk};
 ghost use Rattle.amqp_types.specs.Levels.{plain};
 ghost use Rattle.amqp_stream.specs.Writing.{MakesReady};
 ghost use Rattle.amqp_stream.specs.Canonicalizing.{Canonicalizes, NeverBegan, AnswersExactly, IsValid, NoFaults, IsOkOrNoMemory};
@@ -8,13 +8,15 @@ use crate::output::{flush, stop, told, write_frame};
 use crate::reader::FrameReader;
 use crate::sink::{Sink, SinkFault};
 use crate::source::Source;
+use crate::waiting::Waiting;
 use amqp_types::{ChunkSize, NoMemory};
 use std::alloc::Global;
 use std::marker::Model;
 
 /// Writes what waits, where the reader is to read.
-fn settle<K: Sink>(reader: &FrameReader, out: &mut Vec<u8>, sink: &mut K) -> Result<(), SinkFault>
-    ensures { MakesReady reader.now.limit reader.now.held (K.store sink.old) (K.store sink.new) out.old.items out.new.items result }
+fn settle<K: Sink>(reader: &FrameReader, out: &mut Waiting, sink: &mut K) -> Result<(), SinkFault>
+    ensures room { out.new.room ≡ out.old.room }
+    ensures ready { MakesReady reader.now.limit reader.now.held (K.store sink.old) (K.store sink.new) out.old.bytes out.new.bytes result }
 {
     if reader.is_ready() {
         return Ok(());
@@ -26,13 +28,15 @@ fn settle<K: Sink>(reader: &FrameReader, out: &mut Vec<u8>, sink: &mut K) -> Res
 fn canonicalize_with<S: Source, K: Sink>(
     alloc: Global,
     reader: &mut FrameReader,
-    out: &mut Vec<u8>,
+    out: &mut Waiting,
     source: &mut S,
     sink: &mut K,
     turns: u64,
 ) -> Result<(), StreamError>
-    requires { reader.old.held ≡ [] }
+    requires none { reader.old.held ≡ [] }
+    requires room { reader.old.limit + 8 ≤ out.old.room }
     ensures limit { reader.new.limit ≡ reader.old.limit }
+    ensures room { out.new.room ≡ out.old.room }
     ensures stream { Canonicalizes plain reader.old.limit turns (S.supply source.old) (S.supply source.new)
         (K.store sink.old) (K.store sink.new) result }
 {
@@ -62,15 +66,17 @@ fn canonicalize_with<S: Source, K: Sink>(
 #[derive(Drop)]
 pub struct Codec {
     reader: FrameReader,
-    out: Vec<u8>,
+    out: Waiting,
 }
 
 impl Model for Codec {
-    ghost use Rattle.std.specs.Prelude.{ℕ};
+    ghost use Rattle.std.specs.Prelude.{ℕ, ◌+◌, ◌≤◌};
 
     ghost Value = { ℕ };
 
     ghost view = { λ codec. codec.reader.limit };
+
+    ghost invariant = { λ codec. codec.reader.limit + 8 ≤ codec.out.room };
 }
 
 impl Codec {
@@ -79,7 +85,7 @@ impl Codec {
         ensures { IfOk result (λ codec. codec ≡ max_payload) }
     {
         let reader = FrameReader::open(alloc, max_payload)?;
-        let out = Vec::with_capacity(alloc, max_payload as usize + 8)?;
+        let out = Waiting::open(alloc, max_payload as usize + 8)?;
         Ok(Codec { reader, out })
     }
 

@@ -100,9 +100,6 @@ pub enum StreamError {
     /// A whole frame in which something stands that reading drops, where only tidy bytes are taken.
     NotTidy,
 
-    /// A whole method or content header, which this version does not read yet.
-    NotBuilt,
-
     /// The source ended inside a frame.
     CutShort,
 
@@ -140,7 +137,6 @@ impl StreamError {
             StreamError::UnknownTag => "UnknownTag",
             StreamError::TooDeep => "TooDeep",
             StreamError::NotTidy => "NotTidy",
-            StreamError::NotBuilt => "NotBuilt",
             StreamError::CutShort => "CutShort",
             StreamError::TurnsSpent => "TurnsSpent",
             StreamError::ReadFault => "ReadFault",
@@ -166,7 +162,6 @@ impl StreamError {
             StreamError::UnknownTag => 19,
             StreamError::TooDeep => 20,
             StreamError::NotTidy => 23,
-            StreamError::NotBuilt => 8,
             StreamError::CutShort => 21,
             StreamError::TurnsSpent => 22,
             StreamError::ReadFault => 4,

@@ -3,16 +3,23 @@
 
 mod buffer;
 mod codec;
+mod count_sink;
 mod errors;
+mod made_laws;
+mod make_source;
 mod output;
 mod reader;
 mod sink;
 mod sinks;
 mod source;
 mod sources;
+mod waiting;
 
 pub use codec::{Codec, canonicalize};
+pub use count_sink::CountSink;
 pub use errors::{ReadError, StreamError};
+pub use made_laws::made_is_a_row;
+pub use make_source::MakeSource;
 pub use output::write_all;
 pub use reader::FrameReader;
 pub use sink::{Sink, SinkFault};

@@ -53,7 +53,7 @@ fn rows_are_answered(rt: HostRuntime) -> Result<(), Fail> {
         ),
         (
             &[1, 0, 1, 0, 0, 0, 4, 0, 85, 0, 10, 206],
-            Err(StreamError::NotBuilt),
+            Err(StreamError::ShortPayload),
             &[],
         ),
         (&[65, 77, 81, 81], Err(StreamError::BadProtocolHeader), &[]),
@@ -203,4 +203,65 @@ fn refused_memory_leaves_a_front(rt: HostRuntime) {
             assert!(rt; TWO_HEARTBEATS.starts_with(sink.bytes()));
         }
     }
+}
+
+/// The first six frames that are made.
+const MADE: [u8; 77] = [
+    8, 0, 0, 0, 0, 0, 1, 0, 206, 3, 0, 2, 0, 0, 0, 1, 1, 206, 1, 0, 3, 0, 0, 0, 5, 0, 85, 0, 10,
+    255, 206, 1, 0, 4, 0, 0, 0, 20, 0, 50, 0, 10, 0, 9, 0, 255, 0, 0, 0, 8, 1, 97, 116, 0, 1, 97,
+    116, 7, 206, 8, 0, 0, 0, 0, 0, 1, 4, 206, 3, 0, 6, 0, 0, 0, 1, 5, 206,
+];
+
+#[test]
+fn frames_are_made(rt: HostRuntime) -> Result<(), Fail> {
+    let mut source = MakeSource::new(6);
+    let mut small = [0u8; 5];
+    let mut all = Vec::new(rt.alloc());
+    for _ in 0..17 {
+        let count = source.read(&mut small)?;
+        all.extend_from_slice(&small[..count])?;
+    }
+    assert_eq!(rt; all.as_slice(), MADE.as_slice());
+    let mut source = MakeSource::new(6);
+    let mut large = [0u8; 100];
+    assert_eq!(rt; source.read(&mut large), Ok(77));
+    assert_eq!(rt; &large[..77], MADE.as_slice());
+    assert_eq!(rt; source.read(&mut large), Ok(0));
+    let mut none = MakeSource::new(0);
+    assert_eq!(rt; none.read(&mut large), Ok(0));
+    Ok(())
+}
+
+#[test]
+fn bytes_are_counted(rt: HostRuntime) {
+    let mut sink = CountSink::new();
+    assert_eq!(rt; sink.total(), 0);
+    assert_eq!(rt; sink.write(&HEARTBEAT), Ok(8));
+    assert_eq!(rt; sink.write(&MADE), Ok(77));
+    assert_eq!(rt; sink.total(), 85);
+}
+
+/// The canonical bytes of the first four.
+const CANONICAL: [u8; 54] = [
+    8, 0, 0, 0, 0, 0, 0, 206, 3, 0, 2, 0, 0, 0, 1, 1, 206, 1, 0, 3, 0, 0, 0, 5, 0, 85, 0, 10, 1,
+    206, 1, 0, 4, 0, 0, 0, 16, 0, 50, 0, 10, 0, 0, 0, 31, 0, 0, 0, 4, 1, 97, 116, 1, 206,
+];
+
+#[test]
+fn made_frames_are_canonicalized(rt: HostRuntime) -> Result<(), Fail> {
+    let mut source = MakeSource::new(4);
+    let mut sink = VecSink::new(rt.alloc());
+    assert_eq!(rt;
+        canonicalize(rt.alloc(), &mut source, &mut sink, LIMIT, 60),
+        Ok(())
+    );
+    assert_eq!(rt; sink.bytes(), CANONICAL.as_slice());
+    let mut source = MakeSource::new(100_000);
+    let mut sink = CountSink::new();
+    assert_eq!(rt;
+        canonicalize(rt.alloc(), &mut source, &mut sink, LIMIT, 1_475_001),
+        Ok(())
+    );
+    assert_eq!(rt; sink.total(), 1_350_000);
+    Ok(())
 }

@@ -17,5 +17,4 @@ refuses_next errors.TrailingBytes j f h = ap (λ x. x >>= f) h
 refuses_next errors.NotUtf8 j f h = ap (λ x. x >>= f) h
 refuses_next errors.UnknownTag j f h = ap (λ x. x >>= f) h
 refuses_next errors.TooDeep j f h = ap (λ x. x >>= f) h
-refuses_next errors.NotBuilt j f h = ap (λ x. x >>= f) h
 refuses_next errors.NoMemory j f h = tt

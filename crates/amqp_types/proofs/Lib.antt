@@ -11,3 +11,4 @@ pub mod Puts
 pub mod FlagBytes
 pub mod FormLaws
 pub mod Lawful
+pub mod Telling

@@ -1,6 +1,6 @@
 -- What a parse call answers is what is judged.
 use Rattle.std.specs.Prelude.{◌≡◌, ℕ, Result, Ok, Err}
-use Rattle.amqp_types.specs.Judging.{Judged, took, past, fault, Fault, unknown_frame_type, bad_protocol_header, bad_frame_end, unknown_class, unknown_method, short_payload, trailing_bytes, not_utf8, unknown_tag, too_deep, not_built}
+use Rattle.amqp_types.specs.Judging.{Judged, took, past, fault, Fault, unknown_frame_type, bad_protocol_header, bad_frame_end, unknown_class, unknown_method, short_payload, trailing_bytes, not_utf8, unknown_tag, too_deep}
 use Rattle.amqp_types.specs.declared.errors.ParserError.{ParserError}
 use Rattle.amqp_types.specs.declared.errors.ParserError.TheVariants as errors
 
@@ -17,7 +17,6 @@ Refuses errors.TrailingBytes judged = judged ≡ fault trailing_bytes
 Refuses errors.NotUtf8 judged = judged ≡ fault not_utf8
 Refuses errors.UnknownTag judged = judged ≡ fault unknown_tag
 Refuses errors.TooDeep judged = judged ≡ fault too_deep
-Refuses errors.NotBuilt judged = judged ≡ fault not_built
 Refuses errors.NoMemory judged = Unit {0}
 
 -- a parse call answers what is judged, unless memory runs out
@@ -43,7 +42,6 @@ RefusesWhole errors.TrailingBytes read = read ≡ Err trailing_bytes
 RefusesWhole errors.NotUtf8 read = read ≡ Err not_utf8
 RefusesWhole errors.UnknownTag read = read ≡ Err unknown_tag
 RefusesWhole errors.TooDeep read = read ≡ Err too_deep
-RefusesWhole errors.NotBuilt read = read ≡ Err not_built
 RefusesWhole errors.NoMemory read = Unit {0}
 
 -- a call that reads a whole payload answers what it is, unless memory runs out

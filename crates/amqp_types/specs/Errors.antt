@@ -18,7 +18,6 @@ parser_error_number parser_errors.NotUtf8 = 9
 parser_error_number parser_errors.UnknownTag = 10
 parser_error_number parser_errors.TooDeep = 11
 parser_error_number parser_errors.NoMemory = 12
-parser_error_number parser_errors.NotBuilt = 13
 
 abbrev pub parser_error_name : ParserError → List ℕ
 parser_error_name parser_errors.Incomplete = codes "Incomplete"
@@ -33,7 +32,6 @@ parser_error_name parser_errors.NotUtf8 = codes "NotUtf8"
 parser_error_name parser_errors.UnknownTag = codes "UnknownTag"
 parser_error_name parser_errors.TooDeep = codes "TooDeep"
 parser_error_name parser_errors.NoMemory = codes "NoMemory"
-parser_error_name parser_errors.NotBuilt = codes "NotBuilt"
 
 abbrev pub gen_error_number : GenError → ℕ
 gen_error_number gen_errors.TooDeep = 1

@@ -15,8 +15,6 @@ pub data Fault : Type 0 where
   unknown_tag : Fault
   too_deep : Fault
   not_tidy : Fault
-  -- a whole method or content header, while those are not read
-  not_built : Fault
 
 -- took: this, in so many bytes. past: more bytes are wanted than the container has
 pub data Judged (A : Type 0) : Type 0 where

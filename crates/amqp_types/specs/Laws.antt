@@ -1,12 +1,8 @@
--- Laws of numbers and truth values.
+-- The laws of truth values.
 use Rattle.std.specs.Prelude.{◌≡◌, ℕ, ◌≤◌, ◌↔◌, Bool, List, length}
 use Rattle.amqp_types.specs.Levels.{plain, tidy, strict}
 use Rattle.amqp_types.specs.Judging.{IsExact}
-use Rattle.amqp_types.specs.Numbers.{NumberWidth, SpellsNumber, judge_number}
 use Rattle.amqp_types.specs.Booleans.{boolean_bytes, SpellsBoolean, judge_boolean}
-
-abbrev pub NumbersSpell : Type 0
-NumbersSpell = (width : NumberWidth) → IsExact (judge_number width) (SpellsNumber width)
 
 pub record BooleansSpell : Type 0 where
   pub exact : IsExact judge_boolean (SpellsBoolean plain)

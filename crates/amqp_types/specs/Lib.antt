@@ -36,3 +36,5 @@ pub mod PropertyBytes
 pub mod PropertySpelling
 pub mod PropertyLaws
 pub mod ContentHeaders
+pub mod Tidiness
+pub mod PayloadFaults

@@ -1,10 +1,11 @@
 -- The laws of the table of methods, and of methods in payloads.
-use Rattle.std.specs.Prelude.{◌≡◌, ℕ, ◌^◌, nat_lt, ◌&&◌, Bool, true, List, [], ◌∷◌, ◌++◌, length, Some, Ok}
+use Rattle.std.specs.Prelude.{◌≡◌, ℕ, ◌^◌, nat_lt, ◌&&◌, Bool, true, false, List, [], ◌∷◌, ◌++◌, length, Some, Ok}
+use Rattle.amqp_types.specs.Levels.{Level}
 use Rattle.amqp_types.specs.Judging.{took}
 use Rattle.amqp_types.specs.FormLaws.{IsLawful}
 use Rattle.amqp_types.specs.Slots.{Slot}
 use Rattle.amqp_types.specs.SlotJudging.{judge_slots}
-use Rattle.amqp_types.specs.SlotBytes.{slots_bytes}
+use Rattle.amqp_types.specs.SlotBytes.{slots_bytes, any_deep, any_long}
 use Rattle.amqp_types.specs.SlotSpelling.{SpellsSlots}
 use Rattle.amqp_types.specs.SlotLaws.{are_least, AreSlotsHeld}
 use Rattle.amqp_types.specs.Rows.{Row, slots_at}
@@ -31,6 +32,10 @@ RowsAreLawful = (class id : ℕ) (slots : List Slot) → slots_at class id ≡ S
 
 abbrev pub PayloadsAreLawful : Type 0
 PayloadsAreLawful = IsLawful judge_payload SpellsPayload payload_bytes
+
+-- what is spelled is neither long nor too deep
+abbrev pub SpelledPayloadsAreBounded : Type 0
+SpelledPayloadsAreBounded = (level : Level) (bytes : List ℕ) (m : Method) → SpellsPayload level bytes m → (any_deep m.items ≡ false) × (any_long m.items ≡ false)
 
 -- Canonical bytes of a method whose items are neither long nor too deep are read back, whatever follows.
 abbrev pub HeldPayloadsAreReadBack : Type 0

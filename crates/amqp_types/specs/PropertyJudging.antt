@@ -1,6 +1,6 @@
 -- Reading properties: the mask, and those that it says are set.
 use Rattle.std.specs.Prelude.{ℕ, ◌+◌, List, [], ◌∷◌, drop, Bool, true, false, Option, Some, None}
-use Rattle.amqp_types.specs.Judging.{Judged, Judge, took, ◌>>=◌}
+use Rattle.amqp_types.specs.Judging.{Judge, took, ◌>>=◌}
 use Rattle.amqp_types.specs.Sequences.{judge_map, judge_both}
 use Rattle.amqp_types.specs.Numbers.{bytes2, judge_number}
 use Rattle.amqp_types.specs.Flags.{flag_at}

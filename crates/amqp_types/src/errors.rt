@@ -70,9 +70,6 @@ pub enum ParserError {
 
     /// Want of memory.
     NoMemory,
-
-    /// A method or a content header, which this version does not read yet.
-    NotBuilt,
 }
 
 impl ParserError {
@@ -96,7 +93,6 @@ impl ParserError {
             ParserError::UnknownTag => 10,
             ParserError::TooDeep => 11,
             ParserError::NoMemory => 12,
-            ParserError::NotBuilt => 13,
         }
     }
 
@@ -117,7 +113,6 @@ impl ParserError {
             ParserError::UnknownTag => "UnknownTag",
             ParserError::TooDeep => "TooDeep",
             ParserError::NoMemory => "NoMemory",
-            ParserError::NotBuilt => "NotBuilt",
         }
     }
 }

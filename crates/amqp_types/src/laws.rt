@@ -1,11 +1,6 @@
 //! Laws of the definitions, each the contract of a function that does nothing.
 
-ghost use Rattle.amqp_types.specs.Laws.{NumbersSpell, BooleansSpell};
-
-/// Judging a number takes exactly what is spelled, and a number has one spelling.
-pub fn numbers_spell()
-    ensures { NumbersSpell }
-{}
+ghost use Rattle.amqp_types.specs.Laws.{BooleansSpell};
 
 /// Judging a truth value takes exactly what is spelled, its strict spelling is its canonical byte,
 /// and what is strict is tidy, and what is tidy is plain.

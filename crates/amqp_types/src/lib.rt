@@ -74,7 +74,6 @@ pub use generation::size_short_short_uint;
 pub use generation::size_short_uint;
 pub use growing::grow;
 pub use laws::booleans_spell;
-pub use laws::numbers_spell;
 pub use long_string::LongString;
 pub use make_error::MakeError;
 pub use parsing::parse_boolean;

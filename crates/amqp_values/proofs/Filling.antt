@@ -23,7 +23,6 @@ refuses_whole errors.TrailingBytes n r h = ap (whole n) h
 refuses_whole errors.NotUtf8 n r h = ap (whole n) h
 refuses_whole errors.UnknownTag n r h = ap (whole n) h
 refuses_whole errors.TooDeep n r h = ap (whole n) h
-refuses_whole errors.NotBuilt n r h = ap (whole n) h
 refuses_whole errors.NoMemory n r h = tt
 
 pub nested_none : (room : ℕ) → room ≡ 0 → nested room ≡ None
@@ -65,7 +64,6 @@ module _ {A : Type 0} (item : Judge A) where
   filled_refused errors.NotUtf8 (b ∷ bytes) some h = ap (λ j. next_item j (λ m. filled item (m - 1) bytes)) h
   filled_refused errors.UnknownTag (b ∷ bytes) some h = ap (λ j. next_item j (λ m. filled item (m - 1) bytes)) h
   filled_refused errors.TooDeep (b ∷ bytes) some h = ap (λ j. next_item j (λ m. filled item (m - 1) bytes)) h
-  filled_refused errors.NotBuilt (b ∷ bytes) some h = ap (λ j. next_item j (λ m. filled item (m - 1) bytes)) h
   filled_refused errors.NoMemory (b ∷ bytes) some h = tt
 
 pub RefusesWhole-map : {A B : Type 0} (e : ParserError) (f : A → B) (r : Result A Fault) → RefusesWhole e r → RefusesWhole e (read_map f r)
@@ -80,7 +78,6 @@ RefusesWhole-map errors.TrailingBytes f r h = ap (read_map f) h
 RefusesWhole-map errors.NotUtf8 f r h = ap (read_map f) h
 RefusesWhole-map errors.UnknownTag f r h = ap (read_map f) h
 RefusesWhole-map errors.TooDeep f r h = ap (read_map f) h
-RefusesWhole-map errors.NotBuilt f r h = ap (read_map f) h
 RefusesWhole-map errors.NoMemory f r h = tt
 
 -- what was read before, and what is still read

@@ -19,3 +19,6 @@ pub mod SlotsHeld
 pub mod Steps
 pub mod FieldLists
 pub mod MethodLaws
+pub mod PlainValues
+pub mod Tidiness
+pub mod PayloadFaults

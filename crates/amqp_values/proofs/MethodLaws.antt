@@ -13,16 +13,16 @@ use Rattle.amqp_types.specs.Slots.{Slot}
 use Rattle.amqp_types.specs.SlotJudging.{judge_slots}
 use Rattle.amqp_types.specs.SlotBytes.{slots_bytes, any_deep, any_long, items_size}
 use Rattle.amqp_types.specs.SlotSpelling.{SpellsSlots}
-use Rattle.amqp_types.specs.SlotLaws.{are_least}
+use Rattle.amqp_types.specs.SlotLaws.{are_least, AreSlotsHeld}
 use Rattle.amqp_types.specs.Rows.{Row, classes, rows_of, slots_at}
 use Rattle.amqp_types.specs.Methods.{Method, method, known, method_bytes, payload_bytes, payload_size, judge_method, judge_in_class, judge_payload}
 use Rattle.amqp_types.specs.MethodSpelling.{SpellsPayload}
-use Rattle.amqp_types.specs.MethodLaws.{is_short, are_sound_rows, are_sound_classes, RowsAreLawful, PayloadsAreLawful, HeldPayloadsAreReadBack}
+use Rattle.amqp_types.specs.MethodLaws.{is_short, are_sound_rows, are_sound_classes, RowsAreLawful, PayloadsAreLawful, SpelledPayloadsAreBounded, HeldPayloadsAreReadBack}
 use Rattle.amqp_types.proofs.Bytes.{IsBytes-drop}
 use Rattle.amqp_types.proofs.FormLaws.{is_plain, one_at_each, numbers_lawful}
 use Rattle.amqp_types.proofs.Took.{bind_took, value_took, count_took}
-use Rattle.amqp_values.proofs.SlotLaws.{both_true, slots_lawful}
-use Rattle.amqp_values.proofs.SlotsHeld.{slots_read_back}
+use Rattle.amqp_values.proofs.SlotLaws.{both_true, slots_lawful, slots_bounded}
+use Rattle.amqp_values.proofs.SlotsHeld.{slots_held, slots_read_back}
 
 -- ---- what stands in the table
 
@@ -76,7 +76,7 @@ pub record IsInTable (class id : ℕ) (slots : List Slot) : Type 0 where
   pub id_fits : id < 2 ^ 16
   pub least : are_least slots ≡ true
 
-in_table : (class id : ℕ) (slots : List Slot) → slots_at class id ≡ Some slots → IsInTable class id slots
+pub in_table : (class id : ℕ) (slots : List Slot) → slots_at class id ≡ Some slots → IsInTable class id slots
 unfolding rows_of slots_at
 in_table class id slots h =
     let both = found_both (λ rows. lookup (λ key. id == key) rows) (rows_of class) slots h in
@@ -157,7 +157,7 @@ judged m slots a b s rest is_known class_is id_is slots_are =
 three_lengths : (a b c : List ℕ) → length (a ++ (b ++ c)) ≡ length a + (length b + length c)
 three_lengths a b c = omega (arith, length-append a (b ++ c), length-append b c)
 
-three_behind : (a b c rest : List ℕ) → (a ++ (b ++ c)) ++ rest ≡ a ++ (b ++ (c ++ rest))
+pub three_behind : (a b c rest : List ℕ) → (a ++ (b ++ c)) ++ rest ≡ a ++ (b ++ (c ++ rest))
 three_behind a b c rest = append_assoc a (b ++ c) rest ∙ ap (λ t. a ++ t) (append_assoc b c rest)
 
 payload_taken : (bytes rest : List ℕ) (m : Method) → SpellsPayload plain bytes m → judge_payload (bytes ++ rest) ≡ took m (length bytes)
@@ -172,7 +172,7 @@ payload_exact = record { spelled = payload_spelled; taken = payload_taken }
 
 -- ---- the other laws
 
-at_level : (level other : Level) (bytes : List ℕ) (m : Method) (h : SpellsPayload level bytes m) → SpellsSlots other h.slots h.slot_bytes m.items → SpellsPayload other bytes m
+pub at_level : (level other : Level) (bytes : List ℕ) (m : Method) (h : SpellsPayload level bytes m) → SpellsSlots other h.slots h.slot_bytes m.items → SpellsPayload other bytes m
 at_level level other bytes m h slots_are = record {
   slots = h.slots;
   class_bytes = h.class_bytes;
@@ -234,6 +234,26 @@ payloads_lawful = record {
   canonical_is_strict = canonical_is_strict;
   shortest = shortest;
 }
+
+-- what is spelled is neither long nor too deep
+pub payloads_bounded : SpelledPayloadsAreBounded
+payloads_bounded level bytes m h = slots_bounded level h.slots h.slot_bytes m.items h.slots_are
+
+-- what programs hold is spelled strictly by its canonical bytes
+pub payload_held : (m : Method) (slots : List Slot) → slots_at m.class m.id ≡ Some slots → AreSlotsHeld slots m.items → any_deep m.items ≡ false → any_long m.items ≡ false → SpellsPayload strict (payload_bytes m) m
+payload_held m slots is_known held shallow short =
+    let table = in_table m.class m.id slots is_known in
+    record {
+      slots = slots;
+      class_bytes = number_bytes bytes2 m.class;
+      id_bytes = number_bytes bytes2 m.id;
+      slot_bytes = slots_bytes slots m.items;
+      known = is_known;
+      bytes_are = payload_of_slots m slots is_known;
+      class_is = record { fits = table.class_fits; bytes_are = refl };
+      id_is = record { fits = table.id_fits; bytes_are = refl };
+      slots_are = slots_held slots m.items table.least held shallow short;
+    }
 
 -- what has a size has it with other bytes too
 sized_alike : (deep long : Bool) (xs ys : List ℕ) (n : ℕ) → measured deep long xs ≡ Ok n → measured deep long ys ≡ Ok (length ys)

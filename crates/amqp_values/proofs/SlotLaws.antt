@@ -103,7 +103,7 @@ module _ (form : Form) (constant : List Item) (least : is_least form constant �
   reserved_tidy_is_plain : (bytes : List ℕ) (items : List Item) → Reserved tidy bytes items → Reserved plain bytes items
   reserved_tidy_is_plain bytes items h = record { dropped = h.dropped; spelled = (forms_lawful form).tidy_is_plain bytes h.dropped h.spelled; none = h.none; unused = tt }
 
-  reserved_lawful : IsLawful (judge_dropped form) Reserved (λ items. form_bytes form constant)
+  pub reserved_lawful : IsLawful (judge_dropped form) Reserved (λ items. form_bytes form constant)
   reserved_lawful = record {
     exact = reserved_exact;
     strict_is_tidy = reserved_strict_is_tidy;

@@ -67,11 +67,11 @@ value_only (suc room) = only_tagged (SpellsBehind strict (suc room) (SpellsValue
 abbrev pub Into : {A : Type 0} → (List ℕ → A → Type 0) → (List ℕ → A → Type 0) → Type 0
 Into {A} S T = (bytes : List ℕ) (x : A) → S bytes x → T bytes x
 
-each_into : {A : Type 0} (S T : List ℕ → A → Type 0) → Into S T → (bytes : List ℕ) (xs : List A) → SpellsEach S bytes xs → SpellsEach T bytes xs
+pub each_into : {A : Type 0} (S T : List ℕ → A → Type 0) → Into S T → (bytes : List ℕ) (xs : List A) → SpellsEach S bytes xs → SpellsEach T bytes xs
 each_into S T into bytes [] h = h
 each_into S T into bytes (x ∷ xs) h = (h.0, h.1, h.2, into h.0 x h.3, each_into S T into h.1 xs h.4)
 
-entry_into : (S T : List ℕ → FieldValue → Type 0) → Into S T → Into (SpellsEntry S) (SpellsEntry T)
+pub entry_into : (S T : List ℕ → FieldValue → Type 0) → Into S T → Into (SpellsEntry S) (SpellsEntry T)
 entry_into S T into bytes e h = record {
   front = h.front;
   behind = h.behind;

@@ -5,6 +5,7 @@ ghost use Rattle.std.specs.Bool.{Decides};
 ghost use Rattle.amqp_types.specs.Values.{FieldValue, FieldValues, FieldEntries};
 ghost use Rattle.amqp_types.specs.ValueLaws.{ValuesAreLawful, ArraysAreLawful, TablesAreLawful, SpelledIsBounded, SettledIsSettling, InsertChangesOneKey, HeldIsReadBack};
 ghost use Rattle.amqp_types.specs.SlotLaws.{FormsAreLawful, SlotsAreLawful, SpelledSlotsAreBounded, HeldSlotsAreReadBack};
+ghost use Rattle.amqp_types.specs.Tidiness.{TidySlotsAreTold};
 ghost use Rattle.amqp_values.specs.Sameness.{same_value, same_items, same_entries};
 
 /// The laws of values behind their tags, for each number of levels that may nest.
@@ -67,4 +68,9 @@ pub fn spelled_slots_are_bounded()
 /// What programs hold and write into slots is read back.
 pub fn held_slots_are_read_back()
     ensures { HeldSlotsAreReadBack }
+{}
+
+/// A test tells which slots are tidy.
+pub fn tidy_slots_are_told()
+    ensures { TidySlotsAreTold }
 {}

@@ -3,7 +3,9 @@
 
 ghost use Rattle.std.specs.Prelude.{IsTrue};
 ghost use Rattle.amqp_types.specs.Rows.{classes};
-ghost use Rattle.amqp_types.specs.MethodLaws.{are_sound_classes, RowsAreLawful, PayloadsAreLawful, HeldPayloadsAreReadBack};
+ghost use Rattle.amqp_types.specs.PayloadFaults.{PayloadsFailInside};
+ghost use Rattle.amqp_types.specs.MethodLaws.{are_sound_classes, RowsAreLawful, PayloadsAreLawful, SpelledPayloadsAreBounded, HeldPayloadsAreReadBack};
+ghost use Rattle.amqp_types.specs.Tidiness.{TidyPayloadsAreTold};
 
 /// Two bytes hold each id of the table, and its reserved slots have the least constants of their
 /// forms.
@@ -19,6 +21,21 @@ pub fn rows_are_lawful()
 /// The laws of methods in payloads, behind both their ids.
 pub fn payloads_are_lawful()
     ensures { PayloadsAreLawful }
+{}
+
+/// Methods that are spelled are neither long nor too deep.
+pub fn spelled_payloads_are_bounded()
+    ensures { SpelledPayloadsAreBounded }
+{}
+
+/// A test tells which payloads of methods are tidy.
+pub fn tidy_payloads_are_told()
+    ensures { TidyPayloadsAreTold }
+{}
+
+/// A payload of a method shows only faults of what stands inside it.
+pub fn payloads_fail_inside()
+    ensures { PayloadsFailInside }
 {}
 
 /// What programs hold and write as the payload of a method is read back.

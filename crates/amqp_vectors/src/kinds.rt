@@ -1,5 +1,6 @@
 //! A table and an array that hold all 17 kinds of values.
 
+use crate::asking::{answers, reads, same};
 use amqp_values::{
     AMQPValue, ByteArray, DecimalValue, FieldArray, FieldTable, LongString, ShortString,
     gen_field_array, gen_field_table, gen_value, parse_field_array, parse_field_table, parse_value,
@@ -38,23 +39,37 @@ fn each_kind(alloc: Global) -> Result<Vec<AMQPValue>, Fail> {
 /// The tags of the 17 kinds, in the same order.
 const TAGS: &str = "tbBsuIilfdDSATFxV";
 
+fn value_agrees(alloc: Global, value: &AMQPValue, tag: u8) -> Result<(), Fail> {
+    let mut out = Vec::new(alloc);
+    gen_value(alloc, &mut out, value)?;
+    same(out.first(), Some(&tag))?;
+    same(size_value(value), Ok(out.len() as u64))?;
+    reads(parse_value(alloc, &out), out.len(), value)?;
+    answers(value.copy(alloc), value)?;
+    let mut buf = vec![in alloc; 0; out.len()]?;
+    put_value(&mut buf, 0, value);
+    same(buf, out)
+}
+
 #[test]
 fn each_kind_is_read_as_written(rt: HostRuntime) -> Result<(), Fail> {
     let alloc = rt.alloc();
     for (value, tag) in each_kind(alloc)?.iter().zip(TAGS.bytes()) {
-        let mut out = Vec::new(alloc);
-        gen_value(alloc, &mut out, value)?;
-        assert_eq!(rt; out[0], tag);
-        assert_eq!(rt; size_value(value)?, out.len() as u64);
-        let (used, read) = parse_value(alloc, &out)?;
-        assert_eq!(rt; used, out.len());
-        assert!(rt; read == *value);
-        assert!(rt; value.copy(alloc)? == *value);
-        let mut buf = vec![in alloc; 0; out.len()]?;
-        put_value(&mut buf, 0, value);
-        assert_eq!(rt; buf.as_slice(), out.as_slice());
+        value_agrees(alloc, value, tag)?;
     }
     Ok(())
+}
+
+fn table_agrees(alloc: Global, table: &FieldTable) -> Result<(), Fail> {
+    same(table.len(), 17)?;
+    let mut out = Vec::new(alloc);
+    gen_field_table(alloc, &mut out, table)?;
+    same(size_field_table(table), Ok(out.len() as u64))?;
+    reads(parse_field_table(alloc, &out), out.len(), table)?;
+    answers(table.copy(alloc), table)?;
+    let mut buf = vec![in alloc; 0; out.len()]?;
+    put_field_table(&mut buf, 0, table);
+    same(buf, out)
 }
 
 #[test]
@@ -68,18 +83,19 @@ fn a_table_of_each_kind(rt: HostRuntime) -> Result<(), Fail> {
             table.insert(key, value.copy(alloc)?)?;
         }
     }
-    assert_eq!(rt; table.len(), 17);
+    table_agrees(alloc, &table)
+}
+
+fn array_agrees(alloc: Global, array: &FieldArray) -> Result<(), Fail> {
+    same(array.len(), 17)?;
     let mut out = Vec::new(alloc);
-    gen_field_table(alloc, &mut out, &table)?;
-    assert_eq!(rt; size_field_table(&table)?, out.len() as u64);
-    let (used, read) = parse_field_table(alloc, &out)?;
-    assert_eq!(rt; used, out.len());
-    assert_eq!(rt; read, table);
-    assert_eq!(rt; table.copy(alloc)?, table);
+    gen_field_array(alloc, &mut out, array)?;
+    same(size_field_array(array), Ok(out.len() as u64))?;
+    reads(parse_field_array(alloc, &out), out.len(), array)?;
+    answers(array.copy(alloc), array)?;
     let mut buf = vec![in alloc; 0; out.len()]?;
-    put_field_table(&mut buf, 0, &table);
-    assert_eq!(rt; buf.as_slice(), out.as_slice());
-    Ok(())
+    put_field_array(&mut buf, 0, array);
+    same(buf, out)
 }
 
 #[test]
@@ -89,16 +105,5 @@ fn an_array_of_each_kind(rt: HostRuntime) -> Result<(), Fail> {
     for value in each_kind(alloc)?.iter() {
         array.push(value.copy(alloc)?)?;
     }
-    assert_eq!(rt; array.len(), 17);
-    let mut out = Vec::new(alloc);
-    gen_field_array(alloc, &mut out, &array)?;
-    assert_eq!(rt; size_field_array(&array)?, out.len() as u64);
-    let (used, read) = parse_field_array(alloc, &out)?;
-    assert_eq!(rt; used, out.len());
-    assert_eq!(rt; read, array);
-    assert_eq!(rt; array.copy(alloc)?, array);
-    let mut buf = vec![in alloc; 0; out.len()]?;
-    put_field_array(&mut buf, 0, &array);
-    assert_eq!(rt; buf.as_slice(), out.as_slice());
-    Ok(())
+    array_agrees(alloc, &array)
 }

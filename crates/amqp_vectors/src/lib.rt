@@ -3,7 +3,13 @@
 #![tactic(auto)]
 
 #[cfg(test)]
+mod asking;
+#[cfg(test)]
+mod errors;
+#[cfg(test)]
 mod kinds;
+#[cfg(test)]
+mod logins;
 #[cfg(test)]
 mod nests;
 #[cfg(test)]

@@ -1,5 +1,6 @@
 //! Strings, byte arrays and flags.
 
+use crate::asking::{answers, reads, same};
 use amqp_values::{
     AMQPFlags, ByteArray, LongString, MakeError, ParserError, ShortString, gen_byte_array,
     gen_flags, gen_long_string, gen_short_string, parse_byte_array, parse_flags, parse_long_bytes,
@@ -7,6 +8,7 @@ use amqp_values::{
     put_flags, put_long_string, put_short_string, size_byte_array, size_flags, size_long_string,
     size_short_string,
 };
+use std::alloc::Global;
 use std::test::Fail;
 
 #[test]
@@ -36,36 +38,45 @@ fn short_strings_are_compared_by_bytes(rt: HostRuntime) -> Result<(), Fail> {
     Ok(())
 }
 
+/// The short string `a`, a long string of two bytes and a byte array of one.
+const WRITTEN: [u8; 13] = [1, 97, 0, 0, 0, 2, 98, 255, 0, 0, 0, 1, 99];
+
+fn short_string_agrees(alloc: Global, out: &mut Vec<u8>, string: &ShortString) -> Result<(), Fail> {
+    gen_short_string(alloc, out, string)?;
+    reads(parse_short_string(alloc, &WRITTEN), 2, string)?;
+    reads(parse_short_str(&WRITTEN), 2, &"a")?;
+    answers(string.copy(alloc), string)
+}
+
+fn long_string_agrees(alloc: Global, out: &mut Vec<u8>, string: &LongString) -> Result<(), Fail> {
+    gen_long_string(alloc, out, string.as_bytes())?;
+    reads(parse_long_string(alloc, &WRITTEN[2..]), 6, string)?;
+    reads(parse_long_bytes(&WRITTEN[2..]), 6, &string.as_bytes())?;
+    reads(parse_table_bytes(&WRITTEN[2..]), 6, &string.as_bytes())?;
+    answers(string.copy(alloc), string)
+}
+
+fn byte_array_agrees(alloc: Global, out: &mut Vec<u8>, array: &ByteArray) -> Result<(), Fail> {
+    gen_byte_array(alloc, out, array)?;
+    reads(parse_byte_array(alloc, &WRITTEN[8..]), 5, array)?;
+    answers(array.copy(alloc), array)
+}
+
 #[test]
 fn strings_are_read_as_written(rt: HostRuntime) -> Result<(), Fail> {
     let alloc = rt.alloc();
     let mut out = Vec::new(alloc);
-    let short = ShortString::new(alloc, "a")?;
-    gen_short_string(alloc, &mut out, &short)?;
-    let long = LongString::new(alloc, &[98, 255])?;
-    gen_long_string(alloc, &mut out, long.as_bytes())?;
-    let bytes = ByteArray::new(alloc, &[99])?;
-    gen_byte_array(alloc, &mut out, &bytes)?;
-    assert_eq!(rt;
-        out.as_slice(),
-        [1, 97, 0, 0, 0, 2, 98, 255, 0, 0, 0, 1, 99].as_slice()
-    );
-    assert_eq!(rt; parse_short_string(alloc, &out)?, (2, short.copy(alloc)?));
-    assert_eq!(rt; parse_short_str(&out)?, (2, "a"));
-    assert_eq!(rt;
-        parse_long_string(alloc, &out[2..])?,
-        (6, long.copy(alloc)?)
-    );
-    assert_eq!(rt; parse_long_bytes(&out[2..])?, (6, [98, 255].as_slice()));
-    assert_eq!(rt; parse_table_bytes(&out[2..])?, (6, [98, 255].as_slice()));
-    assert_eq!(rt;
-        parse_byte_array(alloc, &out[8..])?,
-        (5, bytes.copy(alloc)?)
-    );
-    assert_eq!(rt; ByteArray::from_vec(out).len(), 13);
-    assert_eq!(rt; LongString::empty(alloc).len(), 0);
-    assert_eq!(rt; ByteArray::empty(alloc).len(), 0);
-    Ok(())
+    short_string_agrees(alloc, &mut out, &ShortString::new(alloc, "a")?)?;
+    long_string_agrees(alloc, &mut out, &LongString::new(alloc, &[98, 255])?)?;
+    byte_array_agrees(alloc, &mut out, &ByteArray::new(alloc, &[99])?)?;
+    same(out.as_slice(), WRITTEN.as_slice())?;
+    same(ByteArray::from_vec(out).len(), 13)
+}
+
+#[test]
+fn empty_strings_hold_no_bytes(rt: HostRuntime) -> Result<(), Fail> {
+    same(LongString::empty(rt.alloc()).len(), 0)?;
+    same(ByteArray::empty(rt.alloc()).len(), 0)
 }
 
 #[test]

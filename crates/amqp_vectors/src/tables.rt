@@ -1,5 +1,6 @@
 //! Tables as they are read, and as they are written then.
 
+use crate::asking::{reads, same};
 use amqp_values::{
     AMQPValue, FieldArray, FieldTable, ParserError, ShortString, gen_field_table, gen_value,
     parse_field_array, parse_field_table, parse_value, size_field_table,
@@ -50,92 +51,111 @@ fn equal_keys_at_two_depths(rt: HostRuntime) -> Result<(), Fail> {
     Ok(())
 }
 
+fn table_is_refused(alloc: Global, bytes: &[u8], error: ParserError) -> Result<(), Fail> {
+    same(parse_field_table(alloc, bytes).err(), Some(error))
+}
+
 #[test]
 fn faults_of_tables(rt: HostRuntime) -> Result<(), Fail> {
     let alloc = rt.alloc();
-    let unknown = [0, 0, 0, 2, 0, 90];
-    assert_eq!(rt;
-        parse_field_table(alloc, &unknown),
-        Err(ParserError::UnknownTag)
-    );
-    let cut = [0, 0, 0, 3, 1, 97];
-    assert_eq!(rt;
-        parse_field_table(alloc, &cut),
-        Err(ParserError::Incomplete)
-    );
-    let short = [0, 0, 0, 2, 1, 97];
-    assert_eq!(rt;
-        parse_field_table(alloc, &short),
-        Err(ParserError::ShortPayload)
-    );
-    let key_before_tag = [0, 0, 0, 3, 1, 255, 90];
-    assert_eq!(rt;
-        parse_field_table(alloc, &key_before_tag),
-        Err(ParserError::NotUtf8)
-    );
-    let (used, empty) = parse_field_table(alloc, &[0, 0, 0, 0, 9])?;
-    assert_eq!(rt; used, 4);
-    assert_eq!(rt; empty.len(), 0);
-    assert_eq!(rt;
-        parse_field_array(alloc, &[0, 0, 0, 1, 116]),
-        Err(ParserError::ShortPayload)
-    );
-    assert_eq!(rt; parse_value(alloc, &[116]), Err(ParserError::Incomplete));
-    assert_eq!(rt; parse_value(alloc, &[]), Err(ParserError::Incomplete));
-    Ok(())
+    table_is_refused(alloc, &[0, 0, 0, 2, 0, 90], ParserError::UnknownTag)?;
+    table_is_refused(alloc, &[0, 0, 0, 3, 1, 97], ParserError::Incomplete)?;
+    table_is_refused(alloc, &[0, 0, 0, 2, 1, 97], ParserError::ShortPayload)?;
+    // the key is tested before its tag
+    table_is_refused(alloc, &[0, 0, 0, 3, 1, 255, 90], ParserError::NotUtf8)?;
+    reads(
+        parse_field_table(alloc, &[0, 0, 0, 0, 9]),
+        4,
+        &FieldTable::new(alloc),
+    )
+}
+
+#[test]
+fn faults_of_arrays_and_values(rt: HostRuntime) -> Result<(), Fail> {
+    let alloc = rt.alloc();
+    let array = parse_field_array(alloc, &[0, 0, 0, 1, 116]);
+    same(array.err(), Some(ParserError::ShortPayload))?;
+    same(
+        parse_value(alloc, &[116]).err(),
+        Some(ParserError::Incomplete),
+    )?;
+    same(parse_value(alloc, &[]).err(), Some(ParserError::Incomplete))
+}
+
+/// Fails unless a value under the key `a` is read from the first bytes, and written as the others.
+fn is_rewritten(
+    alloc: Global,
+    bytes: &[u8],
+    value: &AMQPValue,
+    written: &[u8],
+) -> Result<(), Fail> {
+    let (_, table) = parse_field_table(alloc, bytes)?;
+    same(table.get("a"), Some(value))?;
+    same(rewritten(alloc, bytes)?.as_slice(), written)
 }
 
 #[test]
 fn two_tag_bytes_are_read_and_never_written(rt: HostRuntime) -> Result<(), Fail> {
     let alloc = rt.alloc();
-    let (_, table) = parse_field_table(alloc, &[0, 0, 0, 5, 1, 97, 85, 0, 7])?;
-    assert!(rt; table.get("a") == Some(&AMQPValue::ShortInt(7)));
-    assert_eq!(rt;
-        rewritten(alloc, &[0, 0, 0, 5, 1, 97, 85, 0, 7])?.as_slice(),
-        [0, 0, 0, 5, 1, 97, 115, 0, 7].as_slice()
-    );
-    let long = [0, 0, 0, 11, 1, 97, 76, 0, 0, 0, 0, 0, 0, 0, 9];
-    let (_, table) = parse_field_table(alloc, &long)?;
-    assert!(rt; table.get("a") == Some(&AMQPValue::LongLongInt(9)));
-    assert_eq!(rt;
-        rewritten(alloc, &long)?.as_slice(),
-        [0, 0, 0, 11, 1, 97, 108, 0, 0, 0, 0, 0, 0, 0, 9].as_slice()
-    );
-    assert_eq!(rt;
-        parse_field_table(alloc, &[0, 0, 0, 3, 1, 97, 90]),
-        Err(ParserError::UnknownTag)
-    );
-    Ok(())
+    is_rewritten(
+        alloc,
+        &[0, 0, 0, 5, 1, 97, 85, 0, 7],
+        &AMQPValue::ShortInt(7),
+        &[0, 0, 0, 5, 1, 97, 115, 0, 7],
+    )?;
+    is_rewritten(
+        alloc,
+        &[0, 0, 0, 11, 1, 97, 76, 0, 0, 0, 0, 0, 0, 0, 9],
+        &AMQPValue::LongLongInt(9),
+        &[0, 0, 0, 11, 1, 97, 108, 0, 0, 0, 0, 0, 0, 0, 9],
+    )?;
+    table_is_refused(alloc, &[0, 0, 0, 3, 1, 97, 90], ParserError::UnknownTag)
+}
+
+/// A table of two entries, of which one is inserted twice.
+fn made(alloc: Global) -> Result<FieldTable, Fail> {
+    let mut table = FieldTable::new(alloc);
+    table.insert(ShortString::new(alloc, "b")?, AMQPValue::Void)?;
+    table.insert(ShortString::new(alloc, "a")?, AMQPValue::ShortInt(-2))?;
+    table.insert(ShortString::new(alloc, "b")?, AMQPValue::Boolean(true))?;
+    Ok(table)
+}
+
+fn has_two_entries(alloc: Global, table: &FieldTable) -> Result<(), Fail> {
+    same(table.len(), 2)?;
+    same(table.get("b"), Some(&AMQPValue::Boolean(true)))?;
+    same(table.get("c"), None)?;
+    same(size_field_table(table), Ok(13))?;
+    let mut keys = String::new(alloc);
+    for (key, _) in table.iter() {
+        keys.push_str(key.as_str())?;
+    }
+    same(keys.as_str(), "ab")
 }
 
 #[test]
 fn tables_are_made_and_asked(rt: HostRuntime) -> Result<(), Fail> {
     let alloc = rt.alloc();
-    let mut table = FieldTable::new(alloc);
-    table.insert(ShortString::new(alloc, "b")?, AMQPValue::Void)?;
-    table.insert(ShortString::new(alloc, "a")?, AMQPValue::ShortInt(-2))?;
-    table.insert(ShortString::new(alloc, "b")?, AMQPValue::Boolean(true))?;
-    assert_eq!(rt; table.len(), 2);
-    assert!(rt; table.get("b") == Some(&AMQPValue::Boolean(true)));
-    assert!(rt; table.get("c").is_none());
-    assert_eq!(rt; size_field_table(&table)?, 13);
-    let mut keys = String::new(alloc);
-    for (key, _) in table.iter() {
-        keys.push_str(key.as_str())?;
-    }
-    assert_eq!(rt; keys.as_str(), "ab");
+    has_two_entries(alloc, &made(alloc)?)
+}
+
+fn holds(array: &FieldArray, value: &AMQPValue) -> Result<(), Fail> {
+    same(array.len(), 1)?;
+    same(array.as_slice().first(), Some(value))
+}
+
+#[test]
+fn arrays_hold_tables(rt: HostRuntime) -> Result<(), Fail> {
+    let alloc = rt.alloc();
     let mut array = FieldArray::new(alloc);
-    array.push(AMQPValue::FieldTable(table.copy(alloc)?))?;
-    assert_eq!(rt; array.len(), 1);
-    assert!(rt; array.as_slice()[0] == AMQPValue::FieldTable(table));
+    array.push(AMQPValue::FieldTable(made(alloc)?))?;
+    holds(&array, &AMQPValue::FieldTable(made(alloc)?))?;
     let mut out = Vec::new(alloc);
     gen_value(alloc, &mut out, &AMQPValue::FieldArray(array))?;
-    assert_eq!(rt;
+    same(
         out.as_slice(),
-        [
-            65, 0, 0, 0, 14, 70, 0, 0, 0, 9, 1, 97, 115, 255, 254, 1, 98, 116, 1
-        ]
-        .as_slice()
-    );
-    Ok(())
+        &[
+            65, 0, 0, 0, 14, 70, 0, 0, 0, 9, 1, 97, 115, 255, 254, 1, 98, 116, 1,
+        ],
+    )
 }

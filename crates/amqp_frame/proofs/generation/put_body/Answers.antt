@@ -1,5 +1,0 @@
-use Rattle.amqp_frame.proofs.Sizes.{puts_framed}
-use Rattle.amqp_frame.proofs.generation.put_body.Goals as goal
-
-pub returns : goal.returns
-returns c = puts_framed _ _ _ _ _ _ _ _ 3 c.args.channel_id c.frame_head.result c.args.payload.now c.frame_head.ensures c.requires.room c.put_bytes-at.ensures c.put_bytes-at-2.ensures c.put_bytes.ensures

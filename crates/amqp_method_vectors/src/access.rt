@@ -1,0 +1,75 @@
+//! Each method of the class access is written as these bytes, and read from them.
+
+use crate::made::text;
+use crate::rows::{self, agree, agrees, behind, is_appended};
+use amqp_protocol::AMQPClass;
+use amqp_protocol::access::*;
+use std::alloc::Global;
+use std::test::Fail;
+
+/// Fails unless the method comes back from its payload.
+fn comes_back(alloc: Global, method: AMQPMethod, payload: &[u8]) -> Result<(), Fail> {
+    rows::comes_back(alloc, AMQPClass::Access(method), payload)
+}
+
+/// The same through the calls of the class, and through those of the method alone.
+pub fn of_class(
+    alloc: Global,
+    method: &AMQPMethod,
+    out: &mut Vec<u8>,
+    payload: &[u8],
+) -> Result<(), Fail> {
+    let written = behind(payload);
+    agree!(alloc, method, out, payload, written; gen_access, size_access, put_access, parse_access, method.copy(alloc))?;
+    alone(alloc, method, out, written)
+}
+
+/// Of the methods alone.
+fn alone(
+    alloc: Global,
+    method: &AMQPMethod,
+    out: &mut Vec<u8>,
+    written: &[u8],
+) -> Result<(), Fail> {
+    let slots = behind(written);
+    match method {
+        AMQPMethod::Request(m) =>
+            agree!(alloc, m, out, written, slots; gen_request, size_request, put_request, parse_request, m.copy(alloc)),
+        AMQPMethod::RequestOk(m) =>
+            agree!(alloc, m, out, written, slots; gen_request_ok, size_request_ok, put_request_ok, parse_request_ok, m.clone()),
+    }
+}
+
+#[test]
+fn request_and_its_answer(rt: HostRuntime) -> Result<(), Fail> {
+    let alloc = rt.alloc();
+    let method = Request {
+        realm: text(alloc),
+        exclusive: true,
+        passive: true,
+        active: true,
+        write: true,
+        read: true,
+    };
+    comes_back(
+        alloc,
+        AMQPMethod::Request(method),
+        &[0, 30, 0, 10, 1, 97, 31],
+    )?;
+    comes_back(
+        alloc,
+        AMQPMethod::RequestOk(RequestOk {}),
+        &[0, 30, 0, 11, 0, 1],
+    )
+}
+
+#[test]
+fn any_ticket_is_written_as_1(rt: HostRuntime) -> Result<(), Fail> {
+    let alloc = rt.alloc();
+    let (used, method) = parse_request_ok(alloc, &[0, 9])?;
+    let mut out = Vec::new(alloc);
+    gen_request_ok(alloc, &mut out, &method)?;
+    assert_eq!(rt; used, 2);
+    assert_eq!(rt; out.as_slice(), [0, 11, 0, 1].as_slice());
+    Ok(())
+}

@@ -1,0 +1,86 @@
+//! Each method of the class channel is written as these bytes, and read from them.
+
+use crate::made::text;
+use crate::rows::{self, agree, agrees, behind, is_appended};
+use amqp_protocol::AMQPClass;
+use amqp_protocol::channel::*;
+use std::alloc::Global;
+use std::test::Fail;
+
+/// Fails unless the method comes back from its payload.
+fn comes_back(alloc: Global, method: AMQPMethod, payload: &[u8]) -> Result<(), Fail> {
+    rows::comes_back(alloc, AMQPClass::Channel(method), payload)
+}
+
+/// The same through the calls of the class, and through those of the method alone.
+pub fn of_class(
+    alloc: Global,
+    method: &AMQPMethod,
+    out: &mut Vec<u8>,
+    payload: &[u8],
+) -> Result<(), Fail> {
+    let written = behind(payload);
+    agree!(alloc, method, out, payload, written; gen_channel, size_channel, put_channel, parse_channel, method.copy(alloc))?;
+    alone(alloc, method, out, written)
+}
+
+/// Of the methods alone.
+fn alone(
+    alloc: Global,
+    method: &AMQPMethod,
+    out: &mut Vec<u8>,
+    written: &[u8],
+) -> Result<(), Fail> {
+    let slots = behind(written);
+    match method {
+        AMQPMethod::Open(m) =>
+            agree!(alloc, m, out, written, slots; gen_open, size_open, put_open, parse_open, m.clone()),
+        AMQPMethod::OpenOk(m) =>
+            agree!(alloc, m, out, written, slots; gen_open_ok, size_open_ok, put_open_ok, parse_open_ok, m.clone()),
+        AMQPMethod::Flow(m) =>
+            agree!(alloc, m, out, written, slots; gen_flow, size_flow, put_flow, parse_flow, m.clone()),
+        AMQPMethod::FlowOk(m) =>
+            agree!(alloc, m, out, written, slots; gen_flow_ok, size_flow_ok, put_flow_ok, parse_flow_ok, m.clone()),
+        AMQPMethod::Close(m) =>
+            agree!(alloc, m, out, written, slots; gen_close, size_close, put_close, parse_close, m.copy(alloc)),
+        AMQPMethod::CloseOk(m) =>
+            agree!(alloc, m, out, written, slots; gen_close_ok, size_close_ok, put_close_ok, parse_close_ok, m.clone()),
+    }
+}
+
+#[test]
+fn open_and_its_answer(rt: HostRuntime) -> Result<(), Fail> {
+    let alloc = rt.alloc();
+    comes_back(alloc, AMQPMethod::Open(Open {}), &[0, 20, 0, 10, 0])?;
+    comes_back(
+        alloc,
+        AMQPMethod::OpenOk(OpenOk {}),
+        &[0, 20, 0, 11, 0, 0, 0, 0],
+    )
+}
+
+#[test]
+fn flow_and_its_answer(rt: HostRuntime) -> Result<(), Fail> {
+    let alloc = rt.alloc();
+    let method = Flow { active: true };
+    comes_back(alloc, AMQPMethod::Flow(method), &[0, 20, 0, 20, 1])?;
+    let method = FlowOk { active: true };
+    comes_back(alloc, AMQPMethod::FlowOk(method), &[0, 20, 0, 21, 1])
+}
+
+#[test]
+fn close_and_its_answer(rt: HostRuntime) -> Result<(), Fail> {
+    let alloc = rt.alloc();
+    let method = Close {
+        reply_code: 7,
+        reply_text: text(alloc),
+        class_id: 7,
+        method_id: 7,
+    };
+    comes_back(
+        alloc,
+        AMQPMethod::Close(method),
+        &[0, 20, 0, 40, 0, 7, 1, 97, 0, 7, 0, 7],
+    )?;
+    comes_back(alloc, AMQPMethod::CloseOk(CloseOk {}), &[0, 20, 0, 41])
+}

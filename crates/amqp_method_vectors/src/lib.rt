@@ -1,0 +1,27 @@
+//! Tests that cross crates: each method of the eight classes, and the properties, with their bytes.
+#![tactic(auto)]
+
+#[cfg(test)]
+mod access;
+#[cfg(test)]
+mod basic;
+#[cfg(test)]
+mod channel;
+#[cfg(test)]
+mod confirm;
+#[cfg(test)]
+mod connection;
+#[cfg(test)]
+mod exchange;
+#[cfg(test)]
+mod made;
+#[cfg(test)]
+mod properties;
+#[cfg(test)]
+mod queue;
+#[cfg(test)]
+mod rows;
+#[cfg(test)]
+mod tx;
+#[cfg(test)]
+mod unknown;

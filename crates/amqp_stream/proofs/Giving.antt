@@ -1,0 +1,90 @@
+-- The generated stream is given, frame after frame.
+use Rattle.std.proofs.Common.{◌≡◌, ◌≢◌, ℕ, ◌+◌, ◌-◌, ◌≤◌, List, [], ◌++◌, suc, length, take, drop, refl, sym, ap, ap₂, ◌∙◌, arith, append_assoc}
+use Rattle.std.proofs.lemmas.List.{length-take-le, take_at, take-take, take-append-drop}
+use Rattle.std.proofs.Math.Seq.{take-append-add}
+use Rattle.amqp_types.specs.Writing.{written, Puts}
+use Rattle.amqp_types.proofs.Puts.{puts-length}
+use Rattle.amqp_stream.specs.declared.buffer.Span.{Span}
+use Rattle.amqp_stream.specs.Spans.{held_in}
+use Rattle.amqp_stream.specs.Made.{made_frame, made_from}
+use Rattle.amqp_stream.specs.Making.{IsMaking, left_in}
+use Rattle.amqp_stream.proofs.MadeSizes.{made_frame-short}
+use Rattle.amqp_stream.proofs.Spans.{part-drop, part-length}
+
+-- ---- the next frame
+
+abbrev span : ℕ → ℕ → Span
+span start end = record { start = start; end = end }
+
+-- what was put at the front of a buffer stands there
+put_front : (old new bytes : List ℕ) (end : ℕ) → Puts old new 0 bytes end → take end new ≡ bytes
+unfolding written
+put_front old new bytes end p = ap (take end) p.put ∙ take_at bytes (drop (0 + length bytes) old) end (omega (arith, p.behind))
+
+pub refilled_making : (frame new : List ℕ) (s : Span) (next frames end : ℕ) → IsMaking frame s next frames → next ≢ frames → Puts frame new 0 (made_frame next) end → IsMaking new (span 0 end) (next + 1) frames
+refilled_making frame new s next frames end making more p =
+    let len = puts-length frame new 0 end (made_frame next) (omega (arith, made_frame-short next, making.len)) p in
+    record {
+      is_span = record { ordered = omega arith; within = omega (arith, made_frame-short next, making.len, p.behind) };
+      len = len ∙ making.len;
+      ordered = omega (arith, making.ordered);
+      few = making.few;
+    }
+
+made_from-next : (next frames : ℕ) → next ≤ frames → next ≢ frames → made_from next (frames - next) ≡ made_frame next ++ made_from (next + 1) (frames - (next + 1))
+made_from-next next frames ordered more = ap (made_from next) {x = frames - next} {y = suc (frames - (next + 1))} (omega arith)
+
+pub refilled_same : (frame new : List ℕ) (s : Span) (next frames end : ℕ) → IsMaking frame s next frames → s.end ≤ s.start → next ≢ frames → Puts frame new 0 (made_frame next) end → left_in new (span 0 end) (next + 1) frames ≡ left_in frame s next frames
+refilled_same frame new s next frames end making none more p =
+    let rest = made_from (next + 1) (frames - (next + 1)) in
+    let empty : held_in frame s ≡ [] = ap (λ n. take n (drop s.start frame)) {x = s.end - s.start} {y = 0} (omega arith) in
+    let filled : held_in new (span 0 end) ≡ made_frame next = ap (λ n. take n new) {x = end - 0} (omega arith) ∙ put_front frame new (made_frame next) end p in
+    ap (λ (xs : List ℕ). xs ++ rest) filled ∙ sym (made_from-next next frames making.ordered more) ∙ ap (λ (xs : List ℕ). xs ++ made_from next (frames - next)) (sym empty)
+
+-- ---- a piece of it
+
+-- of all the bytes, so many stand at the front of the buffer, and the others are left
+pub record Giving (all buf frame : List ℕ) (s : Span) (next frames given : ℕ) : Type 0 where
+  pub making : IsMaking frame s next frames
+  pub within : given ≤ length buf
+  pub parts : all ≡ take given buf ++ left_in frame s next frames
+
+pub given_refilled : (all buf frame new : List ℕ) (s t : Span) (next then frames given : ℕ) → Giving all buf frame s next frames given → IsMaking new t then frames → left_in new t then frames ≡ left_in frame s next frames → Giving all buf new t then frames given
+given_refilled all buf frame new s t next then frames given g making same = record {
+  making = making;
+  within = g.within;
+  parts = g.parts ∙ ap (λ (xs : List ℕ). take given buf ++ xs) (sym same);
+}
+
+-- what was put at a place of a buffer stands behind what stood before it
+put_behind : (old new bytes : List ℕ) (at end : ℕ) → at ≤ length old → Puts old new at bytes end → take end new ≡ take at old ++ bytes
+unfolding written
+put_behind old new bytes at end room p =
+    let front = length-take-le at old room in
+    let behind = drop (at + length bytes) old in
+    ap (take end) p.put ∙ ap (λ n. take n (take at old ++ (bytes ++ behind))) {x = end} {y = length (take at old) + length bytes} (omega (arith, p.behind)) ∙ take-append-add (take at old) (bytes ++ behind) (length bytes) ∙ ap (λ (xs : List ℕ). take at old ++ xs) (take_at bytes behind (length bytes) refl)
+
+-- the first bytes of a part, and what is left of it
+cut_part : (frame : List ℕ) (start end n : ℕ) → n ≤ end - start → held_in frame (span start end) ≡ take (start + n - start) (drop start frame) ++ held_in frame (span (start + n) end)
+cut_part frame start end n h =
+    let part = held_in frame (span start end) in
+    let first : take n part ≡ take (start + n - start) (drop start frame) = take-take n (end - start) (drop start frame) h ∙ ap (λ k. take k (drop start frame)) {x = n} (omega arith) in
+    sym (take-append-drop n part) ∙ ap₂ (λ (xs ys : List ℕ). xs ++ ys) first (sym (part-drop frame start end n))
+
+pub given_more : (all buf new frame : List ℕ) (start end next frames given most behind : ℕ) → Giving all buf frame (span start end) next frames given → most ≤ end - start → most ≤ length buf - given → Puts buf new given (take (start + most - start) (drop start frame)) behind → Giving all new frame (span (start + most) end) next frames behind
+given_more all buf new frame start end next frames given most behind g few room p =
+    let piece = take (start + most - start) (drop start frame) in
+    let rest = made_from next (frames - next) in
+    let len = part-length frame start (start + most) (omega arith) (omega (arith, g.making.is_span.within, g.making.is_span.ordered)) in
+    let same = puts-length buf new given behind piece (omega (arith, g.within)) p in
+    record {
+      making = record {
+        is_span = record { ordered = omega (arith, g.making.is_span.ordered); within = g.making.is_span.within };
+        len = g.making.len;
+        ordered = g.making.ordered;
+        few = g.making.few;
+      };
+      within = omega (arith, g.within, p.behind);
+      parts =
+          g.parts ∙ ap (λ (xs : List ℕ). take given buf ++ (xs ++ rest)) (cut_part frame start end most few) ∙ ap (λ (xs : List ℕ). take given buf ++ xs) (append_assoc piece (held_in frame (span (start + most) end)) rest) ∙ sym (append_assoc (take given buf) piece (left_in frame (span (start + most) end) next frames)) ∙ ap (λ (xs : List ℕ). xs ++ left_in frame (span (start + most) end) next frames) (sym (put_behind buf new piece given behind g.within p));
+    }

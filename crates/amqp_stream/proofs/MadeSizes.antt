@@ -1,0 +1,70 @@
+-- The lengths of generated frames, and of the stream.
+use Rattle.std.proofs.Common.{◌≡◌, ℕ, zero, suc, ◌+◌, ◌*◌, ◌/◌, ◌%◌, ◌<◌, ◌≤◌, Bool, true, false, List, length, ap, ◌∙◌, inl, inr, arith, zero-add}
+use Rattle.std.specs.Prelude.{◌==◌, if◌then◌else◌}
+use Rattle.std.proofs.lemmas.List.{length-append}
+use Rattle.std.proofs.lemmas.Bool.{cases_lt}
+use Rattle.std.proofs.lemmas.Bool.Decides.{nat_tests}
+use Rattle.amqp_frame.proofs.Sizes.{framed_length}
+use Rattle.amqp_stream.specs.Made.{made_frame, made_from, made, made_channel, made_payload, select_payload, declare_payload, most_frames}
+
+-- the length of a frame, by its number modulo 4
+abbrev pub length_by : ℕ → ℕ
+length_by k = if k == 0 then 9 else (if k == 1 then 9 else (if k == 2 then 13 else 28))
+
+length_of_one : (first second third : Bool) (a b c d : List ℕ) → length a ≡ 9 → length b ≡ 9 → length c ≡ 13 → length d ≡ 28 → length (if first then a else (if second then b else (if third then c else d))) ≡ (if first then 9 else (if second then 9 else (if third then 13 else 28)))
+length_of_one true second third a b c d la lb lc ld = la
+length_of_one false true third a b c d la lb lc ld = lb
+length_of_one false false true a b c d la lb lc ld = lc
+length_of_one false false false a b c d la lb lc ld = ld
+
+pub made_frame-length : (i : ℕ) → length (made_frame i) ≡ length_by (i % 4)
+unfolding made_frame
+made_frame-length i = length_of_one (i % 4 == 0) (i % 4 == 1) (i % 4 == 2) _ _ _ _ (framed_length 8 0 (made_payload i)) (framed_length 3 (made_channel i) (made_payload i)) (framed_length 1 (made_channel i) select_payload) (framed_length 1 (made_channel i) declare_payload)
+
+length_by-bounds : (k : ℕ) → (0 < length_by k) × (length_by k ≤ 28)
+length_by-bounds k = (grind (arith, nat_tests), grind (arith, nat_tests))
+
+pub made_frame-some : (i : ℕ) → 0 < length (made_frame i)
+made_frame-some i = omega (arith, made_frame-length i, (length_by-bounds (i % 4)).0)
+
+pub made_frame-short : (i : ℕ) → length (made_frame i) ≤ 28
+made_frame-short i = omega (arith, made_frame-length i, (length_by-bounds (i % 4)).1)
+
+-- the number of bytes of the last few frames, after all whole groups of four
+abbrev pub rest_length : ℕ → ℕ
+rest_length k = if k == 0 then 0 else (if k == 1 then 9 else (if k == 2 then 18 else 31))
+
+-- the number of bytes of n frames: four frames have 59
+abbrev pub made_length : ℕ → ℕ
+made_length n = 59 * (n / 4) + rest_length (n % 4)
+
+-- one more frame, by the quotient q and the remainder k
+one_more : (q k p j : ℕ) → k < 4 → j < 4 → 4 * p + j ≡ 4 * q + k + 1 → length_by k + (59 * q + rest_length k) ≡ 59 * p + rest_length j
+one_more q k p j h g e = grind (arith, nat_tests)
+
+made_length-one : (i : ℕ) → length_by (i % 4) + made_length i ≡ made_length (i + 1)
+made_length-one i = one_more (i / 4) (i % 4) ((i + 1) / 4) ((i + 1) % 4) (omega arith) (omega arith) (omega arith)
+
+made_from-length : (i n : ℕ) → length (made_from i n) + made_length i ≡ made_length (i + n)
+made_from-length i zero = zero-add (made_length i) ∙ ap made_length {x = i} {y = i + 0} (omega arith)
+made_from-length i (suc n) =
+    let more : made_length ((i + 1) + n) ≡ made_length (i + suc n) = ap made_length {x = (i + 1) + n} {y = i + suc n} (omega arith) in
+    omega (arith, length-append (made_frame i) (made_from (i + 1) n), made_frame-length i, made_length-one i, made_from-length (i + 1) n)
+
+pub made-length : (n : ℕ) → length (made n) ≡ made_length n
+made-length n =
+    let all : made_length (0 + n) ≡ made_length n = ap made_length {x = 0 + n} {y = n} (omega arith) in
+    omega (arith, made_from-length 0 n)
+
+rest_length-bounds : (k : ℕ) → (rest_length k ≤ 31) × (k ≡ 0 → rest_length k ≡ 0)
+rest_length-bounds k = (grind (arith, nat_tests), λ e. grind (arith, nat_tests))
+
+-- even the longest stream is short
+pub made-short : (n : ℕ) → n ≤ most_frames → length (made n) ≤ 1475000
+made-short n h =
+    let len = made-length n in
+    let bounds = rest_length-bounds (n % 4) in
+    elim (cases_lt (n / 4) 25000) [
+      | inl fewer ↦ omega (arith, bounds.0)
+      | inr most ↦ omega (arith, bounds.1 (omega arith))
+    ]

@@ -1,0 +1,9 @@
+use Rattle.std.proofs.Common.{length, ◌-◌}
+use Rattle.amqp_stream.proofs.Giving.{Giving}
+use Rattle.amqp_stream.proofs.make_source.MakeSourceSource.read.Given as goal
+
+abbrev pub invariant-loop-count : goal.invariant-loop-count
+invariant-loop-count l = Giving l.fn.self l.buf l.self-inside.frame l.self-inside.span l.self-inside.next l.self-inside.frames l.count
+
+abbrev pub decreases-loop-count : goal.decreases-loop-count
+decreases-loop-count l = length l.initial.buf - l.count

@@ -1,0 +1,8 @@
+//! The law of the stream that is generated, the contract of a function that does nothing.
+
+ghost use Rattle.amqp_stream.specs.Made.{MadeIsARow};
+
+/// The first frames are a row of as many frames.
+pub fn made_is_a_row()
+    ensures { MadeIsARow }
+{}

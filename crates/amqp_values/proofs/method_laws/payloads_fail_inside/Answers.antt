@@ -1,0 +1,5 @@
+use Rattle.amqp_values.proofs.PayloadFaults.{payloads_inside}
+use Rattle.amqp_values.proofs.method_laws.payloads_fail_inside.Goals as goal
+
+pub returns : goal.returns
+returns c = payloads_inside

@@ -1,0 +1,5 @@
+use Rattle.amqp_values.proofs.MethodLaws.{payloads_bounded}
+use Rattle.amqp_values.proofs.method_laws.spelled_payloads_are_bounded.Goals as goal
+
+pub returns : goal.returns
+returns c = payloads_bounded
