@@ -1,6 +1,8 @@
-//! Tests that cross crates: streams in pieces, with ends that fail, and at their limits.
+//! Tests that cross crates: fronts of frames; streams in pieces, with ends that fail, and at their limits.
 #![tactic(auto)]
 
+#[cfg(test)]
+mod fronts;
 #[cfg(test)]
 mod limits;
 #[cfg(test)]
