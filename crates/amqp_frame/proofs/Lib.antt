@@ -14,3 +14,6 @@ pub mod Within
 pub mod Standing
 pub mod StrictWalk
 pub mod TableFronts
+pub mod Permuted
+pub mod PayloadsInOrder
+pub mod Reordering

@@ -1,12 +1,12 @@
 -- What a walk over bytes finds that stand as they are written.
-use Rattle.std.proofs.Common.{◌≡◌, ℕ, ◌+◌, ◌-◌, ◌/◌, ◌%◌, ◌*◌, ◌^◌, ◌<◌, ◌≤◌, ltb, Bool, true, false, List, [], ◌∷◌, ◌++◌, length, get_or, take, drop, map, Some, bit_and, refl, sym, ap, ap₂, subst, ◌∙◌, arith, add-zero, add_assoc}
+use Rattle.std.proofs.Common.{◌≡◌, ℕ, ◌+◌, ◌-◌, ◌/◌, ◌%◌, ◌*◌, ◌^◌, ◌<◌, ◌≤◌, ltb, Bool, true, false, List, [], ◌∷◌, ◌++◌, length, get_or, take, drop, map, Some, bit_and, refl, sym, ap, ap₂, subst, ◌∙◌, arith, add-zero, add_assoc, append_assoc, Option}
 use Rattle.std.proofs.lemmas.Bool.{le-ltb, eq-eqb, ne_eqb}
 use Rattle.std.proofs.lemmas.Nat.{pow_pos, shr_split, mod_below, and_mask}
 use Rattle.std.proofs.lemmas.Nat.Bits.{shr_and_one, bit_at-lt}
 use Rattle.std.proofs.lemmas.List.{take_all, length-drop, drop-drop, drop_all, at_drop_more, get_or-drop, take-append-drop, take_rest}
 use Rattle.std.proofs.Math.Seq.{take-add}
 use Rattle.std.specs.Int.{from_be_bytes, bit_at}
-use Rattle.amqp_types.specs.Levels.{strict}
+use Rattle.amqp_types.specs.Levels.{Level, strict}
 use Rattle.amqp_types.specs.Judging.{Judge, took, IsBytes, IsExact}
 use Rattle.amqp_types.specs.Sequences.{SpellsMade, SpellsBoth}
 use Rattle.amqp_types.specs.Numbers.{NumberWidth, bytes2, bytes8, width_of, byte_count, judge_number, SpellsNumber}
@@ -19,7 +19,7 @@ use Rattle.amqp_types.specs.SlotLaws.{is_least}
 use Rattle.amqp_types.specs.Rows.{slots_at}
 use Rattle.amqp_types.specs.Methods.{method}
 use Rattle.amqp_types.specs.MethodSpelling.{SpellsPayload}
-use Rattle.amqp_types.specs.Properties.{properties}
+use Rattle.amqp_types.specs.Properties.{Property, properties}
 use Rattle.amqp_types.specs.PropertyJudging.{first_item}
 use Rattle.amqp_types.specs.PropertySpelling.{SpellsOptional, SpellsSet, SpellsProperties}
 use Rattle.amqp_types.specs.ContentHeaders.{header_slots, header_of_parts, SpellsContentHeader}
@@ -158,21 +158,19 @@ reached_all shapes bytes k at all before =
 
 -- ---- methods
 
-payload_of_slots : (bytes : List ℕ) (class id : ℕ) (slots : List Slot) → SpellsNumber bytes2 (take 2 bytes) class → SpellsNumber bytes2 (take 2 (drop 2 bytes)) id → slots_at class id ≡ Some slots
-    → IsSpelling (SpellsSlots strict slots) (drop 4 bytes) → IsSpelling (SpellsPayload strict) bytes
-payload_of_slots bytes class id slots class_is id_is known found = record {
-  thing = method class id found.thing;
-  spelled = record {
-    slots = slots;
-    class_bytes = take 2 bytes;
-    id_bytes = take 2 (drop 2 bytes);
-    slot_bytes = drop 4 bytes;
-    known = known;
-    bytes_are = sym (take-append-drop 2 bytes) ∙ ap (λ bs. take 2 bytes ++ bs) (sym (take-append-drop 2 (drop 2 bytes)) ∙ ap (λ bs. take 2 (drop 2 bytes) ++ bs) (drop-drop 2 2 bytes));
-    class_is = class_is;
-    id_is = id_is;
-    slots_are = found.spelled;
-  };
+-- a class id, a method id, and behind them the slots
+pub payload_at : (level : Level) (class_bytes id_bytes slot_bytes : List ℕ) (class id : ℕ) (slots : List Slot) (items : List Item) → SpellsNumber bytes2 class_bytes class → SpellsNumber bytes2 id_bytes id → slots_at class id ≡ Some slots
+    → SpellsSlots level slots slot_bytes items → SpellsPayload level (class_bytes ++ (id_bytes ++ slot_bytes)) (method class id items)
+payload_at level class_bytes id_bytes slot_bytes class id slots items class_is id_is known found = record {
+  slots = slots;
+  class_bytes = class_bytes;
+  id_bytes = id_bytes;
+  slot_bytes = slot_bytes;
+  known = known;
+  bytes_are = refl;
+  class_is = class_is;
+  id_is = id_is;
+  slots_are = found;
 }
 
 -- the two bytes in front are a number
@@ -185,16 +183,25 @@ short_front (a ∷ b ∷ bytes) fits long =
     let found = (number_exact bytes2).spelled (a ∷ b ∷ bytes) (a * 256 + b) 2 fits judged in
     found.0
 
+-- both ids, as they are read
+pub ids_front : (bytes : List ℕ) (class id : ℕ) → IsBytes bytes → 4 ≤ length bytes → class ≡ get_or bytes 0 0 * 256 + get_or bytes 1 0 → id ≡ get_or bytes 2 0 * 256 + get_or bytes 3 0
+    → SpellsNumber bytes2 (take 2 bytes) class × SpellsNumber bytes2 (take 2 (drop 2 bytes)) id
+ids_front bytes class id fits long class_is id_is =
+    let P : ℕ → Type 0 = λ x. SpellsNumber bytes2 (take 2 bytes) x in
+    let Q : ℕ → Type 0 = λ x. SpellsNumber bytes2 (take 2 (drop 2 bytes)) x in
+    let behind = short_front (drop 2 bytes) (IsBytes-drop 2 bytes fits) (omega (arith, long, length-drop 2 bytes)) in
+    let second : get_or (drop 2 bytes) 0 0 * 256 + get_or (drop 2 bytes) 1 0 ≡ id = ap₂ (λ a b. a * 256 + b) (get_or-drop 2 bytes 0 0) (get_or-drop 2 bytes 1 0) ∙ sym id_is in
+    (subst P (sym class_is) (short_front bytes fits (omega (arith, long))), subst Q second behind)
+
 pub payload_strict : (bytes : List ℕ) (class id n : ℕ) (shapes : List Shape) → IsBytes bytes → 4 ≤ length bytes
     → class ≡ get_or bytes 0 0 * 256 + get_or bytes 1 0 → id ≡ get_or bytes 2 0 * 256 + get_or bytes 3 0 → Some (slots_of shapes) ≡ slots_at class id
     → StrictFront (SpellsSlots strict (slots_of shapes)) (drop 4 bytes) n → n ≡ length (drop 4 bytes) → IsSpelling (SpellsPayload strict) bytes
 payload_strict bytes class id n shapes fits long class_is id_is known front all =
-    let P : ℕ → Type 0 = λ x. SpellsNumber bytes2 (take 2 bytes) x in
-    let Q : ℕ → Type 0 = λ x. SpellsNumber bytes2 (take 2 (drop 2 bytes)) x in
-    let one = subst P (sym class_is) (short_front bytes fits (omega (arith, long))) in
-    let behind = short_front (drop 2 bytes) (IsBytes-drop 2 bytes fits) (omega (arith, long, length-drop 2 bytes)) in
-    let second : get_or (drop 2 bytes) 0 0 * 256 + get_or (drop 2 bytes) 1 0 ≡ id = ap₂ (λ a b. a * 256 + b) (get_or-drop 2 bytes 0 0) (get_or-drop 2 bytes 1 0) ∙ sym id_is in
-    payload_of_slots bytes class id (slots_of shapes) one (subst Q second behind) (sym known) (whole_front (SpellsSlots strict (slots_of shapes)) (drop 4 bytes) n front all)
+    let ids = ids_front bytes class id fits long class_is id_is in
+    let found = whole_front (SpellsSlots strict (slots_of shapes)) (drop 4 bytes) n front all in
+    let P : List ℕ → Type 0 = λ bs. SpellsPayload strict bs (method class id found.thing) in
+    let same = ap (λ bs. take 2 bytes ++ bs) (ap (λ bs. take 2 (drop 2 bytes) ++ bs) (sym (drop-drop 2 2 bytes)) ∙ take-append-drop 2 (drop 2 bytes)) ∙ take-append-drop 2 bytes in
+    record { thing = method class id found.thing; spelled = subst P same (payload_at strict (take 2 bytes) (take 2 (drop 2 bytes)) (drop 4 bytes) class id (slots_of shapes) found.thing ids.0 ids.1 (sym known) found.spelled) }
 
 -- ---- properties
 
@@ -232,11 +239,46 @@ span_more {First} {Second} {join} {bytes} {a} {b} {c} one two =
 pub set_none : (mask : ℕ) (bytes : List ℕ) (at : ℕ) → StrictSpan (SpellsSet strict mask []) bytes at at
 set_none mask bytes at = record { size = 0; front = record { thing = []; spelled = (refl, refl); within = omega arith }; ends = sym (add-zero at) }
 
+-- some properties, and others behind them
+pub set_append : (level : Level) (mask : ℕ) (ps others : List Property) (bytes more : List ℕ) (options rest : List (Option Item)) → SpellsSet level mask ps bytes options → SpellsSet level mask others more rest
+    → SpellsSet level mask (ps ++ others) (bytes ++ more) (options ++ rest)
+set_append level mask [] others bytes more options rest h s =
+    let P : List ℕ → Type 0 = λ bs. SpellsSet level mask others (bs ++ more) (options ++ rest) in
+    let Q : List (Option Item) → Type 0 = λ os. SpellsSet level mask others more (os ++ rest) in
+    subst P (sym h.0) (subst Q (sym h.1) s)
+set_append level mask (p ∷ ps) others bytes more options rest h s = record {
+  front = h.front;
+  behind = h.behind ++ more;
+  one = h.one;
+  two = h.two ++ rest;
+  bytes_are = ap (λ bs. bs ++ more) h.bytes_are ∙ append_assoc h.front h.behind more;
+  first_is = h.first_is;
+  second_is = set_append level mask ps others h.behind more h.two rest h.second_is s;
+  joined = ap (λ os. os ++ rest) h.joined;
+}
+
+pub set_more : (mask : ℕ) (ps others : List Property) {bytes : List ℕ} {a b c : ℕ} → StrictSpan (SpellsSet strict mask ps) bytes a b → StrictSpan (SpellsSet strict mask others) bytes b c → StrictSpan (SpellsSet strict mask (ps ++ others)) bytes a c
+set_more mask ps others {bytes} {a} {b} {c} one two =
+    let both = span_more {join = λ options rest. options ++ rest} one two in
+    let front = both.front in
+    let parts = front.spelled in
+    let P : List ℕ → Type 0 = λ bs. SpellsSet strict mask (ps ++ others) bs (parts.one ++ parts.two) in
+    record {
+      size = both.size;
+      front = record { thing = parts.one ++ parts.two; spelled = subst P (sym parts.bytes_are) (set_append strict mask ps others parts.front parts.behind parts.one parts.two parts.first_is parts.second_is); within = front.within };
+      ends = both.ends;
+    }
+
+-- the two bits that no property has
+pub low_bits : (mask : ℕ) → bit_and mask 3 ≡ 0 → (flag_at mask 1 ≡ false) × (flag_at mask 0 ≡ false)
+low_bits mask unused =
+    let low : bit_and mask 3 ≡ mask % 4 = and_mask mask 2 in
+    (ne_eqb (bit_at mask 1) 1 (omega (arith, unused, low)), ne_eqb (bit_at mask 0) 1 (omega (arith, unused, low)))
+
 pub properties_front : (bytes : List ℕ) (mask at end : ℕ) → IsBytes bytes → judge_number bytes2 bytes ≡ took mask at → bit_and mask 3 ≡ 0 → StrictSpan (SpellsSet strict mask properties) bytes at end → StrictFront (SpellsProperties strict) bytes end
 properties_front bytes mask at end fits judged unused set =
     let found = (number_exact bytes2).spelled bytes mask at fits judged in
     let front = set.front in
-    let low_bits : bit_and mask 3 ≡ mask % 4 = and_mask mask 2 in
     record {
       thing = front.thing;
       spelled = record {
@@ -245,7 +287,7 @@ properties_front bytes mask at end fits judged unused set =
         fits = found.0.fits;
         bytes_are = ap (λ n. take n bytes) set.ends ∙ take-add at set.size bytes ∙ ap (λ bs. bs ++ take set.size (drop at bytes)) found.0.bytes_are;
         set = front.spelled;
-        unused = (ne_eqb (bit_at mask 1) 1 (omega (arith, unused, low_bits)), ne_eqb (bit_at mask 0) 1 (omega (arith, unused, low_bits)));
+        unused = low_bits mask unused;
       };
       within = omega (arith, set.ends, found.1, front.within, length-drop at bytes);
     }
@@ -253,7 +295,7 @@ properties_front bytes mask at end fits judged unused set =
 -- ---- content headers
 
 -- a class id, a weight that is zero, and a size
-start_front : (bytes : List ℕ) → IsBytes bytes → 12 ≤ length bytes → take 2 (drop 2 bytes) ≡ 0 ∷ 0 ∷ [] → StrictFront (SpellsSlots strict header_slots) bytes 12
+pub start_front : (bytes : List ℕ) → IsBytes bytes → 12 ≤ length bytes → take 2 (drop 2 bytes) ≡ 0 ∷ 0 ∷ [] → StrictFront (SpellsSlots strict header_slots) bytes 12
 unfolding header_slots form_bytes
 start_front bytes fits long weight =
     let Class = SpellsForm strict (number_form bytes2) in

@@ -3,6 +3,7 @@ use Rattle.std.proofs.Common.{◌≡◌, ℕ, zero, suc, ℤ, ◌+◌, ◌-◌, 
 use Rattle.std.proofs.lemmas.Bool.{le-ltb}
 use Rattle.std.proofs.lemmas.Cmp.{nat_list_cmp_total}
 use Rattle.std.proofs.lemmas.List.{length-drop}
+use Rattle.std.proofs.lemmas.List.Sorted.{IsPermutation-refl}
 use Rattle.std.proofs.Math.Seq.{take-add}
 use Rattle.std.specs.Cmp.Lexicographic.{slice_cmp}
 use Rattle.std.specs.Int.{from_be_bytes, cast_signed}
@@ -18,7 +19,7 @@ use Rattle.amqp_types.specs.Booleans.{SpellsBoolean}
 use Rattle.amqp_types.specs.Strings.{judge_short_string, judge_long_string, SpellsShortString, SpellsLongString}
 use Rattle.amqp_types.specs.Values.{FieldValue, Entry, SignedKind, UnsignedKind, short_short_int, short_int, long_int, long_long_int, short_short_uint, short_uint, long_uint, float, double, timestamp, long_string, byte_array, boolean_value, signed_value, unsigned_value, decimal_value, bytes_value, array_value, table_value, void_value, values_of, entries_of}
 use Rattle.amqp_types.specs.ValueBytes.{signed_width, unsigned_width}
-use Rattle.amqp_types.specs.Settling.{IsRising, IsSettled, settled_on}
+use Rattle.amqp_types.specs.Settling.{IsRising, IsSettled}
 use Rattle.amqp_types.specs.Tags.{tag_byte, tag_of}
 use Rattle.amqp_types.specs.ValueSpelling.{SpellsEach, SpellsEntry, SpellsDecimal, SpellsArray, SpellsTable, SpellsBehind, SpellsTagged, SpellsValue}
 use Rattle.amqp_types.specs.Slots.{table_form, entries_item}
@@ -29,9 +30,8 @@ use Rattle.amqp_types.proofs.Bytes.{IsBytes-drop}
 use Rattle.amqp_types.proofs.Numbers.{number_exact}
 use Rattle.amqp_types.proofs.Texts.{short_string_exact, long_string_exact}
 use Rattle.amqp_values.proofs.Conversions.{items-values_of, pairs-entries_of}
-use Rattle.amqp_values.proofs.Parts.{insert_last}
-use Rattle.amqp_values.proofs.Settling.{settles}
 use Rattle.amqp_frame.specs.StrictFronts.{StrictFront, IsSpelling}
+use Rattle.amqp_frame.proofs.Permuted.{settled_permuted}
 use Rattle.amqp_frame.specs.StrictTables.{StrictBelow, IsBehindTag, fixed_size, IsEntryFront, SpellsRising}
 
 -- ---- strings
@@ -173,7 +173,7 @@ value_front (byte ∷ rest) t room n some is h =
 
 -- ---- values and entries, one behind another
 
-each_last : {A : Type 0} (Spells : List ℕ → A → Type 0) (bytes here : List ℕ) (xs : List A) (x : A) → SpellsEach Spells bytes xs → Spells here x → SpellsEach Spells (bytes ++ here) (xs ++ x ∷ [])
+pub each_last : {A : Type 0} (Spells : List ℕ → A → Type 0) (bytes here : List ℕ) (xs : List A) (x : A) → SpellsEach Spells bytes xs → Spells here x → SpellsEach Spells (bytes ++ here) (xs ++ x ∷ [])
 each_last Spells bytes here [] x h s = (here, [], ap (λ bs. bs ++ here) h ∙ sym (append-nil here), s, refl)
 each_last Spells bytes here (y ∷ ys) x h s = (h.0, h.1 ++ here, ap (λ bs. bs ++ here) h.2 ∙ append_assoc h.0 h.1 here, h.3, each_last Spells h.1 here ys x h.4 s)
 
@@ -191,20 +191,20 @@ pub record RisesTo (Spells : List ℕ → FieldValue → Type 0) (content : List
   pub spelled : SpellsRising Spells (take at content) entries
   pub below : (key : List ℕ) → (0 < at → slice_cmp nat_cmp previous key ≡ Less) → AllByRecursion (λ k. slice_cmp nat_cmp k key ≡ Less) (keys_of entries)
 
-all_last : (P : List ℕ → Type 0) (es : List Entry) (e : Entry) → AllByRecursion P (keys_of es) → P e.0 → AllByRecursion P (keys_of (es ++ e ∷ []))
+pub all_last : (P : List ℕ → Type 0) (es : List Entry) (e : Entry) → AllByRecursion P (keys_of es) → P e.0 → AllByRecursion P (keys_of (es ++ e ∷ []))
 all_last P [] e h p = (p, tt)
 all_last P (x ∷ es) e h p = (h.0, all_last P es e h.1 p)
 
-all_below : (es : List Entry) (key next : List ℕ) → AllByRecursion (λ k. slice_cmp nat_cmp k key ≡ Less) (keys_of es) → slice_cmp nat_cmp key next ≡ Less → AllByRecursion (λ k. slice_cmp nat_cmp k next ≡ Less) (keys_of es)
+pub all_below : (es : List Entry) (key next : List ℕ) → AllByRecursion (λ k. slice_cmp nat_cmp k key ≡ Less) (keys_of es) → slice_cmp nat_cmp key next ≡ Less → AllByRecursion (λ k. slice_cmp nat_cmp k next ≡ Less) (keys_of es)
 all_below [] key next h less = tt
 all_below (x ∷ es) key next h less = (nat_list_cmp_total.trans x.0 key next h.0 less, all_below es key next h.1 less)
 
-rising_last : (es : List Entry) (e : Entry) → IsRising es → AllByRecursion (λ k. slice_cmp nat_cmp k e.0 ≡ Less) (keys_of es) → IsRising (es ++ e ∷ [])
+pub rising_last : (es : List Entry) (e : Entry) → IsRising es → AllByRecursion (λ k. slice_cmp nat_cmp k e.0 ≡ Less) (keys_of es) → IsRising (es ++ e ∷ [])
 unfolding IsStrictlySortedBy
 rising_last [] e s h = (tt, tt)
 rising_last (x ∷ es) e s h = (all_last (λ k. slice_cmp nat_cmp x.0 k ≡ Less) es e s.0 h.0, rising_last es e s.1 h.1)
 
-rising_none : IsStrictlySortedBy (slice_cmp nat_cmp) (keys_of {X = FieldValue} [])
+pub rising_none : IsStrictlySortedBy (slice_cmp nat_cmp) (keys_of {X = FieldValue} [])
 unfolding IsStrictlySortedBy
 rising_none = tt
 
@@ -244,16 +244,9 @@ rises_whole Spells content at previous long h = let P : List ℕ → Type 0 = λ
 pub array_front : (Spells : List ℕ → FieldValue → Type 0) (bytes content : List ℕ) (n : ℕ) → SpellsLongString (take n bytes) content → n ≤ length bytes → IsSpelling (SpellsEach Spells) content → StrictFront (SpellsArray Spells) bytes n
 array_front Spells bytes content n framed long h = record { thing = h.thing; spelled = record { inner = content; framed = framed; each = h.spelled }; within = long }
 
-in_order : (found es : List Entry) → IsRising (found ++ es) → settled_on found es ≡ found ++ es
-in_order found [] s = sym (append-nil found)
-in_order found (e ∷ es) s =
-    let P : List Entry → Type 0 = λ xs. IsRising xs in
-    let next : found ++ e ∷ es ≡ (found ++ e ∷ []) ++ es = sym (append_assoc found (e ∷ []) es) in
-    ap (λ xs. settled_on xs es) (insert_last found e es s) ∙ in_order (found ++ e ∷ []) es (subst P next s) ∙ sym next
-
 -- a table in order is settled from its own entries
-own_settled : (es : List Entry) → IsRising es → IsSettled es es
-own_settled es s = let P : List Entry → Type 0 = λ xs. IsSettled xs es in subst P (in_order [] es s) (settles es)
+pub own_settled : (es : List Entry) → IsRising es → IsSettled es es
+own_settled es s = settled_permuted es es s (IsPermutation-refl es)
 
 pub table_front : (Spells : List ℕ → FieldValue → Type 0) (bytes content : List ℕ) (n : ℕ) → SpellsLongString (take n bytes) content → n ≤ length bytes → IsSpelling (SpellsRising Spells) content → StrictFront (SpellsTable strict Spells) bytes n
 table_front Spells bytes content n framed long h = record {

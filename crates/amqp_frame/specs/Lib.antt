@@ -13,3 +13,6 @@ pub mod StrictFronts
 pub mod StrictSpans
 pub mod Rewrites
 pub mod StrictTables
+pub mod Reordered
+pub mod LentEntries
+pub mod Lending

@@ -10,6 +10,8 @@ mod laws;
 mod looking;
 mod parsing;
 mod raw_frame;
+mod reordered;
+mod reordered_tables;
 mod rewriting;
 mod shapes;
 mod strict;

@@ -10,6 +10,7 @@ use crate::frame_type::AMQPFrameType;
 use crate::generation::{put_frame, put_framed};
 use crate::parsing::parse_payload;
 use crate::raw_frame::AMQPRawFrame;
+use crate::reordered::{reordered_content_header, reordered_method};
 use crate::strict::{is_strict_content_header, is_strict_method};
 use amqp_types::ParserError;
 use std::alloc::Global;
@@ -60,6 +61,14 @@ pub fn put_canonical(
         AMQPFrameType::Header if is_strict_content_header(payload) => {
             Ok(put_framed(buf, at, 2, channel_id, payload))
         }
+        AMQPFrameType::Method => match reordered_method(alloc, payload) {
+            Some(written) => Ok(put_framed(buf, at, 1, channel_id, &written)),
+            None => put_read(alloc, buf, at, raw),
+        },
+        AMQPFrameType::Header => match reordered_content_header(alloc, payload) {
+            Some(written) => Ok(put_framed(buf, at, 2, channel_id, &written)),
+            None => put_read(alloc, buf, at, raw),
+        },
         AMQPFrameType::Body => Ok(put_framed(buf, at, 3, channel_id, payload)),
         _ => put_read(alloc, buf, at, raw),
     }

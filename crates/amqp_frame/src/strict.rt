@@ -1,6 +1,6 @@
 //! Tests that tell, without taking memory, that a payload stands as it is written.
 
-ghost use Rattle.std.specs.Prelude.{◌≡◌, ◌≤◌, ◌<◌, ◌∷◌, [], ℕ, length, take, IfSome, IsTrue};
+ghost use Rattle.std.specs.Prelude.{◌≡◌, ◌≤◌, ◌<◌, ◌∷◌, [], ℕ, length, take, drop, IfSome, IsTrue};
 ghost use Rattle.amqp_types.specs.Levels.{strict};
 ghost use Rattle.amqp_types.specs.Numbers.{bytes2, bytes4};
 ghost use Rattle.amqp_types.specs.Flags.{flag_at};
@@ -96,7 +96,7 @@ fn reserved_long(constant: u32, i: &[u8]) -> Option<usize>
 }
 
 /// How many bytes a slot takes at the front, where it stands there as it is written.
-fn strict_slot(shape: Shape, i: &[u8]) -> Option<usize>
+pub(crate) fn strict_slot(shape: Shape, i: &[u8]) -> Option<usize>
     ensures { IfSome result (λ n. StrictFront (SpellsSlot strict (slot_of shape)) i.now n) }
 {
     match shape {
@@ -172,19 +172,35 @@ fn strict_later(mask: u16, i: &[u8], at: usize) -> Option<usize>
     strict_optional(mask, 2, Shape::ShortString, i, at)
 }
 
-/// The place behind the properties that the mask has.
-fn strict_set(mask: u16, i: &[u8], at: usize) -> Option<usize>
+/// The place behind the two properties in front of the table of headers, as far as the mask has them.
+pub(crate) fn strict_content_kind(mask: u16, i: &[u8], at: usize) -> Option<usize>
     requires { at ≤ length i.now }
-    ensures { IfSome result (λ end. (end ≤ length i.now) × StrictSpan (SpellsSet strict mask properties) i.now at end) }
+    ensures { IfSome result (λ end. (end ≤ length i.now) × StrictSpan (SpellsSet strict mask (take 2 properties)) i.now at end) }
 {
     let at = strict_optional(mask, 15, Shape::ShortString, i, at)?;
-    let at = strict_optional(mask, 14, Shape::ShortString, i, at)?;
-    let at = strict_optional(mask, 13, Shape::Table, i, at)?;
+    strict_optional(mask, 14, Shape::ShortString, i, at)
+}
+
+/// The place behind the properties behind the table of headers, as far as the mask has them.
+pub(crate) fn strict_behind_headers(mask: u16, i: &[u8], at: usize) -> Option<usize>
+    requires { at ≤ length i.now }
+    ensures { IfSome result (λ end. (end ≤ length i.now) × StrictSpan (SpellsSet strict mask (drop 3 properties)) i.now at end) }
+{
     let at = strict_optional(mask, 12, Shape::Octet, i, at)?;
     let at = strict_optional(mask, 11, Shape::Octet, i, at)?;
     let at = strict_optional(mask, 10, Shape::ShortString, i, at)?;
     let at = strict_optional(mask, 9, Shape::ShortString, i, at)?;
     strict_later(mask, i, at)
+}
+
+/// The place behind the properties that the mask has.
+fn strict_set(mask: u16, i: &[u8], at: usize) -> Option<usize>
+    requires { at ≤ length i.now }
+    ensures { IfSome result (λ end. (end ≤ length i.now) × StrictSpan (SpellsSet strict mask properties) i.now at end) }
+{
+    let at = strict_content_kind(mask, i, at)?;
+    let at = strict_optional(mask, 13, Shape::Table, i, at)?;
+    strict_behind_headers(mask, i, at)
 }
 
 /// How many bytes properties take at the front, where they stand there as they are written.

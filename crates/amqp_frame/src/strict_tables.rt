@@ -14,10 +14,10 @@ use amqp_types::{FieldTag, parse_long_bytes, parse_short_str};
 use std::cmp::Ordering;
 
 /// How deep tables and arrays may nest in the values of a table.
-const ROOM: usize = 63;
+pub(crate) const ROOM: usize = 63;
 
 /// How many bytes a value takes behind its tag, where the tag alone says it and any bytes are such a value.
-fn size_by_tag(tag: FieldTag) -> Option<usize>
+pub(crate) fn size_by_tag(tag: FieldTag) -> Option<usize>
     ensures { result ≡ fixed_size tag }
 {
     match tag {
@@ -43,7 +43,7 @@ fn strict_boolean(i: &[u8]) -> Option<usize>
 }
 
 /// How many bytes a long string takes at the front, and what it holds.
-fn strict_bytes(i: &[u8]) -> Option<(usize, &[u8])>
+pub(crate) fn strict_bytes(i: &[u8]) -> Option<(usize, &[u8])>
     ensures spelled { IfSome result (λ found. SpellsLongString (take found.0 i.now) found.1.now) }
     ensures within { IfSome result (λ found. found.0 ≤ length i.now) }
 {
@@ -54,7 +54,7 @@ fn strict_bytes(i: &[u8]) -> Option<(usize, &[u8])>
 }
 
 /// How many bytes a short string takes at the front, and its text.
-fn strict_key(i: &[u8]) -> Option<(usize, &[u8])>
+pub(crate) fn strict_key(i: &[u8]) -> Option<(usize, &[u8])>
     ensures spelled { IfSome result (λ found. SpellsShortString (take found.0 i.now) found.1.now) }
     ensures within { IfSome result (λ found. (0 < found.0) × (found.0 ≤ length i.now)) }
 {
@@ -65,7 +65,7 @@ fn strict_key(i: &[u8]) -> Option<(usize, &[u8])>
 }
 
 /// The key comes behind the one before it, in the order of their bytes.
-fn is_above(key: &[u8], previous: &[u8]) -> bool
+pub(crate) fn is_above(key: &[u8], previous: &[u8]) -> bool
     ensures { IsTrue result → IsBelow previous.now key.now }
 {
     match previous.cmp(key) {
@@ -94,7 +94,7 @@ fn strict_value(i: &[u8], room: usize) -> Option<usize>
 
 /// How many bytes the value behind a tag takes at the front.
 #[cycle(tell)]
-fn strict_behind(tag: FieldTag, i: &[u8], room: usize) -> Option<usize>
+pub(crate) fn strict_behind(tag: FieldTag, i: &[u8], room: usize) -> Option<usize>
     ensures { IfSome result (IsBehindTag tag room i.now) }
 {
     match tag {
@@ -190,3 +190,6 @@ pub(crate) fn strict_table(i: &[u8]) -> Option<usize>
 {
     strict_table_within(i, ROOM)
 }
+
+#[cfg(test)]
+mod tests;

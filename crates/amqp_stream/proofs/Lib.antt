@@ -10,3 +10,4 @@ pub mod MadeRows
 pub mod MadeFrames
 pub mod Giving
 pub mod Behind
+pub mod Flushes

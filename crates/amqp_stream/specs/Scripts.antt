@@ -1,6 +1,6 @@
 -- Sources and sinks in memory, and a sink that counts. Some follow a script: which calls fail, and how many bytes each call takes at most.
 use Rattle.std.specs.Prelude.{ℕ, min, max, List, length, nat_lt, if◌then◌else◌, slice_index, Some, None}
-use Rattle.amqp_stream.specs.Ends.{Supply, Store, Number, Bytes}
+use Rattle.amqp_stream.specs.Ends.{Supply, Store, Nothing, Number, Bytes}
 
 -- at most so many bytes: as the script has it for the call, one at least, and past its end as many as fit
 abbrev pub most_of : List ℕ → ℕ → ℕ → ℕ
@@ -43,3 +43,21 @@ pub record Counted : Type 0 where
 
 abbrev pub count_of : Counted → Store
 count_of s = record { taken = Number s.total; faults = s.faults }
+
+-- a reader of the system, and how many of its reads failed
+pub record Reads (R : Type 0) : Type 0 where
+  pub reader : R
+  pub faults : ℕ
+
+-- a source that tells its faults alone
+abbrev pub untold_supply : ℕ → Supply
+untold_supply faults = record { left = None; reads = None; faults = faults }
+
+-- a writer of the system, and how many of its writes failed
+pub record Writes (W : Type 0) : Type 0 where
+  pub writer : W
+  pub faults : ℕ
+
+-- a sink that tells its faults alone
+abbrev pub untold_store : ℕ → Store
+untold_store faults = record { taken = Nothing; faults = faults }

@@ -1,8 +1,9 @@
 //! Sinks in memory, and a writer of the system.
 
-ghost use Rattle.std.specs.Prelude.{◌≡◌, ◌<◌, ◌≤◌, [], length, Contains, IfOk, IsErr, OnErr};
-ghost use Rattle.amqp_stream.specs.Ends.{Gains, Rises, piece_of, Nothing};
-ghost use Rattle.amqp_stream.specs.Scripts.{store_of, most_of};
+ghost use Rattle.std.specs.Prelude.{◌≡◌, ◌<◌, ◌≤◌, [], length, take, Contains, IfOk, IsErr, OnOk, OnErr};
+ghost use Rattle.std.specs.Io.KnownBytes.{Appends};
+ghost use Rattle.amqp_stream.specs.Ends.{Gains, Rises, piece_of};
+ghost use Rattle.amqp_stream.specs.Scripts.{store_of, most_of, untold_store};
 
 use crate::sink::{Sink, SinkFault};
 use crate::sources::most_at;
@@ -146,26 +147,36 @@ pub struct StdSink<W> {
 }
 
 impl<W> Model for StdSink<W> {
-    ghost use Rattle.std.specs.Prelude.{ℕ};
+    ghost use Rattle.amqp_stream.specs.Scripts.{Writes};
 
-    ghost Value = { ℕ };
+    ghost Value = { Writes W };
 
-    ghost view = { λ sink. sink.faults };
+    ghost view = { λ sink. record { writer = sink.writer; faults = sink.faults } };
 }
 
 impl<W: Write> StdSink<W> {
     /// No write has failed yet.
     pub fn new(writer: W) -> StdSink<W>
-        ensures { result ≡ 0 }
+        ensures { result ≡ record { writer = writer; faults = 0 } }
     {
         StdSink { writer, faults: 0 }
     }
 }
 
 impl<W: Write> Sink for StdSink<W> {
-    ghost store = { λ faults. record { taken = Nothing; faults = faults } };
+    ghost store = { λ sink. untold_store sink.faults };
 
-    fn write(&mut self, piece: &[u8]) -> Result<usize, SinkFault> {
+    #[tactic(auto, using(crate::proofs::Flushes::flushed))]
+    fn write(&mut self, piece: &[u8]) -> Result<usize, SinkFault>
+        requires { 0 < length piece.now }
+        ensures some { IfOk result (λ n. (0 < n) × (n ≤ length piece.now)) }
+        ensures gains { Gains (untold_store self.old.faults) (untold_store self.new.faults) (piece_of result piece.now) }
+        ensures fault { OnErr result (Rises self.old.faults self.new.faults) }
+        ensures faultless { OnOk result (self.new.faults ≡ self.old.faults) }
+
+        // Where the writer tells its bytes, those that were taken stand behind the others.
+        ensures bytes { IfOk result (λ n. Appends (W.contents self.old.writer) (W.contents self.new.writer) (take n piece.now)) }
+    {
         match self.writer.write(piece) {
             Ok(count) if count > 0 => match self.writer.flush() {
                 Ok(()) => Ok(count),

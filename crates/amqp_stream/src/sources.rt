@@ -1,8 +1,9 @@
 //! Sources in memory, and a reader of the system.
 
-ghost use Rattle.std.specs.Prelude.{◌≡◌, ◌≢◌, ◌<◌, ◌≤◌, [], length, min, Contains, IfOk, IsErr, OnErr, None, Some};
+ghost use Rattle.std.specs.Prelude.{◌≡◌, ◌≢◌, ◌<◌, ◌≤◌, [], length, min, Contains, IfOk, IsErr, OnOk, OnErr, None, Some};
 ghost use Rattle.amqp_stream.specs.Ends.{Takes, Rises, IsEmpty, piece_of};
-ghost use Rattle.amqp_stream.specs.Scripts.{supply_of, most_of};
+ghost use Rattle.std.specs.Io.KnownBytes.{ReadConsumes};
+ghost use Rattle.amqp_stream.specs.Scripts.{supply_of, most_of, untold_supply};
 
 use crate::source::{Source, SourceFault};
 use std::io::Read;
@@ -128,26 +129,35 @@ pub struct StdSource<R> {
 }
 
 impl<R> Model for StdSource<R> {
-    ghost use Rattle.std.specs.Prelude.{ℕ};
+    ghost use Rattle.amqp_stream.specs.Scripts.{Reads};
 
-    ghost Value = { ℕ };
+    ghost Value = { Reads R };
 
-    ghost view = { λ source. source.faults };
+    ghost view = { λ source. record { reader = source.reader; faults = source.faults } };
 }
 
 impl<R: Read> StdSource<R> {
     /// No read has failed yet.
     pub fn new(reader: R) -> StdSource<R>
-        ensures { result ≡ 0 }
+        ensures { result ≡ record { reader = reader; faults = 0 } }
     {
         StdSource { reader, faults: 0 }
     }
 }
 
 impl<R: Read> Source for StdSource<R> {
-    ghost supply = { λ faults. record { left = None; reads = None; faults = faults } };
+    ghost supply = { λ source. untold_supply source.faults };
 
-    fn read(&mut self, buf: &mut [u8]) -> Result<usize, SourceFault> {
+    fn read(&mut self, buf: &mut [u8]) -> Result<usize, SourceFault>
+        requires { 0 < length buf.old }
+        ensures bound { IfOk result (λ n. n ≤ length buf.old) }
+        ensures takes { Takes (untold_supply self.old.faults) (untold_supply self.new.faults) (piece_of result buf.new) 1 }
+        ensures fault { OnErr result (Rises self.old.faults self.new.faults) }
+        ensures faultless { OnOk result (self.new.faults ≡ self.old.faults) }
+
+        // Where the reader tells its bytes, the next of them are given, and after a fault none is lost.
+        ensures bytes { ReadConsumes (R.remaining self.old.reader) (R.remaining self.new.reader) result buf.new }
+    {
         match self.reader.read(buf) {
             Ok(count) => Ok(count),
             Err(_) => {

@@ -1,6 +1,6 @@
 //! A buffer in which canonical bytes wait to be written together.
 
-ghost use Rattle.std.specs.Prelude.{◌≡◌, ◌+◌, ◌++◌, ◌^◌, ◌<◌, ◌≤◌, [], length, take, Ok, None, IfOk, IfErr, IfSome, IsSome, IsTrue, false};
+ghost use Rattle.std.specs.Prelude.{◌≡◌, ◌↔◌, ◌+◌, ◌++◌, ◌^◌, ◌<◌, ◌≤◌, [], length, take, Ok, None, IfOk, IfErr, IfSome, IsSome, IsTrue, false};
 ghost use Rattle.amqp_frame.specs.Frames.{frame_of, raw_of};
 ghost use Rattle.amqp_frame.specs.Spelling.{framed};
 ghost use Rattle.amqp_frame.specs.Canonical.{canon, size_of};
@@ -112,6 +112,9 @@ impl Waiting {
         ensures room { self.new.room ≡ self.old.room }
         ensures pushed { IsTrue result → self.new.bytes ≡ self.old.bytes ++ bytes.now }
         ensures full { result ≡ false → self.new.bytes ≡ self.old.bytes }
+
+        // Bytes wait wherever there is room for them.
+        ensures fits { length self.old.bytes + length bytes.now ≤ self.old.room → IsTrue result }
     {
         if bytes.len() > self.buf.len() - self.len {
             return false;
@@ -126,6 +129,9 @@ impl Waiting {
         ensures room { self.new.room ≡ self.old.room }
         ensures pushed { IsTrue result → self.new.bytes ≡ self.old.bytes ++ framed 3 channel_id payload.now }
         ensures full { result ≡ false → self.new.bytes ≡ self.old.bytes }
+
+        // A body frame waits wherever there is room for it.
+        ensures fits { length self.old.bytes + length (framed 3 channel_id payload.now) ≤ self.old.room → IsTrue result }
     {
         if payload.len() + 8 > self.buf.len() - self.len {
             return false;
@@ -136,7 +142,7 @@ impl Waiting {
 
     /// Whether there is room for so many bytes more.
     pub fn has_room(&self, count: usize) -> bool
-        ensures { IsTrue result → length self.now.bytes + count ≤ self.now.room }
+        ensures { IsTrue result ↔ length self.now.bytes + count ≤ self.now.room }
     {
         count <= self.buf.len() - self.len
     }
