@@ -1,8 +1,8 @@
 //! Sinks in memory, and a writer of the system.
 
-ghost use Rattle.std.specs.Prelude.{◌≡◌, ◌<◌, ◌≤◌, [], length, take, Contains, IfOk, IsErr, OnOk, OnErr};
+ghost use Rattle.std.specs.Prelude.{◌≡◌, ◌+◌, ◌<◌, ◌≤◌, [], length, min, take, Contains, IfOk, IsErr, OnOk, OnErr};
 ghost use Rattle.std.specs.Io.KnownBytes.{Appends};
-ghost use Rattle.amqp_stream.specs.Ends.{Gains, Rises, piece_of};
+ghost use Rattle.amqp_stream.specs.Ends.{Gains, Rises, last, piece_of};
 ghost use Rattle.amqp_stream.specs.Scripts.{store_of, most_of, untold_store};
 
 use crate::sink::{Sink, SinkFault};
@@ -53,6 +53,7 @@ impl Sink for VecSink {
         ensures some { IfOk result (λ n. (0 < n) × (n ≤ length piece.now)) }
         ensures gains { Gains (store_of self.old) (store_of self.new) (piece_of result piece.now) }
         ensures fault { OnErr result (Rises self.old.faults self.new.faults) }
+        ensures faultless { OnOk result (self.new.faults ≡ self.old.faults) }
 
         // A write that does not fail takes the whole piece.
         ensures whole { IfOk result (λ n. n ≡ length piece.now) }
@@ -121,6 +122,10 @@ impl<'a> Sink for ScriptSink<'a> {
         ensures some { IfOk result (λ n. (0 < n) × (n ≤ length piece.now)) }
         ensures gains { Gains (store_of self.old.kept) (store_of self.new.kept) (piece_of result piece.now) }
         ensures fault { OnErr result (Rises self.old.kept.faults self.new.kept.faults) }
+        ensures faultless { OnOk result (self.new.kept.faults ≡ self.old.kept.faults) }
+
+        // Each call is counted, whether it fails or not.
+        ensures writes { self.new.writes ≡ min (self.old.writes + 1) last }
 
         // A listed call fails. Any other that does not want memory takes as the script has it.
         ensures listed { Contains self.old.failing self.old.writes → IsErr result }

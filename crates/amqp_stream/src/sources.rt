@@ -3,7 +3,7 @@
 ghost use Rattle.std.specs.Prelude.{◌≡◌, ◌≢◌, ◌<◌, ◌≤◌, [], length, min, Contains, IfOk, IsErr, OnOk, OnErr, None, Some};
 ghost use Rattle.amqp_stream.specs.Ends.{Takes, Rises, IsEmpty, piece_of};
 ghost use Rattle.std.specs.Io.KnownBytes.{ReadConsumes};
-ghost use Rattle.amqp_stream.specs.Scripts.{supply_of, most_of, untold_supply};
+ghost use Rattle.amqp_stream.specs.Scripts.{supply_of, faultless, most_of, untold_supply};
 
 use crate::source::{Source, SourceFault};
 use std::io::Read;
@@ -33,7 +33,7 @@ impl<'a> SliceSource<'a> {
 }
 
 impl<'a> Source for SliceSource<'a> {
-    ghost supply = { λ left. record { left = Some left; reads = None; faults = 0 } };
+    ghost supply = { faultless };
 
     fn read(&mut self, buf: &mut [u8]) -> Result<usize, SourceFault> {
         let count = self.bytes.len().min(buf.len());
@@ -99,6 +99,7 @@ impl<'a> Source for PieceSource<'a> {
         ensures takes { Takes (supply_of self.old) (supply_of self.new) (piece_of result buf.new) 1 }
         ensures end { IfOk result (λ n. n ≡ 0 → IsEmpty (supply_of self.new).left) }
         ensures fault { OnErr result (Rises self.old.faults self.new.faults) }
+        ensures faultless { OnOk result (self.new.faults ≡ self.old.faults) }
 
         // A listed call fails, and no other. Any other gives as the script has it.
         ensures listed { Contains self.old.failing self.old.reads → IsErr result }

@@ -2,13 +2,14 @@
 
 use crate::asking::{answers, reads, same};
 use amqp_values::{
-    AMQPFlags, ByteArray, LongString, MakeError, ParserError, ShortString, gen_byte_array,
-    gen_flags, gen_long_string, gen_short_string, parse_byte_array, parse_flags, parse_long_bytes,
-    parse_long_string, parse_short_str, parse_short_string, parse_table_bytes, put_byte_array,
-    put_flags, put_long_string, put_short_string, size_byte_array, size_flags, size_long_string,
-    size_short_string,
+    AMQPFlags, ByteArray, LongString, MakeError, ParserError, ShortString, byte_of_flags,
+    flag_of_byte, gen_byte_array, gen_flags, gen_long_string, gen_short_string, parse_byte_array,
+    parse_flags, parse_long_bytes, parse_long_string, parse_short_str, parse_short_string,
+    parse_table_bytes, put_byte_array, put_flags, put_long_string, put_short_string,
+    size_byte_array, size_flags, size_long_string, size_short_string,
 };
 use std::alloc::Global;
+use std::collections::HashSet;
 use std::test::Fail;
 
 #[test]
@@ -18,7 +19,9 @@ fn short_strings_have_at_most_255_bytes(rt: HostRuntime) -> Result<(), Fail> {
     for _ in 0..255 {
         text.push('a')?;
     }
-    assert_eq!(rt; ShortString::new(alloc, &text)?.len(), 255);
+    let longest = ShortString::new(alloc, &text)?;
+    assert_eq!(rt; longest.len(), 255);
+    assert_eq!(rt; longest.as_str(), text.as_str());
     text.push('a')?;
     assert_eq!(rt; ShortString::new(alloc, &text), Err(MakeError::TooLong));
     assert!(rt; ShortString::new(alloc, "")?.is_empty());
@@ -32,9 +35,21 @@ fn short_strings_are_compared_by_bytes(rt: HostRuntime) -> Result<(), Fail> {
     let upper = ShortString::new(alloc, "Queue")?;
     assert!(rt; upper < lower);
     assert!(rt; upper != lower);
+    // the first byte of the letter is 195
+    assert!(rt; lower < ShortString::new(alloc, "\u{e9}")?);
     assert_eq!(rt; lower.copy(alloc)?, lower);
     assert_eq!(rt; ShortString::empty(alloc).as_str(), "");
     assert_eq!(rt; format!(in alloc; "{lower}")?.as_str(), "queue");
+    Ok(())
+}
+
+#[test]
+fn equal_short_strings_hash_alike(rt: HostRuntime) -> Result<(), Fail> {
+    let alloc = rt.alloc();
+    let mut set = HashSet::new(alloc);
+    set.insert(ShortString::new(alloc, "queue")?)?;
+    assert!(rt; set.contains(&ShortString::new(alloc, "queue")?));
+    assert!(rt; !set.contains(&ShortString::new(alloc, "Queue")?));
     Ok(())
 }
 
@@ -50,6 +65,7 @@ fn short_string_agrees(alloc: Global, out: &mut Vec<u8>, string: &ShortString) -
 
 fn long_string_agrees(alloc: Global, out: &mut Vec<u8>, string: &LongString) -> Result<(), Fail> {
     gen_long_string(alloc, out, string.as_bytes())?;
+    same(string.len(), 2)?;
     reads(parse_long_string(alloc, &WRITTEN[2..]), 6, string)?;
     reads(parse_long_bytes(&WRITTEN[2..]), 6, &string.as_bytes())?;
     reads(parse_table_bytes(&WRITTEN[2..]), 6, &string.as_bytes())?;
@@ -58,6 +74,7 @@ fn long_string_agrees(alloc: Global, out: &mut Vec<u8>, string: &LongString) -> 
 
 fn byte_array_agrees(alloc: Global, out: &mut Vec<u8>, array: &ByteArray) -> Result<(), Fail> {
     gen_byte_array(alloc, out, array)?;
+    same(array.as_slice(), &[99])?;
     reads(parse_byte_array(alloc, &WRITTEN[8..]), 5, array)?;
     answers(array.copy(alloc), array)
 }
@@ -76,6 +93,7 @@ fn strings_are_read_as_written(rt: HostRuntime) -> Result<(), Fail> {
 #[test]
 fn empty_strings_hold_no_bytes(rt: HostRuntime) -> Result<(), Fail> {
     same(LongString::empty(rt.alloc()).len(), 0)?;
+    same(LongString::empty(rt.alloc()).is_empty(), true)?;
     same(ByteArray::empty(rt.alloc()).len(), 0)
 }
 
@@ -137,4 +155,17 @@ fn the_first_flag_is_the_lowest_bit(rt: HostRuntime) -> Result<(), Fail> {
     assert_eq!(rt; put_flags(&mut buf, 0, &flags), 1);
     assert_eq!(rt; buf, [1, 9]);
     Ok(())
+}
+
+#[test]
+fn eight_flags_fill_a_byte() -> Result<(), Fail> {
+    let (used, flags) = parse_flags(&[130], 8)?;
+    same(used, 1)?;
+    same(flags.is_empty(), false)?;
+    same(flags.to_byte(), 130)?;
+    same(flags.get_flag(7), Some(true))?;
+    same(flags.get_flag(8), None)?;
+    same(byte_of_flags(&[false, true]), 2)?;
+    same(flag_of_byte(2, 1), true)?;
+    same(parse_flags(&[], 1).err(), Some(ParserError::Incomplete))
 }

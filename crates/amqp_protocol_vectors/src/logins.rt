@@ -1,6 +1,5 @@
 //! What clients log in with, and the numbers of the protocol.
 
-use crate::asking::{answers, same};
 use amqp_protocol::constants::{
     FRAME_BODY, FRAME_END, FRAME_HEADER, FRAME_HEARTBEAT, FRAME_METHOD, FRAME_MIN_SIZE,
     REPLY_SUCCESS,
@@ -8,6 +7,7 @@ use amqp_protocol::constants::{
 use amqp_protocol::metadata::PORT;
 use amqp_protocol::{AMQPUserInfo, Credentials, SASLMechanism};
 use amqp_types::{LongString, MakeError};
+use amqp_vectors::asking::{answers, same};
 use std::alloc::Global;
 use std::test::Fail;
 

@@ -1,11 +1,11 @@
 //! A table and an array that hold all 17 kinds of values.
 
-use crate::asking::{answers, reads, same};
 use amqp_values::{
-    AMQPValue, ByteArray, DecimalValue, FieldArray, FieldTable, LongString, ShortString,
+    AMQPValue, ByteArray, DecimalValue, FieldArray, FieldTable, FieldTag, LongString, ShortString,
     gen_field_array, gen_field_table, gen_value, parse_field_array, parse_field_table, parse_value,
     put_field_array, put_field_table, put_value, size_field_array, size_field_table, size_value,
 };
+use amqp_vectors::asking::{answers, reads, same};
 use std::alloc::Global;
 use std::test::Fail;
 
@@ -39,36 +39,86 @@ fn each_kind(alloc: Global) -> Result<Vec<AMQPValue>, Fail> {
 /// The tags of the 17 kinds, in the same order.
 const TAGS: &str = "tbBsuIilfdDSATFxV";
 
-fn value_agrees(alloc: Global, value: &AMQPValue, tag: u8) -> Result<(), Fail> {
+/// What is written for the 17 values, the tag first, in the same order.
+const WRITTEN: [&[u8]; 17] = [
+    &[116, 1],
+    &[98, 255],
+    &[66, 1],
+    &[115, 255, 254],
+    &[117, 0, 2],
+    &[73, 255, 255, 255, 252],
+    &[105, 0, 0, 0, 4],
+    &[108, 255, 255, 255, 255, 255, 255, 255, 248],
+    &[102, 63, 128, 0, 0],
+    &[100, 63, 240, 0, 0, 0, 0, 0, 0],
+    &[68, 1, 0, 0, 0, 15],
+    &[83, 0, 0, 0, 1, 97],
+    &[65, 0, 0, 0, 0],
+    &[84, 0, 0, 0, 0, 0, 0, 0, 8],
+    &[70, 0, 0, 0, 0],
+    &[120, 0, 0, 0, 1, 98],
+    &[86],
+];
+
+fn value_agrees(alloc: Global, value: &AMQPValue, written: &[u8]) -> Result<(), Fail> {
     let mut out = Vec::new(alloc);
     gen_value(alloc, &mut out, value)?;
-    same(out.first(), Some(&tag))?;
+    same(out.as_slice(), written)?;
+    let tag = value.tag();
+    same(Some(&tag.to_byte()), written.first())?;
+    same(FieldTag::from_byte(tag.to_byte()), Some(tag))?;
     same(size_value(value), Ok(out.len() as u64))?;
-    reads(parse_value(alloc, &out), out.len(), value)?;
+    reads(parse_value(alloc, written), written.len(), value)?;
     answers(value.copy(alloc), value)?;
     let mut buf = vec![in alloc; 0; out.len()]?;
-    put_value(&mut buf, 0, value);
+    same(put_value(&mut buf, 0, value), out.len())?;
     same(buf, out)
 }
 
 #[test]
 fn each_kind_is_read_as_written(rt: HostRuntime) -> Result<(), Fail> {
     let alloc = rt.alloc();
-    for (value, tag) in each_kind(alloc)?.iter().zip(TAGS.bytes()) {
-        value_agrees(alloc, value, tag)?;
+    for (value, written) in each_kind(alloc)?.iter().zip(WRITTEN) {
+        value_agrees(alloc, value, written)?;
     }
     Ok(())
+}
+
+#[test]
+fn no_two_kinds_are_equal(rt: HostRuntime) -> Result<(), Fail> {
+    let values = each_kind(rt.alloc())?;
+    for (k, one) in values.iter().enumerate() {
+        for (m, other) in values.iter().enumerate() {
+            same(one == other, k == m)?;
+        }
+    }
+    Ok(())
+}
+
+/// What is written for the table of the 17 values, each under its tag as the key.
+fn written_table(alloc: Global) -> Result<Vec<u8>, Fail> {
+    let mut bytes = vec![in alloc; 0, 0, 0, 117]?;
+    for key in "ABDFISTVbdfilstux".bytes() {
+        bytes.extend_from_slice(&[1, key])?;
+        for value in WRITTEN {
+            if value.first() == Some(&key) {
+                bytes.extend_from_slice(value)?;
+            }
+        }
+    }
+    Ok(bytes)
 }
 
 fn table_agrees(alloc: Global, table: &FieldTable) -> Result<(), Fail> {
     same(table.len(), 17)?;
     let mut out = Vec::new(alloc);
     gen_field_table(alloc, &mut out, table)?;
+    same(out.as_slice(), written_table(alloc)?.as_slice())?;
     same(size_field_table(table), Ok(out.len() as u64))?;
     reads(parse_field_table(alloc, &out), out.len(), table)?;
     answers(table.copy(alloc), table)?;
     let mut buf = vec![in alloc; 0; out.len()]?;
-    put_field_table(&mut buf, 0, table);
+    same(put_field_table(&mut buf, 0, table), out.len())?;
     same(buf, out)
 }
 
@@ -86,15 +136,25 @@ fn a_table_of_each_kind(rt: HostRuntime) -> Result<(), Fail> {
     table_agrees(alloc, &table)
 }
 
+/// What is written for the array of the 17 values.
+fn written_array(alloc: Global) -> Result<Vec<u8>, Fail> {
+    let mut bytes = vec![in alloc; 0, 0, 0, 83]?;
+    for value in WRITTEN {
+        bytes.extend_from_slice(value)?;
+    }
+    Ok(bytes)
+}
+
 fn array_agrees(alloc: Global, array: &FieldArray) -> Result<(), Fail> {
     same(array.len(), 17)?;
     let mut out = Vec::new(alloc);
     gen_field_array(alloc, &mut out, array)?;
+    same(out.as_slice(), written_array(alloc)?.as_slice())?;
     same(size_field_array(array), Ok(out.len() as u64))?;
     reads(parse_field_array(alloc, &out), out.len(), array)?;
     answers(array.copy(alloc), array)?;
     let mut buf = vec![in alloc; 0; out.len()]?;
-    put_field_array(&mut buf, 0, array);
+    same(put_field_array(&mut buf, 0, array), out.len())?;
     same(buf, out)
 }
 

@@ -1,8 +1,8 @@
 //! The codes of errors, their texts, and the methods that close with them.
 
-use crate::asking::{answers, same, shows};
 use amqp_protocol::{AMQPError, AMQPErrorKind, AMQPHardError, AMQPSoftError, channel, connection};
 use amqp_types::{Identifier, ShortString};
+use amqp_vectors::asking::{answers, same, shows};
 use std::alloc::Global;
 use std::test::Fail;
 

@@ -1,10 +1,10 @@
 //! Tables as they are read, and as they are written then.
 
-use crate::asking::{reads, same};
 use amqp_values::{
     AMQPValue, FieldArray, FieldTable, ParserError, ShortString, gen_field_table, gen_value,
     parse_field_array, parse_field_table, parse_value, size_field_table,
 };
+use amqp_vectors::asking::{reads, same};
 use std::alloc::Global;
 use std::test::Fail;
 
@@ -70,16 +70,21 @@ fn faults_of_tables(rt: HostRuntime) -> Result<(), Fail> {
     )
 }
 
+fn value_is_refused(alloc: Global, bytes: &[u8], error: ParserError) -> Result<(), Fail> {
+    same(parse_value(alloc, bytes).err(), Some(error))
+}
+
 #[test]
 fn faults_of_arrays_and_values(rt: HostRuntime) -> Result<(), Fail> {
     let alloc = rt.alloc();
     let array = parse_field_array(alloc, &[0, 0, 0, 1, 116]);
     same(array.err(), Some(ParserError::ShortPayload))?;
-    same(
-        parse_value(alloc, &[116]).err(),
-        Some(ParserError::Incomplete),
-    )?;
-    same(parse_value(alloc, &[]).err(), Some(ParserError::Incomplete))
+    let array = parse_field_array(alloc, &[0, 0, 0, 1]);
+    same(array.err(), Some(ParserError::Incomplete))?;
+    value_is_refused(alloc, &[], ParserError::Incomplete)?;
+    value_is_refused(alloc, &[116], ParserError::Incomplete)?;
+    value_is_refused(alloc, &[65, 0, 0, 0, 1, 116], ParserError::ShortPayload)?;
+    value_is_refused(alloc, &[90], ParserError::UnknownTag)
 }
 
 /// Fails unless a value under the key `a` is read from the first bytes, and written as the others.
@@ -123,8 +128,11 @@ fn made(alloc: Global) -> Result<FieldTable, Fail> {
 
 fn has_two_entries(alloc: Global, table: &FieldTable) -> Result<(), Fail> {
     same(table.len(), 2)?;
+    same(table.get("a"), Some(&AMQPValue::ShortInt(-2)))?;
     same(table.get("b"), Some(&AMQPValue::Boolean(true)))?;
     same(table.get("c"), None)?;
+    same(table.iter().len(), 2)?;
+    same(table.is_empty(), false)?;
     same(size_field_table(table), Ok(13))?;
     let mut keys = String::new(alloc);
     for (key, _) in table.iter() {
@@ -141,6 +149,7 @@ fn tables_are_made_and_asked(rt: HostRuntime) -> Result<(), Fail> {
 
 fn holds(array: &FieldArray, value: &AMQPValue) -> Result<(), Fail> {
     same(array.len(), 1)?;
+    same(array.is_empty(), false)?;
     same(array.as_slice().first(), Some(value))
 }
 

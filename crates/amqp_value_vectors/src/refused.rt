@@ -1,7 +1,7 @@
 //! Memory that runs out: `rt try --test --fail-alloc N` lets the Nth allocation of each test fail.
 
 use amqp_values::{
-    AMQPValue, FieldArray, FieldTable, GenError, NoMemory, ParserError, ShortString,
+    AMQPValue, FieldArray, FieldTable, GenError, MakeError, NoMemory, ParserError, ShortString,
     gen_field_table, parse_field_table, size_field_table,
 };
 
@@ -9,13 +9,18 @@ const KEYS: [&str; 16] = [
     "a", "b", "c", "d", "e", "f", "g", "h", "i", "j", "k", "l", "m", "n", "o", "p",
 ];
 
+/// `insert` is refused with N = 2, where the table is empty, and with 18 and 19, where it holds 15 entries.
 #[test]
 fn refused_memory_leaves_a_table(rt: HostRuntime) {
     let alloc = rt.alloc();
     let mut table = FieldTable::new(alloc);
     for letter in KEYS {
-        let Ok(key) = ShortString::new(alloc, letter) else {
-            return;
+        let key = match ShortString::new(alloc, letter) {
+            Ok(key) => key,
+            Err(error) => {
+                assert_eq!(rt; error, MakeError::NoMemory);
+                return;
+            }
         };
         let held = table.len();
         match table.insert(key, AMQPValue::Boolean(true)) {
@@ -24,6 +29,9 @@ fn refused_memory_leaves_a_table(rt: HostRuntime) {
                 assert_eq!(rt; error, NoMemory);
                 assert_eq!(rt; table.len(), held);
                 assert!(rt; table.get(letter).is_none());
+                for kept in KEYS.iter().take(held) {
+                    assert!(rt; table.get(kept) == Some(&AMQPValue::Boolean(true)));
+                }
             }
         }
     }
@@ -43,7 +51,10 @@ fn refused_memory_leaves_an_array(rt: HostRuntime) {
     for number in 0..9 {
         let held = array.len();
         match array.push(AMQPValue::ShortInt(number)) {
-            Ok(()) => assert!(rt; array.len() > held),
+            Ok(()) => {
+                let pushed = array.as_slice().get(held);
+                assert!(rt; pushed == Some(&AMQPValue::ShortInt(number)));
+            }
             Err(error) => {
                 assert_eq!(rt; error, NoMemory);
                 assert_eq!(rt; array.len(), held);

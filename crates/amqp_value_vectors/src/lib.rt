@@ -1,0 +1,12 @@
+//! Tests of values, arrays and tables: worked rows of bytes with what they are read as and written as,
+//! each call once, and memory that is refused.
+#![tactic(auto)]
+
+#[cfg(test)]
+mod kinds;
+#[cfg(test)]
+mod nests;
+#[cfg(test)]
+mod refused;
+#[cfg(test)]
+mod tables;
