@@ -14,6 +14,8 @@ pub mod Within
 pub mod Standing
 pub mod StrictWalk
 pub mod TableFronts
+pub mod Placed
 pub mod Permuted
 pub mod PayloadsInOrder
 pub mod Reordering
+pub mod EntriesPut

@@ -1,11 +1,11 @@
 -- Payloads, of which the entries of a table are written in another order.
-use Rattle.std.proofs.Common.{◌≡◌, ℕ, ◌+◌, ◌-◌, ◌*◌, ◌<◌, ◌≤◌, Bool, true, false, List, [], ◌∷◌, ◌++◌, length, get_or, take, drop, map, Option, Some, bit_and, refl, sym, ap, subst, ◌∙◌, arith, append_assoc, append-nil}
+use Rattle.std.proofs.Common.{◌≡◌, ℕ, ◌+◌, ◌-◌, ◌*◌, ◌<◌, ◌≤◌, Bool, true, false, List, [], ◌∷◌, ◌++◌, length, get_or, take, drop, Option, Some, bit_and, refl, sym, ap, subst, ◌∙◌, arith, append_assoc, append-nil}
 use Rattle.std.proofs.lemmas.List.{take_all, take_more, take_rest, take-append-drop, map-append, length-drop}
 use Rattle.std.proofs.Math.Seq.{take-add}
 use Rattle.amqp_types.specs.Levels.{Level, plain, strict}
 use Rattle.amqp_types.specs.Judging.{Judge, took, IsBytes}
 use Rattle.amqp_types.specs.FormLaws.{IsLawful}
-use Rattle.amqp_types.specs.Numbers.{bytes2, SpellsNumber, judge_number}
+use Rattle.amqp_types.specs.Numbers.{bytes2, judge_number}
 use Rattle.amqp_types.specs.Flags.{flag_at}
 use Rattle.amqp_types.specs.Slots.{Item, Form, table_form, Slot, kept_slot, reserved_slot}
 use Rattle.amqp_types.specs.SlotSpelling.{SpellsForm, SpellsSlot, SpellsSlots}

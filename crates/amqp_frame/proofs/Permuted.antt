@@ -1,25 +1,26 @@
 -- Entries that are read in another order than that of their bytes make the same table.
-use Rattle.std.proofs.Common.{◌≡◌, ℕ, List, [], ◌∷◌, length, map, Bool, true, false, cond, Option, Some, None, IfSome, refl, sym, ap, ap₂, subst, ◌∙◌, arith}
+use Rattle.std.proofs.Common.{◌≡◌, ℕ, List, [], ◌∷◌, length, map, Bool, true, false, cond, Option, Some, None, refl, sym, ap, ap₂, subst, ◌∙◌, arith}
 use Rattle.std.proofs.Math.ListN.{get_or, set, get_or-map}
 use Rattle.std.proofs.lemmas.Cmp.{nat_list_cmp_total, eq_by_cmp_equiv}
 use Rattle.std.proofs.lemmas.List.{map-set, length-map}
-use Rattle.std.proofs.lemmas.List.Sorted.{IsPermutation-refl, IsPermutation-sym, IsPermutation-trans, IsPermutation-swap, IsPermutation-keeps, IsPermutation-map, Contains-permutation}
+use Rattle.std.proofs.lemmas.List.Sorted.{IsPermutation-refl, IsPermutation-sym, IsPermutation-trans, IsPermutation-swap, IsPermutation-keeps}
 use Rattle.std.proofs.lemmas.Map.{lookup-none}
 use Rattle.std.proofs.lemmas.Map.Entries.{none_past_head}
-use Rattle.std.proofs.lemmas.Map.Keys.{IsDistinct-from_sorted, IsDistinct-tail, IsDistinct-IsPermutation}
-use Rattle.std.proofs.lemmas.Map.Lookups.{exact_bytes}
-use Rattle.std.proofs.lemmas.Map.Views.{IfSome-lookup, lookup-from_Contains, tells_apart}
-use Rattle.std.proofs.lemmas.Option.{IfSome_then}
+use Rattle.std.proofs.lemmas.Map.Keys.{IsDistinct-from_sorted, IsDistinct-tail}
 use Rattle.std.specs.Cmp.{IsEquivalence}
 use Rattle.std.specs.Cmp.Lexicographic.{slice_cmp}
-use Rattle.std.specs.List.{swap, IsDistinct}
+use Rattle.std.specs.List.{swap, IsDistinct, AllByRecursion}
 use Rattle.std.specs.List.Sorted.{IsPermutation}
 use Rattle.std.specs.Map.{keys_of}
 use Rattle.std.specs.Ordering.{nat_cmp, eq_by_cmp}
 use Rattle.amqp_types.specs.Settling.{IsRising, IsSettled, value_at, later, last_at}
 use Rattle.amqp_types.specs.Values.{FieldValue, Entry}
 use Rattle.amqp_types.specs.ValueSpelling.{SpellsEach, SpellsEntry}
-use Rattle.amqp_frame.specs.LentEntries.{Lent, SpellsLent, AreRead}
+use Rattle.amqp_frame.specs.LentEntries.{SpellsLent, AreRead}
+use Rattle.amqp_frame.specs.Lending.{key_of, lent_of, place_of}
+use Rattle.amqp_frame.specs.Places.{Precedes, ArePlaced}
+use Rattle.amqp_frame.specs.declared.lent_entries.LentEntry.{LentEntry}
+use Rattle.amqp_frame.proofs.Placed.{settled_in_order}
 
 -- ---- lists whose elements change places
 
@@ -61,42 +62,24 @@ first_is_last key (e ∷ es) differ =
     first_or_later (same_key key e.0) e.1 (value_at key es) (λ here. lookup-none (same_key key) es (none_past_head key_laws key e es differ here))
     ∙ ap (λ o. later o (cond (same_key key e.0) (Some e.1) None)) (first_is_last key es (IsDistinct-tail same_key e.0 (keys_of es) differ))
 
--- what is found is found in another order too
-found_permuted : (key : List ℕ) (es fs : List Entry) → IsPermutation es fs → IsDistinct same_key (keys_of fs) → IfSome (value_at key es) (λ v. value_at key fs ≡ Some v)
-found_permuted key es fs permuted differ = IfSome_then (value_at key es) (IfSome-lookup (tells_apart exact_bytes) key es) (λ v h. lookup-from_Contains key_laws key v fs differ (Contains-permutation es fs (key, v) permuted h))
-
--- two look-ups find the same, where each finds what the other one finds
-both_found : (a b : Option FieldValue) → IfSome a (λ v. b ≡ Some v) → IfSome b (λ v. a ≡ Some v) → a ≡ b
-both_found (Some v) b h k = sym h
-both_found None (Some v) h k = k
-both_found None None h k = refl
-
--- a table in order is settled from its own entries, in whatever order they come
-pub settled_permuted : (table entries : List Entry) → IsRising table → IsPermutation table entries → IsSettled table entries
-settled_permuted table entries rising permuted =
-    let differ = IsDistinct-from_sorted (slice_cmp nat_cmp) (keys_of table) rising in
-    let others = IsDistinct-IsPermutation same_key key_laws.symm (keys_of table) (keys_of entries) (IsPermutation-map (λ e. e.0) table entries permuted) differ in
-    record {
-      rising = rising;
-      last = λ key.
-          both_found (value_at key table) (value_at key entries) (found_permuted key table entries permuted others) (found_permuted key entries table (IsPermutation-sym table entries permuted) differ)
-          ∙ first_is_last key entries others;
-    }
+-- a table in order is settled from its own entries
+pub own_settled : (es : List Entry) → IsRising es → IsSettled es es
+own_settled es rising = record { rising = rising; last = λ key. first_is_last key es (IsDistinct-from_sorted (slice_cmp nat_cmp) (keys_of es) rising) }
 
 -- ---- lent entries
 
 -- a lent entry, and the value that is read of it
 record Reading (Read : List ℕ → FieldValue → Type 0) : Type 0 where
-  lent : Lent
+  lent : LentEntry
   value : FieldValue
-  is_read : Read lent.1 value
+  is_read : Read (lent_of lent).1 value
 
 -- its key and that value
 abbrev entry_of : {Read : List ℕ → FieldValue → Type 0} → Reading Read → Entry
-entry_of r = (r.lent.0, r.value)
+entry_of r = (r.lent.key.now, r.value)
 
 -- lent entries and the entries that are read of them, in pairs
-readings : (Read : List ℕ → FieldValue → Type 0) (lents : List Lent) (entries : List Entry) → AreRead Read lents entries
+readings : (Read : List ℕ → FieldValue → Type 0) (lents : List LentEntry) (entries : List Entry) → AreRead Read (map lent_of lents) entries
     → (rs : List (Reading Read)) × (map (λ r. r.lent) rs ≡ lents) × (map entry_of rs ≡ entries)
 readings Read [] [] h = ([], refl, refl)
 readings Read [] (e ∷ es) h = absurd h
@@ -106,7 +89,7 @@ readings Read (l ∷ ls) (e ∷ es) h =
     (record { lent = l; value = e.1; is_read = h.1 } ∷ more.0, ap (λ xs. l ∷ xs) more.1, ap₂ (λ k xs. (k, e.1) ∷ xs) (sym h.0) more.2)
 
 -- the bytes of lent entries are those of the entries that are read of them
-spelled : (Read : List ℕ → FieldValue → Type 0) (content : List ℕ) (rs : List (Reading Read)) → SpellsEach SpellsLent content (map (λ r. r.lent) rs) → SpellsEach (SpellsEntry Read) content (map entry_of rs)
+spelled : (Read : List ℕ → FieldValue → Type 0) (content : List ℕ) (rs : List (Reading Read)) → SpellsEach SpellsLent content (map lent_of (map (λ r. r.lent) rs)) → SpellsEach (SpellsEntry Read) content (map entry_of rs)
 spelled Read content [] h = h
 spelled Read content (r ∷ rs) (here, behind, is, s, more) = (
   here,
@@ -125,13 +108,24 @@ spelled Read content (r ∷ rs) (here, behind, is, s, more) = (
   spelled Read behind rs more,
 )
 
+-- what is placed by what is seen of it is placed
+each_precedes : {A B : Type 0} (f : A → B) (key : B → List ℕ) (place : B → ℕ) (x : A) (xs : List A) → AllByRecursion (Precedes key place (f x)) (map f xs) → AllByRecursion (Precedes (λ y. key (f y)) (λ y. place (f y)) x) xs
+each_precedes f key place x [] h = tt
+each_precedes f key place x (y ∷ ys) h = (h.0, each_precedes f key place x ys h.1)
+
+seen_placed : {A B : Type 0} (f : A → B) (key : B → List ℕ) (place : B → ℕ) (xs : List A) → ArePlaced key place (map f xs) → ArePlaced (λ x. key (f x)) (λ x. place (f x)) xs
+seen_placed f key place [] h = tt
+seen_placed f key place (x ∷ xs) h = (each_precedes f key place x xs h.0, seen_placed f key place xs h.1)
+
 -- entries that are read in another order than that of the bytes settle into the same table
-pub put_in_order : (Read : List ℕ → FieldValue → Type 0) (content : List ℕ) (lents sorted : List Lent) (table : List Entry)
-    → SpellsEach SpellsLent content lents → IsPermutation lents sorted → AreRead Read sorted table → IsRising table
-    → (entries : List Entry) × SpellsEach (SpellsEntry Read) content entries × IsSettled table entries
-put_in_order Read content lents sorted table each permuted read rising =
-    let before = readings Read sorted table read in
-    let after = unseen_permuted (λ r. r.lent) before.0 lents (subst (λ ls. IsPermutation ls lents) (sym before.1) (IsPermutation-sym lents sorted permuted)) in
-    let entries = map entry_of after.0 in
-    let moved = subst (λ es. IsPermutation es entries) before.2 (IsPermutation-map entry_of before.0 after.0 after.1) in
-    (entries, spelled Read content after.0 (subst (SpellsEach SpellsLent content) (sym after.2) each), settled_permuted table entries rising moved)
+pub put_in_order : (Read : List ℕ → FieldValue → Type 0) (content : List ℕ) (lents sorted : List LentEntry) (entries table : List Entry)
+    → SpellsEach SpellsLent content (map lent_of lents) → IsPermutation lents sorted → ArePlaced key_of place_of lents → ArePlaced key_of place_of sorted → AreRead Read (map lent_of sorted) entries → IsSettled table entries
+    → (found : List Entry) × SpellsEach (SpellsEntry Read) content found × IsSettled table found
+put_in_order Read content lents sorted entries table each moved placed ordered read settled =
+    let seen : Reading Read → LentEntry = λ r. r.lent in
+    let before = readings Read sorted entries read in
+    let after = unseen_permuted seen before.0 lents (subst (λ ls. IsPermutation ls lents) (sym before.1) (IsPermutation-sym lents sorted moved)) in
+    let one = seen_placed seen key_of place_of after.0 (subst (ArePlaced key_of place_of) (sym after.2) placed) in
+    let two = seen_placed seen key_of place_of before.0 (subst (ArePlaced key_of place_of) (sym before.1) ordered) in
+    let counts = settled_in_order entry_of (λ r. place_of r.lent) table after.0 before.0 (IsPermutation-sym before.0 after.0 after.1) one two (subst (IsSettled table) (sym before.2) settled) in
+    (map entry_of after.0, spelled Read content after.0 (subst (λ ls. SpellsEach SpellsLent content (map lent_of ls)) (sym after.2) each), counts)

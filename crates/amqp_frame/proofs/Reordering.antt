@@ -1,61 +1,30 @@
 -- What is appended in place of a table whose keys stand in no order.
-use Rattle.std.proofs.Common.{◌≡◌, ℕ, zero, suc, ◌+◌, ◌-◌, ◌<◌, ◌≤◌, List, [], ◌∷◌, ◌++◌, length, map, get_or, take, drop, All, Option, Some, None, IfSome, Less, inl, refl, sym, ap, subst, ◌∙◌, append-nil, append_assoc, arith}
-use Rattle.std.proofs.lemmas.List.{length-append, take-append-drop, take_at, take_all, map-append, length-map, get_or-map}
-use Rattle.std.proofs.lemmas.List.Elements.{All-nil, All-cons}
-use Rattle.std.proofs.lemmas.List.Sorted.{IsPermutation-map}
-use Rattle.std.proofs.Math.Seq.{take-add, take-suc}
-use Rattle.std.specs.Cmp.Lexicographic.{slice_cmp}
-use Rattle.std.specs.List.{AllByRecursion}
+use Rattle.std.proofs.Common.{◌≡◌, ℕ, zero, suc, ◌+◌, ◌-◌, ◌<◌, ◌≤◌, ◌^◌, List, [], ◌∷◌, ◌++◌, length, map, get_or, take, drop, Option, Some, None, IfSome, inl, refl, sym, ap, ap₂, subst, ◌∙◌, append_assoc, arith}
+use Rattle.std.proofs.lemmas.List.{length-append, length-take-le, take_at, take_all, drop_at}
+use Rattle.std.proofs.Math.Seq.{take-add}
 use Rattle.std.specs.List.Sorted.{IsPermutation}
-use Rattle.std.specs.Map.{keys_of}
-use Rattle.std.specs.Ordering.{nat_cmp}
-use Rattle.std.specs.Str.{IsUtf8}
 use Rattle.amqp_types.specs.Levels.{Level, plain, tidy, strict}
 use Rattle.amqp_types.specs.Numbers.{bytes4, number_bytes}
-use Rattle.amqp_types.specs.Strings.{short_string_bytes, SpellsShortString, SpellsLongString}
+use Rattle.amqp_types.specs.Strings.{with_length, SpellsLongString}
 use Rattle.amqp_types.specs.Slots.{table_form, entries_item}
 use Rattle.amqp_types.specs.SlotSpelling.{SpellsForm}
 use Rattle.amqp_types.specs.Tags.{SpellsTag, tag_byte}
 use Rattle.amqp_types.specs.Values.{FieldValue, Entry, array_value, table_value, values_of, entries_of}
-use Rattle.amqp_types.specs.ValueSpelling.{SpellsEach, SpellsEntry, SpellsArray, SpellsTable, SpellsValue}
+use Rattle.amqp_types.specs.ValueSpelling.{SpellsEach, SpellsArray, SpellsTable, SpellsValue}
+use Rattle.amqp_types.specs.Writing.{written}
 use Rattle.amqp_types.specs.declared.tag.FieldTag.{FieldTag}
 use Rattle.amqp_types.specs.declared.tag.FieldTag.TheVariants as tag
 use Rattle.amqp_types.proofs.Numbers.{number_bytes-length}
 use Rattle.amqp_values.proofs.Conversions.{items-values_of, pairs-entries_of}
 use Rattle.amqp_values.proofs.Strictly.{value_strict_is_tidy, value_tidy_is_plain}
-use Rattle.amqp_frame.specs.LentEntries.{Lent, SpellsLent, AreRead}
-use Rattle.amqp_frame.specs.Lending.{lent_of, IsKeyed, PutsEntry, PutsEntries}
+use Rattle.amqp_frame.specs.LentEntries.{SpellsLent}
+use Rattle.amqp_frame.specs.Lending.{key_of, lent_of, place_of, PutsEntries}
+use Rattle.amqp_frame.specs.Places.{ArePlaced}
 use Rattle.amqp_frame.specs.Reordered.{Appended}
 use Rattle.amqp_frame.specs.StrictFronts.{StrictFront}
-use Rattle.amqp_frame.specs.declared.reordered_tables.LentEntry.{LentEntry}
-use Rattle.amqp_frame.proofs.Permuted.{put_in_order}
-use Rattle.amqp_frame.proofs.TableFronts.{each_last, all_last, all_below, rising_last, rising_none, own_settled}
-
--- ---- entries that are lent
-
-pub lent_front : (bytes key value : List ℕ) (n m : ℕ) → SpellsShortString (take n bytes) key → value ≡ take m (drop n bytes) → SpellsLent (take (n + m) bytes) (key, value)
-lent_front bytes key value n m first same = record { front = take n bytes; behind = take m (drop n bytes); one = key; two = value; bytes_are = take-add n m bytes; first_is = first; second_is = sym same; joined = refl }
-
-pub lents_next : (content : List ℕ) (at n : ℕ) (entries : List LentEntry) (entry : LentEntry) → SpellsEach SpellsLent (take at content) (map lent_of entries) → SpellsLent (take n (drop at content)) (lent_of entry)
-    → SpellsEach SpellsLent (take (at + n) content) (map lent_of (entries ++ entry ∷ []))
-lents_next content at n entries entry h s =
-    let P : List ℕ → Type 0 = λ bs. SpellsEach SpellsLent bs (map lent_of entries ++ lent_of entry ∷ []) in
-    let Q : List Lent → Type 0 = λ ls. SpellsEach SpellsLent (take (at + n) content) ls in
-    subst Q (sym (map-append lent_of entries (entry ∷ []))) (subst P (sym (take-add at n content)) (each_last SpellsLent (take at content) (take n (drop at content)) (map lent_of entries) (lent_of entry) h s))
-
-pub lents_whole : (content : List ℕ) (at : ℕ) (lents : List Lent) → length content ≤ at → SpellsEach SpellsLent (take at content) lents → SpellsEach SpellsLent content lents
-lents_whole content at lents long h = let P : List ℕ → Type 0 = λ bs. SpellsEach SpellsLent bs lents in subst P (take_all at content long) h
-
-lent_keyed : (bytes : List ℕ) (entry : LentEntry) → SpellsLent bytes (lent_of entry) → IsKeyed entry
-lent_keyed bytes entry h =
-    let same : entry.key.now ≡ h.one = ap (λ (l : Lent). l.0) h.joined in
-    let P : List ℕ → Type 0 = λ key. (length key < 256) × IsUtf8 key in
-    let both = subst P (sym same) (h.first_is.fits, h.first_is.utf8) in
-    record { fits = both.0; utf8 = both.1 }
-
-pub lents_keyed : (content : List ℕ) (entries : List LentEntry) → SpellsEach SpellsLent content (map lent_of entries) → All IsKeyed entries
-lents_keyed content [] h = All-nil IsKeyed
-lents_keyed content (e ∷ es) h = All-cons IsKeyed e es (lent_keyed h.0 e h.3) (lents_keyed h.1 es h.4)
+use Rattle.amqp_frame.specs.declared.lent_entries.LentEntry.{LentEntry}
+use Rattle.amqp_frame.proofs.Permuted.{own_settled, put_in_order}
+use Rattle.amqp_frame.proofs.TableFronts.{each_last}
 
 -- ---- values
 
@@ -139,125 +108,74 @@ each_appended_next {A} Read Wrote content at n old mid new h s within =
 
 -- ---- the length in front
 
-length_in_front : (bytes content : List ℕ) (n : ℕ) → SpellsLongString (take n bytes) content → take 4 bytes ≡ number_bytes bytes4 (length content)
-length_in_front bytes content n h =
+-- where the length of what was appended behind four bytes is put into those, that has its length in front
+length_put : (old head content mid new : List ℕ) (start : ℕ) → length head ≡ 4 → mid ≡ (old ++ head) ++ content → start ≡ length (old ++ head) → new ≡ written mid (start - 4) (number_bytes bytes4 (length mid - start)) → new ≡ old ++ with_length content
+unfolding written
+length_put old head content mid new start four grown is put =
     let front = number_bytes bytes4 (length content) in
-    let all : bytes ≡ front ++ (content ++ drop n bytes) = sym (take-append-drop n bytes) ∙ ap (λ bs. bs ++ drop n bytes) h.bytes_are ∙ append_assoc front content (drop n bytes) in
-    ap (take 4) all ∙ take_at front (content ++ drop n bytes) 4 (number_bytes-length bytes4 (length content))
+    let all : length mid ≡ length (old ++ head) + length content = ap length grown ∙ length-append (old ++ head) content in
+    let both : length (old ++ head) ≡ length old + 4 = length-append old head ∙ ap (λ n. length old + n) four in
+    let at : start - 4 ≡ length old = omega (arith, is, both) in
+    let count : length mid - start ≡ length content = omega (arith, is, all) in
+    let end : (start - 4) + length (number_bytes bytes4 (length mid - start)) ≡ length (old ++ head) = ap (λ n. (start - 4) + n) (number_bytes-length bytes4 (length mid - start)) ∙ omega (arith, is, both) in
+    let before : take (start - 4) mid ≡ old = ap₂ take at (grown ∙ append_assoc old head content) ∙ take_at old (head ++ content) (length old) refl in
+    let behind : drop ((start - 4) + length (number_bytes bytes4 (length mid - start))) mid ≡ content = ap₂ drop end grown ∙ drop_at (old ++ head) content (length (old ++ head)) refl in
+    put ∙ ap₂ (λ xs ys. xs ++ ys) before (ap₂ (λ n ys. number_bytes bytes4 n ++ ys) count behind)
 
--- as many bytes in place of the content are framed by the same length
-framed_again : (bytes content written : List ℕ) (n : ℕ) → SpellsLongString (take n bytes) content → length written ≡ length content → SpellsLongString (take 4 bytes ++ written) written
-framed_again bytes content written n h same =
-    let front : take 4 bytes ≡ number_bytes bytes4 (length written) = length_in_front bytes content n h ∙ ap (number_bytes bytes4) (sym same) in
-    record { fits = omega (arith, same, h.fits); bytes_are = ap (λ bs. bs ++ written) front }
-
-grown_by : (old written new : List ℕ) (n : ℕ) → new ≡ old ++ written → length new - length old ≡ n → length written ≡ n
-grown_by old written new n grown count = let one : length new ≡ length (old ++ written) = ap length grown in omega (arith, one, count, length-append old written)
+-- and it is short enough
+length_fits : (old head content mid : List ℕ) (start : ℕ) → mid ≡ (old ++ head) ++ content → start ≡ length (old ++ head) → length mid - start < 2 ^ 32 → length content < 2 ^ 32
+length_fits old head content mid start grown is fits = let all : length mid ≡ length (old ++ head) + length content = ap length grown ∙ length-append (old ++ head) content in omega (arith, is, all, fits)
 
 -- ---- arrays and tables
 
-pub array_appended : (Read Wrote : List ℕ → FieldValue → Type 0) (bytes content : List ℕ) (n : ℕ) (old new : List ℕ) → SpellsLongString (take n bytes) content → n ≤ length bytes
-    → Appended (SpellsEach Read) (SpellsEach Wrote) content (length content) (old ++ take 4 bytes) new → length new - length (old ++ take 4 bytes) ≡ length content → Appended (SpellsArray Read) (SpellsArray Wrote) bytes n old new
-array_appended Read Wrote bytes content n old new framed long h count =
-    let head = take 4 bytes in
+-- a length was read and put behind old bytes, content was appended to mid, and its length was put in front of it
+pub record Closes (bytes content : List ℕ) (n start : ℕ) (old mid new : List ℕ) : Type 0 where
+  pub framed : SpellsLongString (take n bytes) content
+  pub within : n ≤ length bytes
+  pub is : start ≡ length (old ++ take 4 bytes)
+  pub put : new ≡ written mid (start - 4) (number_bytes bytes4 (length mid - start))
+  pub fits : length mid - start < 2 ^ 32
+
+closed : (bytes content inner : List ℕ) (n start : ℕ) (old mid new : List ℕ) → Closes bytes content n start old mid new → mid ≡ (old ++ take 4 bytes) ++ inner → (new ≡ old ++ with_length inner) × SpellsLongString (with_length inner) inner
+closed bytes content inner n start old mid new h grown =
+    let front = number_bytes bytes4 (length content) in
+    let all : length (take n bytes) ≡ length front + length content = ap length h.framed.bytes_are ∙ length-append front content in
+    let four : 4 ≤ length bytes = omega (arith, all, number_bytes-length bytes4 (length content), length-take-le n bytes h.within, h.within) in (
+      length_put old (take 4 bytes) inner mid new start (length-take-le 4 bytes four) grown h.is h.put,
+      record { fits = length_fits old (take 4 bytes) inner mid start grown h.is h.fits; bytes_are = refl },
+    )
+
+pub array_appended : (Read Wrote : List ℕ → FieldValue → Type 0) (bytes content : List ℕ) (n start : ℕ) (old mid new : List ℕ) → Closes bytes content n start old mid new
+    → Appended (SpellsEach Read) (SpellsEach Wrote) content (length content) (old ++ take 4 bytes) mid → Appended (SpellsArray Read) (SpellsArray Wrote) bytes n old new
+array_appended Read Wrote bytes content n start old mid new c h =
     let vs = h.reordered.thing in
-    let same = grown_by (old ++ head) h.written new (length content) h.grown count in
+    let again = closed bytes content h.written n start old mid new c h.grown in
     let P : List ℕ → Type 0 = λ bs. SpellsEach Read bs vs in
     record {
-      written = head ++ h.written;
+      written = with_length h.written;
       reordered = record {
         thing = vs;
-        read = record { inner = content; framed = framed; each = subst P (take_all (length content) content (omega arith)) h.reordered.read };
-        wrote = record { inner = h.written; framed = framed_again bytes content h.written n framed same; each = h.reordered.wrote };
+        read = record { inner = content; framed = c.framed; each = subst P (take_all (length content) content (omega arith)) h.reordered.read };
+        wrote = record { inner = h.written; framed = again.1; each = h.reordered.wrote };
       };
-      grown = h.grown ∙ append_assoc old head h.written;
-      within = long;
+      grown = again.0;
+      within = c.within;
     }
 
-pub table_appended : (Read Wrote : List ℕ → FieldValue → Type 0) (bytes content : List ℕ) (entries sorted : List LentEntry) (n : ℕ) (old new : List ℕ) → SpellsLongString (take n bytes) content → n ≤ length bytes
-    → SpellsEach SpellsLent content (map lent_of entries) → IsPermutation entries sorted → PutsEntries Read Wrote (map lent_of sorted) (old ++ take 4 bytes) new → length new - length (old ++ take 4 bytes) ≡ length content
-    → Appended (SpellsTable plain Read) (SpellsTable strict Wrote) bytes n old new
-table_appended Read Wrote bytes content entries sorted n old new framed long lent moved h count =
-    let head = take 4 bytes in
-    let same = grown_by (old ++ head) h.written new (length content) h.grown count in
-    let found = put_in_order Read content (map lent_of entries) (map lent_of sorted) h.table lent (IsPermutation-map lent_of entries sorted moved) h.read h.rising in
+pub table_appended : (Read Wrote : List ℕ → FieldValue → Type 0) (bytes content : List ℕ) (lents sorted : List LentEntry) (n start : ℕ) (old mid new : List ℕ) → Closes bytes content n start old mid new
+    → SpellsEach SpellsLent content (map lent_of lents) → ArePlaced key_of place_of lents → IsPermutation lents sorted → PutsEntries Read Wrote sorted (old ++ take 4 bytes) mid → Appended (SpellsTable plain Read) (SpellsTable strict Wrote) bytes n old new
+table_appended Read Wrote bytes content lents sorted n start old mid new c each placed moved h =
+    let again = closed bytes content h.written n start old mid new c h.grown in
+    let found = put_in_order Read content lents sorted h.entries h.table each moved placed h.placed h.read h.settled in
     record {
-      written = head ++ h.written;
+      written = with_length h.written;
       reordered = record {
         thing = h.table;
-        read = record { inner = content; entries = found.0; framed = framed; each = found.1; counts = found.2; once = tt };
-        wrote = record { inner = h.written; entries = h.table; framed = framed_again bytes content h.written n framed same; each = h.wrote; counts = own_settled h.table h.rising; once = refl };
+        read = record { inner = content; entries = found.0; framed = c.framed; each = found.1; counts = found.2; once = tt };
+        wrote = record { inner = h.written; entries = h.table; framed = again.1; each = h.wrote; counts = own_settled h.table h.settled.rising; once = refl };
       };
-      grown = h.grown ∙ append_assoc old head h.written;
-      within = long;
-    }
-
--- ---- entries
-
-pub entry_put : (Read Wrote : List ℕ → FieldValue → Type 0) (entry : LentEntry) (n : ℕ) (old new : List ℕ) → IsKeyed entry → length entry.value.now ≤ n
-    → Appended Read Wrote entry.value.now n ((old ++ length entry.key.now ∷ []) ++ entry.key.now) new → PutsEntry Read Wrote (lent_of entry) old new
-entry_put Read Wrote entry n old new keyed all h =
-    let key = entry.key.now in
-    let count = length key ∷ [] in
-    let P : List ℕ → Type 0 = λ bs. Read bs h.reordered.thing in
-    record {
-      value = h.reordered.thing;
-      read = subst P (take_all n entry.value.now all) h.reordered.read;
-      written = short_string_bytes key ++ h.written;
-      wrote = record {
-        front = short_string_bytes key;
-        behind = h.written;
-        one = key;
-        two = h.reordered.thing;
-        bytes_are = refl;
-        first_is = record { fits = keyed.fits; utf8 = keyed.utf8; bytes_are = refl };
-        second_is = h.reordered.wrote;
-        joined = refl;
-      };
-      grown = h.grown ∙ append_assoc (old ++ count) key h.written ∙ append_assoc old count (key ++ h.written);
-    }
-
--- the entries up to a place were put, and a key above the last of them is above all
-pub record PutsTo (Read Wrote : List ℕ → FieldValue → Type 0) (lents : List Lent) (at : ℕ) (previous old new : List ℕ) : Type 0 where
-  pub puts : PutsEntries Read Wrote (take at lents) old new
-  pub below : (key : List ℕ) → (0 < at → slice_cmp nat_cmp previous key ≡ Less) → AllByRecursion (λ k. slice_cmp nat_cmp k key ≡ Less) (keys_of puts.table)
-
-read_last : (Read : List ℕ → FieldValue → Type 0) (ls : List Lent) (es : List Entry) (l : Lent) (v : FieldValue) → AreRead Read ls es → Read l.1 v → AreRead Read (ls ++ l ∷ []) (es ++ (l.0, v) ∷ [])
-read_last Read [] [] l v h r = (refl, r, tt)
-read_last Read [] (e ∷ es) l v h r = absurd h
-read_last Read (x ∷ ls) [] l v h r = absurd h
-read_last Read (x ∷ ls) (e ∷ es) l v h r = (h.0, h.1, read_last Read ls es l v h.2 r)
-
-pub puts_none : (Read Wrote : List ℕ → FieldValue → Type 0) (lents : List Lent) (previous old : List ℕ) → PutsTo Read Wrote lents 0 previous old old
-puts_none Read Wrote lents previous old = record { puts = record { table = []; read = tt; rising = rising_none; written = []; wrote = refl; grown = sym (append-nil old) }; below = λ key above. tt }
-
-next_lent : (entries : List LentEntry) (at : ℕ) (d : LentEntry) → at < length entries → take (at + 1) (map lent_of entries) ≡ take at (map lent_of entries) ++ lent_of (get_or entries at d) ∷ []
-next_lent entries at d some =
-    let next : at + 1 ≡ suc at = omega arith in
-    let ls = map lent_of entries in
-    ap (λ k. take k ls) next ∙ take-suc ls at (lent_of d) (omega (arith, some, length-map entries lent_of)) ∙ ap (λ l. take at ls ++ l ∷ []) (get_or-map lent_of entries at d (lent_of d) some)
-
-pub puts_next : (Read Wrote : List ℕ → FieldValue → Type 0) (entries : List LentEntry) (at : ℕ) (previous : List ℕ) (d : LentEntry) (old mid new : List ℕ) → at < length entries
-    → PutsTo Read Wrote (map lent_of entries) at previous old mid → PutsEntry Read Wrote (lent_of (get_or entries at d)) mid new → (0 < at → slice_cmp nat_cmp previous (get_or entries at d).key.now ≡ Less)
-    → PutsTo Read Wrote (map lent_of entries) (at + 1) (get_or entries at d).key.now old new
-puts_next Read Wrote entries at previous d old mid new some h s above =
-    let entry = get_or entries at d in
-    let key = entry.key.now in
-    let ls = map lent_of entries in
-    let all = h.below key above in
-    let p = h.puts in
-    let e : Entry = (key, s.value) in
-    let P : List Lent → Type 0 = λ xs. AreRead Read xs (p.table ++ e ∷ []) in
-    record {
-      puts = record {
-        table = p.table ++ e ∷ [];
-        read = subst P (sym (next_lent entries at d some)) (read_last Read (take at ls) p.table (lent_of entry) s.value p.read s.read);
-        rising = rising_last p.table e p.rising all;
-        written = p.written ++ s.written;
-        wrote = each_last (SpellsEntry Wrote) p.written s.written p.table e p.wrote s.wrote;
-        grown = s.grown ∙ ap (λ bs. bs ++ s.written) p.grown ∙ append_assoc old p.written s.written;
-      };
-      below = λ next over. let less = over (omega arith) in all_last (λ k. slice_cmp nat_cmp k next ≡ Less) p.table e (all_below p.table key next all less) less;
+      grown = again.0;
+      within = c.within;
     }
 
 -- ---- the table of a slot

@@ -3,7 +3,6 @@ use Rattle.std.proofs.Common.{◌≡◌, ℕ, zero, suc, ℤ, ◌+◌, ◌-◌, 
 use Rattle.std.proofs.lemmas.Bool.{le-ltb}
 use Rattle.std.proofs.lemmas.Cmp.{nat_list_cmp_total}
 use Rattle.std.proofs.lemmas.List.{length-drop}
-use Rattle.std.proofs.lemmas.List.Sorted.{IsPermutation-refl}
 use Rattle.std.proofs.Math.Seq.{take-add}
 use Rattle.std.specs.Cmp.Lexicographic.{slice_cmp}
 use Rattle.std.specs.Int.{from_be_bytes, cast_signed}
@@ -19,7 +18,7 @@ use Rattle.amqp_types.specs.Booleans.{SpellsBoolean}
 use Rattle.amqp_types.specs.Strings.{judge_short_string, judge_long_string, SpellsShortString, SpellsLongString}
 use Rattle.amqp_types.specs.Values.{FieldValue, Entry, SignedKind, UnsignedKind, short_short_int, short_int, long_int, long_long_int, short_short_uint, short_uint, long_uint, float, double, timestamp, long_string, byte_array, boolean_value, signed_value, unsigned_value, decimal_value, bytes_value, array_value, table_value, void_value, values_of, entries_of}
 use Rattle.amqp_types.specs.ValueBytes.{signed_width, unsigned_width}
-use Rattle.amqp_types.specs.Settling.{IsRising, IsSettled}
+use Rattle.amqp_types.specs.Settling.{IsRising}
 use Rattle.amqp_types.specs.Tags.{tag_byte, tag_of}
 use Rattle.amqp_types.specs.ValueSpelling.{SpellsEach, SpellsEntry, SpellsDecimal, SpellsArray, SpellsTable, SpellsBehind, SpellsTagged, SpellsValue}
 use Rattle.amqp_types.specs.Slots.{table_form, entries_item}
@@ -31,7 +30,7 @@ use Rattle.amqp_types.proofs.Numbers.{number_exact}
 use Rattle.amqp_types.proofs.Texts.{short_string_exact, long_string_exact}
 use Rattle.amqp_values.proofs.Conversions.{items-values_of, pairs-entries_of}
 use Rattle.amqp_frame.specs.StrictFronts.{StrictFront, IsSpelling}
-use Rattle.amqp_frame.proofs.Permuted.{settled_permuted}
+use Rattle.amqp_frame.proofs.Permuted.{own_settled}
 use Rattle.amqp_frame.specs.StrictTables.{StrictBelow, IsBehindTag, fixed_size, IsEntryFront, SpellsRising}
 
 -- ---- strings
@@ -243,10 +242,6 @@ rises_whole Spells content at previous long h = let P : List ℕ → Type 0 = λ
 
 pub array_front : (Spells : List ℕ → FieldValue → Type 0) (bytes content : List ℕ) (n : ℕ) → SpellsLongString (take n bytes) content → n ≤ length bytes → IsSpelling (SpellsEach Spells) content → StrictFront (SpellsArray Spells) bytes n
 array_front Spells bytes content n framed long h = record { thing = h.thing; spelled = record { inner = content; framed = framed; each = h.spelled }; within = long }
-
--- a table in order is settled from its own entries
-pub own_settled : (es : List Entry) → IsRising es → IsSettled es es
-own_settled es s = settled_permuted es es s (IsPermutation-refl es)
 
 pub table_front : (Spells : List ℕ → FieldValue → Type 0) (bytes content : List ℕ) (n : ℕ) → SpellsLongString (take n bytes) content → n ≤ length bytes → IsSpelling (SpellsRising Spells) content → StrictFront (SpellsTable strict Spells) bytes n
 table_front Spells bytes content n framed long h = record {

@@ -15,4 +15,5 @@ pub mod Rewrites
 pub mod StrictTables
 pub mod Reordered
 pub mod LentEntries
+pub mod Places
 pub mod Lending

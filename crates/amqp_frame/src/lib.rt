@@ -7,6 +7,7 @@ mod frame;
 mod frame_type;
 mod generation;
 mod laws;
+mod lent_entries;
 mod looking;
 mod parsing;
 mod raw_frame;
@@ -39,6 +40,3 @@ pub use parsing::{
 pub use raw_frame::AMQPRawFrame;
 pub use rewriting::put_canonical;
 pub use version::ProtocolVersion;
-
-#[cfg(test)]
-mod tests;

@@ -1,79 +1,30 @@
-//! Field tables whose keys stand in no order, written in their one spelling, with their entries put
-//! in order. Where anything else is amiss, the answer is none, and what was appended means nothing.
+//! Field tables whose keys stand in no order, or twice, written in their one spelling. Where anything
+//! else is amiss, the answer is none, and what was appended means nothing.
 
-ghost use Rattle.std.specs.Prelude.{◌≡◌, ◌<◌, ◌≤◌, length, map, take, All, IfSome};
+ghost use Rattle.std.specs.Prelude.{◌≡◌, ◌<◌, ◌≤◌, ◌-◌, ◌^◌, length, All, IfSome};
 ghost use Rattle.amqp_types.specs.Levels.{plain, strict};
+ghost use Rattle.amqp_types.specs.Numbers.{bytes4, number_bytes};
 ghost use Rattle.amqp_types.specs.ValueSpelling.{SpellsEach, SpellsArray, SpellsTable, SpellsValue};
+ghost use Rattle.amqp_types.specs.Writing.{written};
 ghost use Rattle.amqp_types.specs.Slots.{table_form};
 ghost use Rattle.amqp_types.specs.SlotSpelling.{SpellsForm};
-ghost use Rattle.amqp_frame.specs.LentEntries.{SpellsLent};
-ghost use Rattle.amqp_frame.specs.Lending.{IsKeyed, PutsEntries, PutsEntry, lent_of};
+ghost use Rattle.amqp_frame.specs.Lending.{IsLent, PutsEntries, PutsEntry};
 ghost use Rattle.amqp_frame.specs.Reordered.{Appended};
 
-use crate::strict_tables::{ROOM, is_above, size_by_tag, strict_behind, strict_bytes, strict_key};
-use amqp_types::FieldTag;
+use crate::lent_entries::{LentEntry, counts_instead, lent_entries, sorted};
+use crate::strict_tables::{ROOM, strict_behind, strict_bytes, strict_value};
+use amqp_types::{FieldTag, put_long_uint};
 use std::alloc::Global;
 
-/// An entry that is lent: its key, and the bytes of its tag and value.
-#[derive(Clone, Copy)]
-struct LentEntry<'a> {
-    key: &'a [u8],
-    value: &'a [u8],
-}
-
-/// How many bytes a value takes behind its tag, by the tag, or by the length in front of it. What
-/// that length covers is not looked at.
-fn size_behind(tag: FieldTag, i: &[u8]) -> Option<usize>
-    ensures { IfSome result (λ n. n ≤ length i.now) }
+/// Puts the length of what stands from a place on into the four bytes in front of it.
+fn put_length(out: &mut Vec<u8>, start: usize) -> Option<()>
+    requires { (4 ≤ start) × (start ≤ length out.old.items) }
+    ensures put { IfSome result (λ _. out.new.items ≡ written out.old.items (start - 4) (number_bytes bytes4 (length out.old.items - start))) }
+    ensures fits { IfSome result (λ _. length out.old.items - start < 2 ^ 32) }
 {
-    let n = match tag {
-        FieldTag::Boolean => 1,
-        FieldTag::LongString | FieldTag::ByteArray => strict_bytes(i)?.0,
-        FieldTag::FieldArray | FieldTag::FieldTable => strict_bytes(i)?.0,
-        _ => size_by_tag(tag)?,
-    };
-    if i.len() < n { None } else { Some(n) }
-}
-
-/// How many bytes a tag and its value take at the front.
-fn size_tagged(i: &[u8]) -> Option<usize>
-    ensures { IfSome result (λ n. n ≤ length i.now) }
-{
-    match i {
-        [] => None,
-        [byte, rest @ ..] => {
-            let tag = FieldTag::from_byte(*byte)?;
-            let n = size_behind(tag, rest)?;
-            Some(1 + n)
-        }
-    }
-}
-
-/// How many bytes the entry at the front takes, and the entry.
-fn lent_entry(i: &[u8]) -> Option<(usize, LentEntry<'_>)>
-    ensures spelled { IfSome result (λ found. SpellsLent (take found.0 i.now) (lent_of found.1)) }
-    ensures within { IfSome result (λ found. (0 < found.0) × (found.0 ≤ length i.now)) }
-{
-    let (n, key) = strict_key(i)?;
-    let behind = &i[n..];
-    let m = size_tagged(behind)?;
-    let value = &behind[..m];
-    Some((n + m, LentEntry { key, value }))
-}
-
-/// The entries that the content is, as they stand.
-fn lent_entries(alloc: Global, content: &[u8]) -> Option<Vec<LentEntry<'_>>>
-    ensures { IfSome result (λ entries. SpellsEach SpellsLent content.now (map lent_of entries.items)) }
-{
-    // Room at first for as many entries of 16 bytes as the content holds, and for 256 at most.
-    let mut entries = Vec::with_capacity(alloc, (content.len() / 16).min(256)).ok()?;
-    let mut at = 0;
-    while at < content.len() {
-        let (n, entry) = lent_entry(&content[at..])?;
-        entries.push(entry).ok()?;
-        at += n;
-    }
-    Some(entries)
+    let size = u32::try_from(out.len() - start).ok()?;
+    put_long_uint(out, start - 4, &size);
+    Some(())
 }
 
 /// Appends the one spelling of the value at the front, in which tables and arrays may nest `room`
@@ -115,15 +66,11 @@ fn reordered_array_within(alloc: Global, out: &mut Vec<u8>, i: &[u8], room: usiz
     ensures { IfSome result (λ n. Appended (SpellsArray (SpellsValue plain room)) (SpellsArray (SpellsValue strict room)) i.now n out.old.items out.new.items) }
 {
     let (n, content) = strict_bytes(i)?;
-    // The length in front stays the same.
     out.extend_from_slice(&i[..4]).ok()?;
     let start = out.len();
     reordered_values(alloc, out, content, room)?;
-    if out.len() - start == content.len() {
-        Some(n)
-    } else {
-        None
-    }
+    put_length(out, start)?;
+    Some(n)
 }
 
 /// Appends the one spelling of the table at the front, in whose values tables and arrays may nest `room` deep.
@@ -132,17 +79,13 @@ fn reordered_table_within(alloc: Global, out: &mut Vec<u8>, i: &[u8], room: usiz
     ensures { IfSome result (λ n. Appended (SpellsTable plain (SpellsValue plain room)) (SpellsTable strict (SpellsValue strict room)) i.now n out.old.items out.new.items) }
 {
     let (n, content) = strict_bytes(i)?;
-    let mut entries = lent_entries(alloc, content)?;
-    entries.sort_unstable_by(|a, b| a.key.cmp(b.key));
-    // The length in front stays the same.
+    let lents = lent_entries(alloc, content)?;
+    let entries = sorted(alloc, &lents)?;
     out.extend_from_slice(&i[..4]).ok()?;
     let start = out.len();
     reordered_entries(alloc, out, &entries, room)?;
-    if out.len() - start == content.len() {
-        Some(n)
-    } else {
-        None
-    }
+    put_length(out, start)?;
+    Some(n)
 }
 
 /// Appends the one spelling of each of the values that the content is.
@@ -157,7 +100,7 @@ fn reordered_values(alloc: Global, out: &mut Vec<u8>, content: &[u8], room: usiz
     Some(())
 }
 
-/// Appends the one spelling of each of the entries, where the key of each is above the one before it.
+/// Appends the one spelling of the entries, which are in order. Of those with one key the last counts.
 #[cycle(reorder)]
 fn reordered_entries(
     alloc: Global,
@@ -165,18 +108,18 @@ fn reordered_entries(
     entries: &[LentEntry<'_>],
     room: usize,
 ) -> Option<()>
-    requires { All IsKeyed entries.now }
-    ensures { IfSome result (λ _. PutsEntries (SpellsValue plain room) (SpellsValue strict room) (map lent_of entries.now) out.old.items out.new.items) }
+    requires { All IsLent entries.now }
+    ensures { IfSome result (λ _. PutsEntries (SpellsValue plain room) (SpellsValue strict room) entries.now out.old.items out.new.items) }
 {
-    let mut previous: &[u8] = &[];
+    let mut last = out.len();
     let mut at = 0;
     while at < entries.len() {
         let entry = entries[at];
-        if at > 0 && !is_above(entry.key, previous) {
-            return None;
+        if at > 0 && counts_instead(entries[at - 1], entry)? {
+            out.truncate(last);
         }
+        last = out.len();
         reordered_entry(alloc, out, entry, room)?;
-        previous = entry.key;
         at += 1;
     }
     Some(())
@@ -190,16 +133,24 @@ fn reordered_entry(
     entry: LentEntry<'_>,
     room: usize,
 ) -> Option<()>
-    requires { IsKeyed entry }
-    ensures { IfSome result (λ _. PutsEntry (SpellsValue plain room) (SpellsValue strict room) (lent_of entry.entry) out.old.items out.new.items) }
+    requires { IsLent entry }
+    ensures { IfSome result (λ _. PutsEntry (SpellsValue plain room) (SpellsValue strict room) entry.entry out.old.items out.new.items) }
 {
-    out.push(entry.key.len() as u8).ok()?;
-    out.extend_from_slice(entry.key).ok()?;
-    let n = reordered_value(alloc, out, entry.value, room)?;
-    if n == entry.value.len() {
-        Some(())
-    } else {
-        None
+    let (front, value) = entry.bytes.split_at(1 + entry.key.len());
+    match value {
+        [65 | 70, ..] => {
+            out.extend_from_slice(front).ok()?;
+            let n = reordered_value(alloc, out, value, room)?;
+            if n == value.len() { Some(()) } else { None }
+        }
+        _ => {
+            let n = strict_value(value, room)?;
+            if n != value.len() {
+                return None;
+            }
+            out.extend_from_slice(entry.bytes).ok()?;
+            Some(())
+        }
     }
 }
 

@@ -76,7 +76,7 @@ pub(crate) fn is_above(key: &[u8], previous: &[u8]) -> bool
 
 /// How many bytes a tag and its value take at the front, in which tables and arrays may nest `room` deep.
 #[cycle(tell)]
-fn strict_value(i: &[u8], room: usize) -> Option<usize>
+pub(crate) fn strict_value(i: &[u8], room: usize) -> Option<usize>
     ensures { IfSome result (λ n. (0 < n) × StrictFront (SpellsValue strict room) i.now n) }
 {
     match i {

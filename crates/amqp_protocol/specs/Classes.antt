@@ -6,7 +6,7 @@ use Rattle.amqp_connection.specs.Access as access
 use Rattle.amqp_channel.specs.Channel as channel
 use Rattle.amqp_channel.specs.Tx as tx
 use Rattle.amqp_channel.specs.Confirm as confirm
-use Rattle.amqp_topology.specs.Exchange as exchange
+use Rattle.amqp_exchange.specs.Exchange as exchange
 use Rattle.amqp_topology.specs.Queue as queue
 use Rattle.amqp_protocol.specs.declared.class.AMQPClass.{AMQPClass}
 use Rattle.amqp_protocol.specs.declared.class.AMQPClass.TheVariants as classes

@@ -35,7 +35,16 @@ impl<'a> SliceSource<'a> {
 impl<'a> Source for SliceSource<'a> {
     ghost supply = { faultless };
 
-    fn read(&mut self, buf: &mut [u8]) -> Result<usize, SourceFault> {
+    fn read(&mut self, buf: &mut [u8]) -> Result<usize, SourceFault>
+        requires { 0 < length buf.old }
+        ensures bound { IfOk result (λ n. n ≤ length buf.old) }
+        ensures takes { Takes (faultless self.old) (faultless self.new) (piece_of result buf.new) 1 }
+        ensures end { IfOk result (λ n. n ≡ 0 → IsEmpty (faultless self.new).left) }
+        ensures fault { OnErr result (Rises (faultless self.old).faults (faultless self.new).faults) }
+
+        // As many bytes as fit are given.
+        ensures count { result ≡ Ok (min (length self.old) (length buf.old)) }
+    {
         let count = self.bytes.len().min(buf.len());
         let (piece, rest) = self.bytes.split_at(count);
         buf[..count].copy_from_slice(piece);

@@ -131,6 +131,7 @@ pub use laws::arrays_are_lawful;
 pub use laws::forms_are_lawful;
 pub use laws::held_is_read_back;
 pub use laws::held_slots_are_read_back;
+pub use laws::insert_changes_one_key;
 pub use laws::sameness_is_equality;
 pub use laws::settled_is_settling;
 pub use laws::slots_are_lawful;

@@ -1,7 +1,7 @@
 use super::*;
 
-/// Whether the one spelling of a table is these bytes, put behind a byte that stood there before.
-fn writes(alloc: Global, i: &[u8], wanted: &[u8]) -> bool {
+/// Whether a table of so many bytes is written as these, put behind a byte that stood there before.
+fn replaces(alloc: Global, i: &[u8], size: usize, wanted: &[u8]) -> bool {
     let mut out = Vec::new(alloc);
     if out.push(7).is_err() {
         return false;
@@ -10,9 +10,14 @@ fn writes(alloc: Global, i: &[u8], wanted: &[u8]) -> bool {
         return false;
     };
     match &out[..] {
-        [7, rest @ ..] => n == wanted.len() && rest == wanted,
+        [7, rest @ ..] => n == size && rest == wanted,
         _ => false,
     }
+}
+
+/// Whether the one spelling of a table is these bytes, as many as the table has.
+fn writes(alloc: Global, i: &[u8], wanted: &[u8]) -> bool {
+    replaces(alloc, i, wanted.len(), wanted)
 }
 
 /// Whether no answer is given to these bytes.
@@ -67,9 +72,43 @@ fn nested_keys_are_put_in_order(rt: HostRuntime) {
 }
 
 #[test]
+fn keys_that_begin_alike_are_put_in_order(rt: HostRuntime) {
+    let alloc = rt.alloc();
+    assert!(rt;
+        writes(
+            alloc,
+            &[
+                0, 0, 0, 26, 7, 97, 98, 99, 100, 101, 102, 66, 86, 7, 97, 98, 99, 100, 101, 102,
+                65, 86, 6, 97, 98, 99, 100, 101, 102, 86,
+            ],
+            &[
+                0, 0, 0, 26, 6, 97, 98, 99, 100, 101, 102, 86, 7, 97, 98, 99, 100, 101, 102, 65,
+                86, 7, 97, 98, 99, 100, 101, 102, 66, 86,
+            ],
+        )
+    );
+}
+
+#[test]
+fn of_equal_keys_the_last_counts(rt: HostRuntime) {
+    let alloc = rt.alloc();
+    let twice = [0, 0, 0, 6, 1, 97, 86, 1, 97, 86];
+    assert!(rt; replaces(alloc, &twice, 10, &[0, 0, 0, 3, 1, 97, 86]));
+    let apart = [0, 0, 0, 11, 1, 97, 116, 1, 1, 98, 86, 1, 97, 116, 0];
+    assert!(rt; replaces(alloc, &apart, 15, &[0, 0, 0, 7, 1, 97, 116, 0, 1, 98, 86]));
+    let nested = [
+        0, 0, 0, 19, 1, 107, 65, 0, 0, 0, 12, 70, 0, 0, 0, 7, 1, 97, 86, 1, 97, 116, 1,
+    ];
+    let wanted = [
+        0, 0, 0, 16, 1, 107, 65, 0, 0, 0, 9, 70, 0, 0, 0, 4, 1, 97, 116, 1,
+    ];
+    assert!(rt; replaces(alloc, &nested, 23, &wanted));
+}
+
+#[test]
 fn other_tables_are_refused(rt: HostRuntime) {
     let alloc = rt.alloc();
-    assert!(rt; refuses(alloc, &[0, 0, 0, 6, 1, 97, 86, 1, 97, 86]));
+    assert!(rt; refuses(alloc, &[0, 0, 0, 7, 1, 97, 116, 2, 1, 97, 86]));
     assert!(rt; refuses(alloc, &[0, 0, 0, 4, 1, 97, 116, 2]));
     assert!(rt; refuses(alloc, &[0, 0, 0, 5, 1, 97, 85, 0, 1]));
     assert!(rt; refuses(alloc, &[0, 0, 0, 11, 1, 97, 76, 0, 0, 0, 0, 0, 0, 0, 1]));

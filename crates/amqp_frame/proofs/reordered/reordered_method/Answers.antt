@@ -1,5 +1,4 @@
 use Rattle.std.proofs.Common.{take, ap, length, ◌∙◌, arith}
-use Rattle.std.proofs.lemmas.Bool.{eqb-true}
 use Rattle.std.proofs.lemmas.List.{take_rest}
 use Rattle.amqp_types.specs.Levels.{plain, strict}
 use Rattle.amqp_types.specs.Methods.{judge_payload, payload_bytes}
@@ -7,7 +6,6 @@ use Rattle.amqp_types.specs.SlotSpelling.{SpellsSlots}
 use Rattle.amqp_types.specs.MethodSpelling.{SpellsPayload}
 use Rattle.amqp_values.proofs.MethodLaws.{payloads_lawful}
 use Rattle.amqp_frame.specs.Shapes.{slots_of}
-use Rattle.amqp_frame.specs.Reordered.{Reordered}
 use Rattle.amqp_frame.proofs.PayloadsInOrder.{method_in_order, appended_rest, no_longer}
 use Rattle.amqp_frame.proofs.reordered.reordered_method.Goals as goal
 

@@ -1,4 +1,4 @@
-use Rattle.std.proofs.Common.{get_or, arith}
+use Rattle.std.proofs.Common.{arith}
 use Rattle.amqp_frame.specs.declared.shapes.Shape.TheVariants as shapes
 use Rattle.amqp_frame.proofs.PayloadsInOrder.{appended_rest, slots_none, slots_next, slots_all}
 use Rattle.amqp_frame.proofs.reordered.reordered_slots.Goals as goal

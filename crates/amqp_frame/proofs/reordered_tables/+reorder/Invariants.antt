@@ -1,9 +1,8 @@
-use Rattle.std.proofs.Common.{◌+◌, ◌-◌, ◌*◌, ◌≤◌, length, map}
+use Rattle.std.proofs.Common.{◌+◌, ◌-◌, ◌*◌, ◌≤◌, length}
 use Rattle.amqp_types.specs.Levels.{plain, strict}
 use Rattle.amqp_types.specs.ValueSpelling.{SpellsEach, SpellsValue}
-use Rattle.amqp_frame.specs.Lending.{lent_of}
 use Rattle.amqp_frame.specs.Reordered.{Appended}
-use Rattle.amqp_frame.proofs.Reordering.{PutsTo}
+use Rattle.amqp_frame.proofs.EntriesPut.{PutsTo}
 use Rattle.amqp_frame.proofs.reordered_tables.+reorder.Given as goal
 
 abbrev pub decreases-reordered_value : goal.decreases-reordered_value
@@ -34,4 +33,4 @@ abbrev pub invariant-reordered_values-loop-at : goal.invariant-reordered_values-
 invariant-reordered_values-loop-at l = Appended (SpellsEach (SpellsValue plain l.room)) (SpellsEach (SpellsValue strict l.room)) l.content l.at l.fn.out.items l.out.items
 
 abbrev pub invariant-reordered_entries-loop-at : goal.invariant-reordered_entries-loop-at
-invariant-reordered_entries-loop-at l = (l.at ≤ length l.entries) × PutsTo (SpellsValue plain l.room) (SpellsValue strict l.room) (map lent_of l.entries) l.at l.previous l.fn.out.items l.out.items
+invariant-reordered_entries-loop-at l = (l.at ≤ length l.entries) × PutsTo (SpellsValue plain l.room) (SpellsValue strict l.room) l.entries l.at l.last l.fn.out.items l.out.items

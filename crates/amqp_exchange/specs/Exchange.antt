@@ -2,16 +2,16 @@
 use Rattle.std.specs.Prelude.{[], ◌∷◌}
 use Rattle.amqp_types.specs.Slots.{flag_item, text_item, entries_item}
 use Rattle.amqp_types.specs.Methods.{Method, method}
-use Rattle.amqp_topology.specs.declared.exchange.declaring.Declare.{Declare}
-use Rattle.amqp_topology.specs.declared.exchange.declaring.DeclareOk.{DeclareOk}
-use Rattle.amqp_topology.specs.declared.exchange.declaring.Delete.{Delete}
-use Rattle.amqp_topology.specs.declared.exchange.declaring.DeleteOk.{DeleteOk}
-use Rattle.amqp_topology.specs.declared.exchange.binding.Bind.{Bind}
-use Rattle.amqp_topology.specs.declared.exchange.binding.BindOk.{BindOk}
-use Rattle.amqp_topology.specs.declared.exchange.binding.Unbind.{Unbind}
-use Rattle.amqp_topology.specs.declared.exchange.binding.UnbindOk.{UnbindOk}
-use Rattle.amqp_topology.specs.declared.exchange.AMQPMethod.{AMQPMethod}
-use Rattle.amqp_topology.specs.declared.exchange.AMQPMethod.TheVariants as variant
+use Rattle.amqp_exchange.specs.declared.exchange.declaring.Declare.{Declare}
+use Rattle.amqp_exchange.specs.declared.exchange.declaring.DeclareOk.{DeclareOk}
+use Rattle.amqp_exchange.specs.declared.exchange.declaring.Delete.{Delete}
+use Rattle.amqp_exchange.specs.declared.exchange.declaring.DeleteOk.{DeleteOk}
+use Rattle.amqp_exchange.specs.declared.exchange.binding.Bind.{Bind}
+use Rattle.amqp_exchange.specs.declared.exchange.binding.BindOk.{BindOk}
+use Rattle.amqp_exchange.specs.declared.exchange.binding.Unbind.{Unbind}
+use Rattle.amqp_exchange.specs.declared.exchange.binding.UnbindOk.{UnbindOk}
+use Rattle.amqp_exchange.specs.declared.exchange.AMQPMethod.{AMQPMethod}
+use Rattle.amqp_exchange.specs.declared.exchange.AMQPMethod.TheVariants as variant
 
 abbrev pub declare_method : Declare → Method
 declare_method m = method 40 10 (text_item m.exchange ∷ text_item m.kind ∷ flag_item m.passive ∷ flag_item m.durable ∷ flag_item m.auto_delete ∷ flag_item m.internal ∷ flag_item m.nowait ∷ entries_item m.arguments ∷ [])

@@ -7,7 +7,7 @@ ghost use Rattle.std.specs.Prelude.{◌≡◌, IfOk};
 ghost use Rattle.amqp_types.specs.Calls.{Parses, Measures, HasRoom};
 ghost use Rattle.amqp_types.specs.Writing.{Puts, Appends};
 ghost use Rattle.amqp_types.specs.Methods.{judge_method, judge_in_class, payload_bytes, payload_size};
-ghost use Rattle.amqp_topology.specs.Exchange.{method_of};
+ghost use Rattle.amqp_exchange.specs.Exchange.{method_of};
 
 use amqp_values::{
     GenError, Identifier, NoMemory, ParserError, gen_fields, parse_id, put_fields, size_fields,

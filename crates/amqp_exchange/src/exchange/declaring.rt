@@ -7,7 +7,7 @@ ghost use Rattle.amqp_types.specs.Calls.{Parses, NeedsNoMemory, Measures, HasRoo
 ghost use Rattle.amqp_types.specs.Writing.{Puts, Appends};
 ghost use Rattle.amqp_types.specs.Methods.{method, judge_method, method_bytes, method_size};
 ghost use Rattle.amqp_values.specs.MethodFields.{ListsMethod};
-ghost use Rattle.amqp_topology.specs.Exchange.{declare_method, declare_ok_method, delete_method, delete_ok_method};
+ghost use Rattle.amqp_exchange.specs.Exchange.{declare_method, declare_ok_method, delete_method, delete_ok_method};
 
 use amqp_values::{
     Boolean, Field, FieldTable, GenError, Identifier, NoMemory, ParserError, ShortString,

@@ -1,0 +1,5 @@
+//! The methods of the class exchange of AMQP 0-9-1. They are a crate of their own so that no crate
+//! takes long to prove; users reach them by `amqp_topology`.
+#![tactic(auto)]
+
+pub mod exchange;
