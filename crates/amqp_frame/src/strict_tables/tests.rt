@@ -34,40 +34,42 @@ fn told_with(at: usize, byte: u8) -> Option<usize> {
     strict_table(&bytes)
 }
 
+/// Places of the table, the bytes that are put there, and what is told then.
+const CHANGES: [(usize, u8, Option<usize>); 22] = [
+    (0, 0, Some(126)),
+    // a key that is above the one before it, the same, and below
+    (119, 121, Some(126)),
+    (119, 117, None),
+    (119, 116, None),
+    (13, 65, None),
+    (13, 64, None),
+    // a truth value, in the table and one deeper
+    (112, 0, Some(126)),
+    (112, 2, None),
+    (34, 0, Some(126)),
+    (34, 2, None),
+    // the two tag bytes that are read and never written
+    (106, 85, None),
+    (95, 76, None),
+    // lengths: of the entries, of a key, of an array, of a table and of a byte array
+    (3, 123, None),
+    (3, 121, None),
+    (118, 9, None),
+    (10, 255, None),
+    (30, 255, None),
+    (124, 2, None),
+    // a tag that names no kind, in the table and in the array
+    (63, 90, None),
+    (11, 90, None),
+    // keys that are not UTF-8, in the table and one deeper
+    (119, 255, None),
+    (32, 255, None),
+];
+
 #[test]
 fn strict_tables_are_told(rt: HostRuntime) {
-    let rows = [
-        (0, 0, Some(126)),
-        // a key that is above the one before it, the same, and below
-        (119, 121, Some(126)),
-        (119, 117, None),
-        (119, 116, None),
-        (13, 65, None),
-        (13, 64, None),
-        // a truth value, in the table and one deeper
-        (112, 0, Some(126)),
-        (112, 2, None),
-        (34, 0, Some(126)),
-        (34, 2, None),
-        // the two tag bytes that are read and never written
-        (106, 85, None),
-        (95, 76, None),
-        // lengths: of the entries, of a key, of an array, of a table and of a byte array
-        (3, 123, None),
-        (3, 121, None),
-        (118, 9, None),
-        (10, 255, None),
-        (30, 255, None),
-        (124, 2, None),
-        // a tag that names no kind, in the table and in the array
-        (63, 90, None),
-        (11, 90, None),
-        // keys that are not UTF-8, in the table and one deeper
-        (119, 255, None),
-        (32, 255, None),
-    ];
-    for (at, byte, size) in rows {
-        assert_eq!(rt; told_with(at, byte), size, "{byte} at {at}");
+    for (at, byte, size) in &CHANGES {
+        assert_eq!(rt; told_with(*at, *byte), *size, "{byte} at {at}");
     }
 }
 
