@@ -1,11 +1,11 @@
--- How a run of `hex` ends.
+-- How a run over a hex text ends.
 use Rattle.std.proofs.Common.{◌≡◌, ◌≢◌, ℕ, ◌+◌, ◌≤◌, List, [], ◌∷◌, ◌++◌, length, Some, Result, Ok, Err, refl, sym, ap, subst, ◌∙◌, inl, inr, arith}
 use Rattle.std.proofs.lemmas.List.{length-append}
 use Rattle.std.specs.Io.BufRead.{strip_last}
 use Rattle.hex.specs.Hex.{decode_of, encode_lower}
 use Rattle.hex.specs.declared.error.FromHexError.{FromHexError}
 use Rattle.hex.proofs.HexLemmas.{decode_of-ok}
-use Rattle.amqp_types.specs.Levels.{plain}
+use Rattle.amqp_types.specs.Levels.{Level}
 use Rattle.amqp_types.specs.Judging.{Judged, past, fault, took, IsBytes}
 use Rattle.amqp_frame.specs.Frames.{Frame}
 use Rattle.amqp_frame.specs.Fronts.{front, place}
@@ -18,7 +18,7 @@ use Rattle.amqp_stream.specs.Writing.{WritesAll}
 use Rattle.amqp_stream.specs.Canonicalizing.{IsRow, NoFaults, canon_of, answer_at, answer_to, place_verdict, AnswersExactly, IsAnswerTo}
 use Rattle.amqp_stream.specs.declared.sink.SinkFault.{SinkFault}
 use Rattle.amqp_stream.proofs.Adding.{Gains-none}
-use Rattle.amqp_stream.proofs.Exact.{split_of, all_taken}
+use Rattle.amqp_stream.proofs.Exactly.{split_of, all_taken}
 use Rattle.amqp_program.specs.declared.text.TextError.TheVariants as errors
 use Rattle.amqp_program.specs.Texts.{longest, ReadsText}
 use Rattle.amqp_program.specs.Reports.{Printed, printed, report, report_of, report_at, max_payload}
@@ -34,61 +34,61 @@ nothing_left (b ∷ bytes) (fault bad) stop e = absurd cc
 nothing_left (b ∷ bytes) (took f n) stop e = absurd stop
 
 -- bytes to which the answer is Ok are a row
-answered_row : (m : ℕ) (bytes : List ℕ) → IsBytes bytes → answer_to plain m bytes ≡ Ok tt → IsRow plain m bytes
-answered_row m bytes fits e =
-    let none = nothing_left (place plain (Some m) bytes) (place_verdict plain m bytes) (splits_of plain (Some m) bytes).stop e in
-    (front plain (Some m) bytes, row_of_all plain (Some m) bytes fits none)
+answered_row : (level : Level) (m : ℕ) (bytes : List ℕ) → IsBytes bytes → answer_to level m bytes ≡ Ok tt → IsRow level m bytes
+answered_row level m bytes fits e =
+    let none = nothing_left (place level (Some m) bytes) (place_verdict level m bytes) (splits_of level (Some m) bytes).stop e in
+    (front level (Some m) bytes, row_of_all level (Some m) bytes fits none)
 
-report_at-text : (bytes : List ℕ) → answer_to plain max_payload bytes ≡ Ok tt → (report_at bytes).text ≡ encode_lower (canon_of plain max_payload bytes) ++ 10 ∷ []
+report_at-text : (level : Level) (bytes : List ℕ) → answer_to level max_payload bytes ≡ Ok tt → (report_at level bytes).text ≡ encode_lower (canon_of level max_payload bytes) ++ 10 ∷ []
 unfolding report_at
-report_at-text bytes e = ap (λ r. (printed (encode_lower (canon_of plain max_payload bytes) ++ 10 ∷ []) r).text) e
+report_at-text level bytes e = ap (λ r. (printed (encode_lower (canon_of level max_payload bytes) ++ 10 ∷ []) r).text) e
 
-accepted : (text written : List ℕ) (b : Supply) (d : Result (List ℕ) FromHexError) → decode_of (strip_last 10 text) ≡ d → IsWhole text b → (report_of d).status ≡ 0 → written ≡ (report_of d).text → AcceptsHex text written b
-accepted text written b (Ok bytes) e whole zero w =
-    let ok : answer_to plain max_payload bytes ≡ Ok tt = answer_status_zero (answer_to plain max_payload bytes) (sym (report_at-status bytes) ∙ zero) in
+accepted : (level : Level) (text written : List ℕ) (b : Supply) (d : Result (List ℕ) FromHexError) → decode_of (strip_last 10 text) ≡ d → IsWhole text b → (report_of level d).status ≡ 0 → written ≡ (report_of level d).text → AcceptsHex level text written b
+accepted level text written b (Ok bytes) e whole zero w =
+    let ok : answer_to level max_payload bytes ≡ Ok tt = answer_status_zero (answer_to level max_payload bytes) (sym (report_at-status level bytes) ∙ zero) in
     record {
       whole = whole;
       bytes = bytes;
       decoded = e;
-      row = answered_row max_payload bytes (decode_of-ok (strip_last 10 text) bytes e).3 ok;
-      canonical = w ∙ report_at-text bytes ok;
+      row = answered_row level max_payload bytes (decode_of-ok (strip_last 10 text) bytes e).3 ok;
+      canonical = w ∙ report_at-text level bytes ok;
     }
-accepted text written b (Err error) e whole zero w = absurd (omega arith)
+accepted level text written b (Err error) e whole zero w = absurd (omega arith)
 
-accepts : (text written : List ℕ) (a b : Supply) (k l : Store) (status : ℕ) → HexEnds text written a b k l status → status ≡ 0 → AcceptsHex text written b
-accepts text written a b k l status (no_memory s w few) zero = absurd (omega arith)
-accepts text written a b k l status (read_failed s w few r) zero = absurd (omega arith)
-accepts text written a b k l status (too_long s w h) zero = absurd (omega arith)
-accepts text written a b k l status (write_failed s whole r p) zero = absurd (omega arith)
-accepts text written a b k l status (reported s whole w) zero = accepted text written b (decode_of (strip_last 10 text)) refl whole (sym s ∙ zero) w
+accepts : (level : Level) (text written : List ℕ) (a b : Supply) (k l : Store) (status : ℕ) → HexEnds level text written a b k l status → status ≡ 0 → AcceptsHex level text written b
+accepts level text written a b k l status (no_memory s w few) zero = absurd (omega arith)
+accepts level text written a b k l status (read_failed s w few r) zero = absurd (omega arith)
+accepts level text written a b k l status (too_long s w h) zero = absurd (omega arith)
+accepts level text written a b k l status (write_failed s whole r p) zero = absurd (omega arith)
+accepts level text written a b k l status (reported s whole w) zero = accepted level text written b (decode_of (strip_last 10 text)) refl whole (sym s ∙ zero) w
 
 -- ---- valid input ends with 0, unless memory runs out
 
-completes : (text written input : List ℕ) (a b : Supply) (k l : Store) (status : ℕ) → HexEnds text written a b k l status → Some input ≡ prepended text b.left → IsValidText input → NoFaults a b k l → IsDoneOrNoMemory status
-completes text written input a b k l status (no_memory s w few) e v f = inr s
-completes text written input a b k l status (read_failed s w few r) e v f = absurd (omega (arith, r f.source_below, f.source))
-completes text written input a b k l status (too_long s w h) e v f =
+completes : (level : Level) (text written input : List ℕ) (a b : Supply) (k l : Store) (status : ℕ) → HexEnds level text written a b k l status → Some input ≡ prepended text b.left → IsValidText level input → NoFaults a b k l → IsDoneOrNoMemory status
+completes level text written input a b k l status (no_memory s w few) e v f = inr s
+completes level text written input a b k l status (read_failed s w few r) e v f = absurd (omega (arith, r f.source_below, f.source))
+completes level text written input a b k l status (too_long s w h) e v f =
     let split = split_of input text b.left e in
     absurd (omega (arith, v.few, ap length split.parts, length-append text split.rest))
-completes text written input a b k l status (write_failed s whole r p) e v f = absurd (omega (arith, r f.sink_below, f.sink))
-completes text written input a b k l status (reported s whole w) e v f =
+completes level text written input a b k l status (write_failed s whole r p) e v f = absurd (omega (arith, r f.sink_below, f.sink))
+completes level text written input a b k l status (reported s whole w) e v f =
     let same : text ≡ input = all_taken input text b.left e whole.end in
-    inl (s ∙ ap (λ (xs : List ℕ). (report xs).status) same ∙ v.accepted)
+    inl (s ∙ ap (λ (xs : List ℕ). (report level xs).status) same ∙ v.accepted)
 
-not_two : (text written : List ℕ) (a b : Supply) (k l : Store) (status : ℕ) → HexEnds text written a b k l status → status ≢ 2
-not_two text written a b k l status (no_memory s w few) h = absurd (omega arith)
-not_two text written a b k l status (read_failed s w few r) h = absurd (omega arith)
-not_two text written a b k l status (too_long s w h) e = absurd (omega arith)
-not_two text written a b k l status (write_failed s whole r p) h = absurd (omega arith)
-not_two text written a b k l status (reported s whole w) h = report_status_not_two (decode_of (strip_last 10 text)) (sym s ∙ h)
+not_two : (level : Level) (text written : List ℕ) (a b : Supply) (k l : Store) (status : ℕ) → HexEnds level text written a b k l status → status ≢ 2
+not_two level text written a b k l status (no_memory s w few) h = absurd (omega arith)
+not_two level text written a b k l status (read_failed s w few r) h = absurd (omega arith)
+not_two level text written a b k l status (too_long s w h) e = absurd (omega arith)
+not_two level text written a b k l status (write_failed s whole r p) h = absurd (omega arith)
+not_two level text written a b k l status (reported s whole w) h = report_status_not_two level (decode_of (strip_last 10 text)) (sym s ∙ h)
 
-pub hex_not_two : (a b : Supply) (k l : Store) (status : ℕ) → RunsHex a b k l status → status ≢ 2
-hex_not_two a b k l status run = not_two run.text run.written a b k l status run.ends
+pub hex_not_two : (level : Level) (a b : Supply) (k l : Store) (status : ℕ) → RunsHex level a b k l status → status ≢ 2
+hex_not_two level a b k l status run = not_two level run.text run.written a b k l status run.ends
 
 -- ---- the ways in which a run ends
 
-runs : (a b : Supply) (k l : Store) (text written : List ℕ) (reads status : ℕ) → Takes a b text reads → reads ≤ longest + 1 → Gains k l written → HexEnds text written a b k l status → RunsHex a b k l status
-runs a b k l text written reads status takes at_most gains ends = record {
+runs : (level : Level) (a b : Supply) (k l : Store) (text written : List ℕ) (reads status : ℕ) → Takes a b text reads → reads ≤ longest + 1 → Gains k l written → HexEnds level text written a b k l status → RunsHex level a b k l status
+runs level a b k l text written reads status takes at_most gains ends = record {
   text = text;
   reads = reads;
   takes = takes;
@@ -96,41 +96,41 @@ runs a b k l text written reads status takes at_most gains ends = record {
   written = written;
   gains = gains;
   ends = ends;
-  accepts = accepts text written a b k l status ends;
-  complete = λ input e v f. completes text written input a b k l status ends (sym e ∙ takes.bytes) v f;
+  accepts = accepts level text written a b k l status ends;
+  complete = λ input e v f. completes level text written input a b k l status ends (sym e ∙ takes.bytes) v f;
 }
 
-pub hex_read_fault : (a b : Supply) (k : Store) → ReadsText a b (Err errors.ReadFault) → RunsHex a b k k 4
-hex_read_fault a b k r = runs a b k k r.taken [] r.reads 4 r.takes r.at_most (Gains-none k) (read_failed refl refl r.ends.0 r.ends.1)
+pub hex_read_fault : (level : Level) (a b : Supply) (k : Store) → ReadsText a b (Err errors.ReadFault) → RunsHex level a b k k 4
+hex_read_fault level a b k r = runs level a b k k r.taken [] r.reads 4 r.takes r.at_most (Gains-none k) (read_failed refl refl r.ends.0 r.ends.1)
 
-pub hex_too_long : (a b : Supply) (k : Store) → ReadsText a b (Err errors.TooLong) → RunsHex a b k k 6
-hex_too_long a b k r = runs a b k k r.taken [] r.reads 6 r.takes r.at_most (Gains-none k) (too_long refl refl r.ends)
+pub hex_too_long : (level : Level) (a b : Supply) (k : Store) → ReadsText a b (Err errors.TooLong) → RunsHex level a b k k 6
+hex_too_long level a b k r = runs level a b k k r.taken [] r.reads 6 r.takes r.at_most (Gains-none k) (too_long refl refl r.ends)
 
-pub hex_no_memory : (a b : Supply) (k : Store) → ReadsText a b (Err errors.NoMemory) → RunsHex a b k k 3
-hex_no_memory a b k r = runs a b k k r.taken [] r.reads 3 r.takes r.at_most (Gains-none k) (no_memory refl refl r.ends)
+pub hex_no_memory : (level : Level) (a b : Supply) (k : Store) → ReadsText a b (Err errors.NoMemory) → RunsHex level a b k k 3
+hex_no_memory level a b k r = runs level a b k k r.taken [] r.reads 3 r.takes r.at_most (Gains-none k) (no_memory refl refl r.ends)
 
 -- memory ran out on the way to the report
-pub hex_no_report : (a b : Supply) (k : Store) (text : List ℕ) → ReadsText a b (Ok text) → RunsHex a b k k 3
-hex_no_report a b k text r = runs a b k k r.taken [] r.reads 3 r.takes r.at_most (Gains-none k) (no_memory refl refl r.ends.1)
+pub hex_no_report : (level : Level) (a b : Supply) (k : Store) (text : List ℕ) → ReadsText a b (Ok text) → RunsHex level a b k k 3
+hex_no_report level a b k text r = runs level a b k k r.taken [] r.reads 3 r.takes r.at_most (Gains-none k) (no_memory refl refl r.ends.1)
 
 abbrev pub printed_as : List ℕ → ℕ → Printed
 printed_as text status = record { text = text; status = status }
 
-pub hex_done : (a b : Supply) (k l : Store) (text out : List ℕ) (status : ℕ) (u : Unit {0}) → ReadsText a b (Ok text) → printed_as out status ≡ report text → WritesAll k l out (Ok u) → RunsHex a b k l status
-hex_done a b k l text out status u r e w =
-    let all : printed_as out status ≡ report r.taken = e ∙ ap report r.ends.0 in
-    runs a b k l r.taken w.piece r.reads status r.takes r.at_most w.gains (reported (ap (λ p. p.status) all) (record { few = r.ends.1; end = r.ends.2 }) (w.ok ∙ ap (λ p. p.text) all))
+pub hex_done : (level : Level) (a b : Supply) (k l : Store) (text out : List ℕ) (status : ℕ) (u : Unit {0}) → ReadsText a b (Ok text) → printed_as out status ≡ report level text → WritesAll k l out (Ok u) → RunsHex level a b k l status
+hex_done level a b k l text out status u r e w =
+    let all : printed_as out status ≡ report level r.taken = e ∙ ap (report level) r.ends.0 in
+    runs level a b k l r.taken w.piece r.reads status r.takes r.at_most w.gains (reported (ap (λ p. p.status) all) (record { few = r.ends.1; end = r.ends.2 }) (w.ok ∙ ap (λ p. p.text) all))
 
-pub hex_write_fault : (a b : Supply) (k l : Store) (text out : List ℕ) (status : ℕ) (f : SinkFault) → ReadsText a b (Ok text) → printed_as out status ≡ report text → WritesAll k l out (Err f) → RunsHex a b k l 5
-hex_write_fault a b k l text out status f r e w =
-    let all : printed_as out status ≡ report r.taken = e ∙ ap report r.ends.0 in
-    runs a b k l r.taken w.piece r.reads 5 r.takes r.at_most w.gains (write_failed refl (record { few = r.ends.1; end = r.ends.2 }) w.err (w.prefix.0, w.prefix.1 ∙ ap (λ p. p.text) all))
+pub hex_write_fault : (level : Level) (a b : Supply) (k l : Store) (text out : List ℕ) (status : ℕ) (f : SinkFault) → ReadsText a b (Ok text) → printed_as out status ≡ report level text → WritesAll k l out (Err f) → RunsHex level a b k l 5
+hex_write_fault level a b k l text out status f r e w =
+    let all : printed_as out status ≡ report level r.taken = e ∙ ap (report level) r.ends.0 in
+    runs level a b k l r.taken w.piece r.reads 5 r.takes r.at_most w.gains (write_failed refl (record { few = r.ends.1; end = r.ends.2 }) w.err (w.prefix.0, w.prefix.1 ∙ ap (λ p. p.text) all))
 
 -- what a sink that held nothing took is what was written
-pub answered : (m n : ℕ) (bytes : List ℕ) (old new : Kept) (r : Result (Unit {0}) StreamError) → m ≡ n → old ≡ record { bytes = []; faults = 0 } → AnswersExactly plain m bytes (store_of old) (store_of new) r → IsAnswerTo plain n bytes new.bytes r
-answered m n bytes old new r limit empty h =
+pub answered : (level : Level) (m n : ℕ) (bytes : List ℕ) (old new : Kept) (r : Result (Unit {0}) StreamError) → m ≡ n → old ≡ record { bytes = []; faults = 0 } → AnswersExactly level m bytes (store_of old) (store_of new) r → IsAnswerTo level n bytes new.bytes r
+answered level m n bytes old new r limit empty h =
     let none : old.bytes ≡ [] = ap (λ s. s.bytes) empty in
     let all : Bytes new.bytes ≡ Bytes (old.bytes ++ h.written) = h.gains.bytes in
     let same : new.bytes ≡ old.bytes ++ h.written = cc in
     let written : h.written ≡ new.bytes = sym (same ∙ ap (λ (xs : List ℕ). xs ++ h.written) none) in
-    subst (λ k. IsAnswerTo plain k bytes new.bytes r) limit (subst (λ (xs : List ℕ). IsAnswerTo plain m bytes xs r) written h.answer)
+    subst (λ k. IsAnswerTo level k bytes new.bytes r) limit (subst (λ (xs : List ℕ). IsAnswerTo level m bytes xs r) written h.answer)

@@ -1,7 +1,7 @@
 -- Statuses of errors and answers, told apart.
 use Rattle.std.proofs.Common.{◌≡◌, ◌≢◌, ℕ, List, Result, Ok, Err, refl, sym, ◌∙◌, arith}
 use Rattle.hex.specs.declared.error.FromHexError.{FromHexError}
-use Rattle.amqp_types.specs.Levels.{plain}
+use Rattle.amqp_types.specs.Levels.{Level}
 use Rattle.amqp_stream.specs.declared.errors.StreamError.{StreamError}
 use Rattle.amqp_stream.specs.declared.errors.StreamError.TheVariants as errors
 use Rattle.amqp_stream.specs.Errors.{stream_error_status}
@@ -45,10 +45,10 @@ printed-status : (front : List ℕ) (r : Result (Unit {0}) StreamError) → (pri
 printed-status front (Ok done) = refl
 printed-status front (Err error) = refl
 
-pub report_at-status : (bytes : List ℕ) → (report_at bytes).status ≡ status_of (answer_to plain max_payload bytes)
+pub report_at-status : (level : Level) (bytes : List ℕ) → (report_at level bytes).status ≡ status_of (answer_to level max_payload bytes)
 unfolding report_at
-report_at-status bytes = printed-status _ (answer_to plain max_payload bytes)
+report_at-status level bytes = printed-status _ (answer_to level max_payload bytes)
 
-pub report_status_not_two : (r : Result (List ℕ) FromHexError) → (report_of r).status ≢ 2
-report_status_not_two (Ok bytes) e = answer_status_not_two (answer_to plain max_payload bytes) (sym (report_at-status bytes) ∙ e)
-report_status_not_two (Err error) e = absurd (omega arith)
+pub report_status_not_two : (level : Level) (r : Result (List ℕ) FromHexError) → (report_of level r).status ≢ 2
+report_status_not_two level (Ok bytes) e = answer_status_not_two (answer_to level max_payload bytes) (sym (report_at-status level bytes) ∙ e)
+report_status_not_two level (Err error) e = absurd (omega arith)

@@ -1,9 +1,9 @@
--- The report on a hex text: what is printed for it, and the status.
+-- The report on a hex text, read at a level: what is printed for it, and the status.
 use Rattle.std.specs.Prelude.{ℕ, List, [], ◌∷◌, ◌++◌, codes, Result, Ok, Err}
 use Rattle.std.specs.Io.BufRead.{strip_last}
 use Rattle.hex.specs.Hex.{decode_of, encode_lower}
 use Rattle.hex.specs.declared.error.FromHexError.{FromHexError}
-use Rattle.amqp_types.specs.Levels.{plain}
+use Rattle.amqp_types.specs.Levels.{Level}
 use Rattle.amqp_stream.specs.declared.errors.StreamError.{StreamError}
 use Rattle.amqp_stream.specs.Errors.{stream_error_name, stream_error_status}
 use Rattle.amqp_stream.specs.Canonicalizing.{canon_of, answer_to}
@@ -26,13 +26,13 @@ printed front (Ok done) = record { text = front; status = 0 }
 printed front (Err error) = record { text = front ++ (stream_error_name error ++ 10 ∷ []); status = stream_error_status error }
 
 -- The canonical bytes of the row at the front in lower-case hex. Where that is not all, the place's fault is named, or that the input is cut short.
-unfoldable pub report_at : List ℕ → Printed
-report_at bytes = printed (encode_lower (canon_of plain max_payload bytes) ++ 10 ∷ []) (answer_to plain max_payload bytes)
+unfoldable pub report_at : Level → List ℕ → Printed
+report_at level bytes = printed (encode_lower (canon_of level max_payload bytes) ++ 10 ∷ []) (answer_to level max_payload bytes)
 
-abbrev pub report_of : Result (List ℕ) FromHexError → Printed
-report_of (Ok bytes) = report_at bytes
-report_of (Err error) = record { text = codes "BadHex" ++ 10 ∷ []; status = 7 }
+abbrev pub report_of : Level → Result (List ℕ) FromHexError → Printed
+report_of level (Ok bytes) = report_at level bytes
+report_of level (Err error) = record { text = codes "BadHex" ++ 10 ∷ []; status = 7 }
 
 -- Hex digits of either case, an even number of them, with at most one newline behind them, which is dropped.
-abbrev pub report : List ℕ → Printed
-report text = report_of (decode_of (strip_last 10 text))
+abbrev pub report : Level → List ℕ → Printed
+report level text = report_of level (decode_of (strip_last 10 text))

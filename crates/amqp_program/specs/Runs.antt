@@ -2,7 +2,7 @@
 use Rattle.std.specs.Prelude.{◌≡◌, ◌⊎◌, ℕ, ◌+◌, ◌^◌, ◌<◌, ◌≤◌, List, [], ◌∷◌, ◌++◌, length, Some, Result, Ok, Err}
 use Rattle.hex.specs.Hex.{decode_of, encode_lower}
 use Rattle.std.specs.Io.BufRead.{strip_last}
-use Rattle.amqp_types.specs.Levels.{plain}
+use Rattle.amqp_types.specs.Levels.{Level, plain}
 use Rattle.amqp_stream.specs.declared.errors.StreamError.{StreamError}
 use Rattle.amqp_stream.specs.Errors.{stream_error_status}
 use Rattle.amqp_stream.specs.Ends.{Supply, Store, Takes, Gains, Rises, IsEmpty}
@@ -16,40 +16,40 @@ pub record IsWhole (text : List ℕ) (b : Supply) : Type 0 where
   pub few : length text ≤ longest
   pub end : IsEmpty b.left
 
--- How a run of `hex` ends, by its status: what was taken is the text. More than the longest text is taken with status 6 alone.
-pub data HexEnds (text written : List ℕ) (a b : Supply) (k l : Store) (status : ℕ) : Type 0 where
-  no_memory : status ≡ 3 → written ≡ [] → length text ≤ longest → HexEnds text written a b k l status
-  read_failed : status ≡ 4 → written ≡ [] → length text ≤ longest → Rises a.faults b.faults → HexEnds text written a b k l status
-  too_long : status ≡ 6 → written ≡ [] → longest < length text → HexEnds text written a b k l status
-  write_failed : status ≡ 5 → IsWhole text b → Rises k.faults l.faults → IsPrefix written (report text).text → HexEnds text written a b k l status
-  reported : status ≡ (report text).status → IsWhole text b → written ≡ (report text).text → HexEnds text written a b k l status
+-- How a run over a hex text ends, by its status: what was taken is the text. More than the longest text is taken with status 6 alone.
+pub data HexEnds (level : Level) (text written : List ℕ) (a b : Supply) (k l : Store) (status : ℕ) : Type 0 where
+  no_memory : status ≡ 3 → written ≡ [] → length text ≤ longest → HexEnds level text written a b k l status
+  read_failed : status ≡ 4 → written ≡ [] → length text ≤ longest → Rises a.faults b.faults → HexEnds level text written a b k l status
+  too_long : status ≡ 6 → written ≡ [] → longest < length text → HexEnds level text written a b k l status
+  write_failed : status ≡ 5 → IsWhole text b → Rises k.faults l.faults → IsPrefix written (report level text).text → HexEnds level text written a b k l status
+  reported : status ≡ (report level text).status → IsWhole text b → written ≡ (report level text).text → HexEnds level text written a b k l status
 
 -- where a run ended with 0, the decoded text is a row of frames, and their canonical bytes were written
-pub record AcceptsHex (text written : List ℕ) (b : Supply) : Type 0 where
+pub record AcceptsHex (level : Level) (text written : List ℕ) (b : Supply) : Type 0 where
   pub whole : IsWhole text b
   pub bytes : List ℕ
   pub decoded : decode_of (strip_last 10 text) ≡ Ok bytes
-  pub row : IsRow plain max_payload bytes
-  pub canonical : written ≡ encode_lower (canon_of plain max_payload bytes) ++ 10 ∷ []
+  pub row : IsRow level max_payload bytes
+  pub canonical : written ≡ encode_lower (canon_of level max_payload bytes) ++ 10 ∷ []
 
 -- a text with a report of status 0
-pub record IsValidText (text : List ℕ) : Type 0 where
+pub record IsValidText (level : Level) (text : List ℕ) : Type 0 where
   pub few : length text ≤ longest
-  pub accepted : (report text).status ≡ 0
+  pub accepted : (report level text).status ≡ 0
 
 abbrev pub IsDoneOrNoMemory : ℕ → Type 0
 IsDoneOrNoMemory status = (status ≡ 0) ⊎ (status ≡ 3)
 
-pub record RunsHex (a b : Supply) (k l : Store) (status : ℕ) : Type 0 where
+pub record RunsHex (level : Level) (a b : Supply) (k l : Store) (status : ℕ) : Type 0 where
   pub text : List ℕ
   pub reads : ℕ
   pub takes : Takes a b text reads
   pub at_most : reads ≤ longest + 1
   pub written : List ℕ
   pub gains : Gains k l written
-  pub ends : HexEnds text written a b k l status
-  pub accepts : status ≡ 0 → AcceptsHex text written b
-  pub complete : (input : List ℕ) → a.left ≡ Some input → IsValidText input → NoFaults a b k l → IsDoneOrNoMemory status
+  pub ends : HexEnds level text written a b k l status
+  pub accepts : status ≡ 0 → AcceptsHex level text written b
+  pub complete : (input : List ℕ) → a.left ≡ Some input → IsValidText level input → NoFaults a b k l → IsDoneOrNoMemory status
 
 -- the status of an answer
 abbrev pub status_of : Result (Unit {0}) StreamError → ℕ

@@ -10,6 +10,9 @@ pub enum Command {
     /// `raw`: canonicalizes bytes.
     Raw,
 
+    /// `tidy`: as `hex`, and takes tidy frames alone.
+    Tidy,
+
     /// `make N`: makes so many frames, and prints the number of their bytes and of their
     /// canonical bytes.
     Make(u32),
@@ -51,6 +54,7 @@ fn parse_word(word: &str) -> Option<Command>
     match word {
         "hex" => Some(Command::Hex),
         "raw" => Some(Command::Raw),
+        "tidy" => Some(Command::Tidy),
         "--help" => Some(Command::Help),
         "--version" => Some(Command::Version),
         _ => None,

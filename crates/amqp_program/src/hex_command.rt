@@ -1,14 +1,23 @@
+//! The commands over a hex text: `hex`, and `tidy`, which takes tidy frames alone.
+
+ghost use Rattle.amqp_types.specs.Levels.{level_of};
 ghost use Rattle.amqp_program.specs.Runs.{RunsHex};
 
 use crate::report::report_of;
 use crate::text::{TextError, read_text};
 use amqp_stream::{Sink, Source, write_all};
+use amqp_types::Profile;
 use std::alloc::Global;
 
-/// Canonicalizes the bytes of a hex text, and prints the report on it.
+/// Canonicalizes the bytes of a hex text, read in a profile, and prints the report on it.
 #[tactic(auto, using(crate::proofs::HexRuns::hex_done, crate::proofs::HexRuns::hex_write_fault, crate::proofs::HexRuns::hex_no_report))]
-pub fn run_hex<S: Source, K: Sink>(alloc: Global, source: &mut S, sink: &mut K) -> u8
-    ensures { RunsHex (S.supply source.old) (S.supply source.new) (K.store sink.old) (K.store sink.new) result }
+pub fn run_hex<S: Source, K: Sink>(
+    alloc: Global,
+    profile: Profile,
+    source: &mut S,
+    sink: &mut K,
+) -> u8
+    ensures { RunsHex (level_of profile) (S.supply source.old) (S.supply source.new) (K.store sink.old) (K.store sink.new) result }
 {
     let text = match read_text(alloc, source) {
         Ok(text) => text,
@@ -16,7 +25,7 @@ pub fn run_hex<S: Source, K: Sink>(alloc: Global, source: &mut S, sink: &mut K) 
         Err(TextError::TooLong) => return 6,
         Err(TextError::NoMemory) => return 3,
     };
-    let Ok(report) = report_of(alloc, text.as_slice()) else {
+    let Ok(report) = report_of(alloc, profile, text.as_slice()) else {
         return 3;
     };
     match write_all(sink, report.text.as_slice()) {

@@ -9,6 +9,8 @@ pub const HELP: &str = "feksroum: reads AMQP 0-9-1 frames and writes their canon
                       front in hex; a fault is named on a line of its own
   feksroum raw        reads bytes, and writes canonical bytes as it reads; a fault is told
                       by the status alone
+  feksroum tidy       as hex, and takes tidy frames alone: those in which all that reading
+                      drops stands as it is written
   feksroum make N     makes N frames, at most 100000, and prints the number of their bytes
                       and of their canonical bytes
   feksroum --help     prints this text
@@ -18,7 +20,7 @@ The status is 0 where all of the input was frames. Others: 1 words that cannot b
 2 other words, 3 want of memory, 4 a read failed, 5 a write failed, 6 more than 16777216
 bytes of text, 7 BadHex, 10 UnknownFrameType, 11 BadProtocolHeader, 12 TooLarge (a payload
 above 131072 bytes), 13 BadFrameEnd, 14 UnknownClass, 15 UnknownMethod, 16 ShortPayload,
-17 TrailingBytes, 18 NotUtf8, 19 UnknownTag, 20 TooDeep, 21 CutShort, 22 TurnsSpent.
+17 TrailingBytes, 18 NotUtf8, 19 UnknownTag, 20 TooDeep, 21 CutShort, 22 TurnsSpent, 23 NotTidy.
 ";
 
 /// The version.

@@ -1,13 +1,13 @@
 //! What a command prints for a text, made whole before it is written.
 
 ghost use Rattle.std.specs.Prelude.{◌≡◌, ◌++◌, ◌∷◌, [], IfOk};
-ghost use Rattle.amqp_types.specs.Levels.{plain};
+ghost use Rattle.amqp_types.specs.Levels.{level_of};
 ghost use Rattle.amqp_stream.specs.Canonicalizing.{IsAnswerTo};
 ghost use Rattle.amqp_program.specs.Reports.{max_payload, printed_of, printed, report, report_at};
 ghost use Rattle.hex.specs.Hex.{encode_lower};
 
 use amqp_stream::{Codec, SliceSource, StreamError, VecSink};
-use amqp_types::{ChunkSize, NoMemory};
+use amqp_types::{ChunkSize, NoMemory, Profile};
 use std::alloc::Global;
 
 /// The limit on payloads, in bytes.
@@ -21,14 +21,18 @@ pub struct Report {
 }
 
 /// Canonicalizes bytes in memory: the sink that took what was written, and how it ended.
-fn canonical(alloc: Global, bytes: &[u8]) -> Result<(VecSink, Result<(), StreamError>), NoMemory>
-    ensures { IfOk result (λ r. IsAnswerTo plain max_payload bytes.now r.0.bytes r.1) }
+fn canonical(
+    alloc: Global,
+    profile: Profile,
+    bytes: &[u8],
+) -> Result<(VecSink, Result<(), StreamError>), NoMemory>
+    ensures { IfOk result (λ r. IsAnswerTo (level_of profile) max_payload bytes.now r.0.bytes r.1) }
 {
     let mut source = SliceSource::new(bytes);
     let mut sink = VecSink::new(alloc);
     let mut codec = Codec::open(alloc, MAX_PAYLOAD)?;
     let turns = bytes.len() as u64 + 1;
-    let answer = codec.canonicalize(alloc, &mut source, &mut sink, turns);
+    let answer = codec.canonicalize_in(alloc, profile, &mut source, &mut sink, turns);
     Ok((sink, answer))
 }
 
@@ -54,10 +58,10 @@ fn told(alloc: Global, written: &[u8], answer: Result<(), StreamError>) -> Resul
 
 /// The report on decoded bytes.
 #[tactic(auto, unfolding(crate::specs::Reports::report_at))]
-fn report_on(alloc: Global, bytes: &[u8]) -> Result<Report, NoMemory>
-    ensures { IfOk result (λ r. printed_of r ≡ report_at bytes.now) }
+fn report_on(alloc: Global, profile: Profile, bytes: &[u8]) -> Result<Report, NoMemory>
+    ensures { IfOk result (λ r. printed_of r ≡ report_at (level_of profile) bytes.now) }
 {
-    let (sink, answer) = canonical(alloc, bytes)?;
+    let (sink, answer) = canonical(alloc, profile, bytes)?;
     match answer {
         Err(StreamError::NoMemory) => Err(NoMemory),
         Err(StreamError::WriteFault) => Err(NoMemory),
@@ -67,16 +71,16 @@ fn report_on(alloc: Global, bytes: &[u8]) -> Result<Report, NoMemory>
     }
 }
 
-/// The report on a hex text.
-pub fn report_of(alloc: Global, text: &[u8]) -> Result<Report, NoMemory>
-    ensures { IfOk result (λ r. printed_of r ≡ report text.now) }
+/// The report on a hex text, read in a profile.
+pub fn report_of(alloc: Global, profile: Profile, text: &[u8]) -> Result<Report, NoMemory>
+    ensures { IfOk result (λ r. printed_of r ≡ report (level_of profile) text.now) }
 {
     let digits = match text {
         [digits @ .., 10] => digits,
         _ => text,
     };
     match hex::decode(alloc, digits) {
-        Ok(bytes) => report_on(alloc, bytes.as_slice()),
+        Ok(bytes) => report_on(alloc, profile, bytes.as_slice()),
         Err(hex::FromHexError::OutOfMemory) => Err(NoMemory),
         Err(_) => {
             let text = Vec::from_slice(alloc, b"BadHex\n")?;

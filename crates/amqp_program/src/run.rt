@@ -1,4 +1,7 @@
+//! What the program does for each form of words.
+
 ghost use Rattle.std.specs.Prelude.{◌≡◌, ◌↔◌, ℕ, Some, None};
+ghost use Rattle.amqp_types.specs.Levels.{plain, tidy};
 ghost use Rattle.amqp_program.specs.Commands.{command_of, texts_of};
 ghost use Rattle.amqp_program.specs.Makes.{RunsMake};
 ghost use Rattle.amqp_program.specs.Runs.{RunsHex, RunsRaw, Prints};
@@ -9,6 +12,7 @@ use crate::make_command::run_make;
 use crate::print_command::{HELP, VERSION, print};
 use crate::raw_command::run_raw;
 use amqp_stream::{Sink, Source};
+use amqp_types::Profile;
 use std::alloc::Global;
 
 /// Does all that the program does, and answers its exit status. The words are those after the
@@ -16,7 +20,9 @@ use std::alloc::Global;
 #[tactic(auto, using(crate::proofs::HexRuns::hex_not_two, crate::proofs::RawRuns::raw_not_two))]
 pub fn run<S: Source, K: Sink>(alloc: Global, words: &[String], source: &mut S, sink: &mut K) -> u8
     ensures hex { command_of (texts_of words.now) ≡ Some Command.Hex
-        → RunsHex (S.supply source.old) (S.supply source.new) (K.store sink.old) (K.store sink.new) result }
+        → RunsHex plain (S.supply source.old) (S.supply source.new) (K.store sink.old) (K.store sink.new) result }
+    ensures tidy { command_of (texts_of words.now) ≡ Some Command.Tidy
+        → RunsHex tidy (S.supply source.old) (S.supply source.new) (K.store sink.old) (K.store sink.new) result }
     ensures raw { command_of (texts_of words.now) ≡ Some Command.Raw
         → RunsRaw (S.supply source.old) (S.supply source.new) (K.store sink.old) (K.store sink.new) result }
     ensures make { (n : ℕ) → command_of (texts_of words.now) ≡ Some (Command.Make n)
@@ -31,7 +37,8 @@ pub fn run<S: Source, K: Sink>(alloc: Global, words: &[String], source: &mut S, 
     ensures nothing { command_of (texts_of words.now) ≡ None → (source.new ≡ source.old) × (sink.new ≡ sink.old) }
 {
     match parse_command(words) {
-        Some(Command::Hex) => run_hex(alloc, source, sink),
+        Some(Command::Hex) => run_hex(alloc, Profile::Plain, source, sink),
+        Some(Command::Tidy) => run_hex(alloc, Profile::Tidy, source, sink),
         Some(Command::Raw) => run_raw(alloc, source, sink),
         Some(Command::Make(frames)) => run_make(alloc, frames, sink),
         Some(Command::Help) => print(sink, HELP),

@@ -1,93 +1,101 @@
--- How a run of the codec ends.
-use Rattle.std.proofs.Common.{◌≡◌, ◌≢◌, ℕ, ◌+◌, ◌-◌, ◌≤◌, List, [], ◌++◌, length, Some, None, Result, Ok, Err, refl, sym, ap, subst, ◌∙◌, arith, append_assoc, append-nil, true}
-use Rattle.std.proofs.lemmas.List.{length-append, take_at}
-use Rattle.std.proofs.lemmas.Grind.{flat_map-append}
+-- How a run of the engine ends.
+use Rattle.std.proofs.Common.{◌≡◌, ◌≢◌, ℕ, ◌+◌, ◌-◌, ◌<◌, ◌≤◌, List, [], ◌∷◌, ◌++◌, length, Option, Some, None, Result, Ok, Err, IsTrue, refl, sym, ap, subst, ◌∙◌, arith, append_assoc, append-nil, drop, inl, inr}
+use Rattle.std.proofs.lemmas.List.{take_at, length-append, nil_from_length}
 use Rattle.amqp_types.specs.Levels.{Level}
-use Rattle.amqp_types.specs.Judging.{Fault, past, fault, took, IsBytes}
-use Rattle.amqp_frame.specs.Frames.{Raw, Frame, raw_of}
-use Rattle.amqp_frame.specs.declared.raw_frame.AMQPRawFrame.{AMQPRawFrame}
-use Rattle.amqp_frame.specs.Outer.{outer}
-use Rattle.amqp_frame.specs.Verdicts.{verdict, is_at}
-use Rattle.amqp_frame.specs.Fronts.{front, place}
-use Rattle.amqp_frame.specs.Canonical.{canon, canon_row}
-use Rattle.amqp_frame.proofs.Cuts.{IsStop, front-stop, front-none, place-none, stop-none, verdict-more, verdict-bad, verdict-fault}
-use Rattle.amqp_frame.proofs.Rows.{row_of_all}
-use Rattle.amqp_frame.proofs.Strictness.{canon_front-short}
+use Rattle.amqp_types.specs.Judging.{Fault, unknown_frame_type, bad_protocol_header, too_large, bad_frame_end, not_tidy, past, fault, took, IsBytes}
 use Rattle.amqp_types.proofs.Bytes.{IsBytes-take}
+use Rattle.amqp_frame.specs.Frames.{Raw, Frame}
+use Rattle.amqp_frame.specs.Outer.{outer}
+use Rattle.amqp_frame.specs.Verdicts.{verdict, judged}
+use Rattle.amqp_frame.specs.Fronts.{front, place}
+use Rattle.amqp_frame.proofs.Cuts.{IsStop, front-stop, front-got, front-none, place-none, stop-none, verdict-more, verdict-bad, verdict-whole}
+use Rattle.amqp_frame.proofs.Rows.{row_of_all}
 use Rattle.amqp_stream.specs.declared.errors.ReadError.{ReadError}
 use Rattle.amqp_stream.specs.declared.errors.ReadError.TheVariants as reads
-use Rattle.amqp_stream.specs.declared.errors.StreamError.{StreamError}
 use Rattle.amqp_stream.specs.declared.errors.StreamError.TheVariants as errors
-use Rattle.amqp_stream.specs.Errors.{stream_error}
-use Rattle.amqp_stream.specs.Ends.{Supply, Store, Gains, IsEmpty}
+use Rattle.amqp_stream.specs.declared.errors.RunError.{RunError}
+use Rattle.amqp_stream.specs.declared.errors.RunError.TheVariants as ends
 use Rattle.amqp_stream.specs.declared.sink.SinkFault.{SinkFault}
-use Rattle.amqp_stream.specs.Reading.{idle_reads_at, Fails, PullsTo, IsLent}
-use Rattle.amqp_stream.specs.Writing.{IsPrefix, IsRefusal, Keeps, WritesAll, WritesFrame, Stops, stopped, stream_result}
-use Rattle.amqp_stream.specs.Canonicalizing.{canon_of, place_verdict, IsRow, AtTypedFrame, IsBehindBy, HasCause, HasWritten, Canonicalizes}
+use Rattle.amqp_stream.specs.declared.source.SourceFault.{SourceFault}
+use Rattle.amqp_stream.specs.Errors.{stream_error, read_fault, Cause, faulty, cut_short, turns_spent, read_failed, write_failed, out_of_memory, cause_of}
+use Rattle.amqp_stream.specs.Ends.{Supply, Store, Gains, Rises, IsEmpty}
+use Rattle.amqp_stream.specs.Reading.{ReadsMore}
+use Rattle.amqp_stream.specs.Writing.{IsPrefix, Keeps, WritesAll, GatherFails}
+use Rattle.amqp_stream.specs.Canonicalizing.{place_verdict, IsRow, AsksTidy}
+use Rattle.amqp_stream.specs.Steps.{Manner, text, refused, state}
+use Rattle.amqp_stream.specs.Streaming.{Ending, finished, refused_by, stopped_by, error_ending, ending_of, IsRefused, IsFaulty, WriteFails, WritesBy, end_with, ended, EndsWith, text_of, refused_of, state_of, AtWanting, IsShortBy, HasCauseBy, IsAllWritten, HasWrittenBy, HasStateBy, Streams}
 use Rattle.amqp_stream.proofs.Adding.{Gains-none, Gains-then, Rises-later}
-use Rattle.amqp_stream.proofs.Running.{Running, Running-next, Running-flushed, Pending, Going, Ready, canon_row-append, subst-store, frame_gathers}
+use Rattle.amqp_stream.proofs.Passing.{Passes-one, Passes-all, refuses_here}
+use Rattle.amqp_stream.proofs.Going.{Start, Spans, Spans-then, Spans-one, Clear, Going, Clear-flushed, Clear-read, Going-kept}
 
--- where no frame follows, the frames written are all, and the rest is the place
-pub stops : (level : Level) (m turns left : ℕ) (a b : Supply) (k l : Store) (held : List ℕ) (idle : ℕ) (run : Running level m turns left a b k l held idle) → IsStop (verdict level (Some m) held) → (front level (Some m) (run.used ++ held) ≡ run.frames) × (place level (Some m) (run.used ++ held) ≡ held)
-stops level m turns left a b k l held idle run s =
-    let rest = front-stop level (Some m) held s in
-    (run.row.row held ∙ ap (λ (fs : List Frame). run.frames ++ fs) rest.0 ∙ append-nil run.frames, run.row.after held ∙ rest.1)
+-- ---- what was used is a sequence of frames, and what was written begins with what is written for it
 
--- ---- what was used is a row, and what was written begins with its canonical bytes
+-- the sequence of frames that some bytes are
+record IsSpanned {S E : Type 0} (w : Manner S E) (m : ℕ) (s t : S) (bytes text : List ℕ) : Type 0 where
+  row : IsRow w.level m bytes
+  text_is : text_of w s m bytes ≡ text
+  state_is : state_of w s m bytes ≡ t
 
-used_bytes : (level : Level) (m turns left : ℕ) (a b : Supply) (k l : Store) (held : List ℕ) (idle : ℕ) (run : Running level m turns left a b k l held idle) → IsBytes run.used
-used_bytes level m turns left a b k l held idle run = subst IsBytes (take_at run.used held (length run.used) refl) (IsBytes-take (length run.used) (run.used ++ held) run.are_bytes)
+spanned : {S E : Type 0} {w : Manner S E} {m : ℕ} {s t : S} {bytes text : List ℕ} → Spans w m s t bytes text → IsBytes bytes → IsSpanned w m s t bytes text
+spanned {w = w} {m = m} {s = s} {bytes = bytes} h fits =
+    let fronts : front w.level (Some m) bytes ≡ h.frames = ap (front w.level (Some m)) (sym (append-nil bytes)) ∙ h.row.row [] ∙ ap (λ (fs : List Frame). h.frames ++ fs) (front-none w.level (Some m)) ∙ append-nil h.frames in
+    let none : place w.level (Some m) bytes ≡ [] = ap (place w.level (Some m)) (sym (append-nil bytes)) ∙ h.row.after [] ∙ place-none w.level (Some m) in
+    let all = Passes-all h.passes in
+    record {
+      row = (front w.level (Some m) bytes, row_of_all w.level (Some m) bytes fits none);
+      text_is = ap (text w s) fronts ∙ all.text_is;
+      state_is = ap (state w s) fronts ∙ all.state_is;
+    }
 
-used_front : (level : Level) (m turns left : ℕ) (a b : Supply) (k l : Store) (held : List ℕ) (idle : ℕ) (run : Running level m turns left a b k l held idle) → front level (Some m) run.used ≡ run.frames
-used_front level m turns left a b k l held idle run = ap (front level (Some m)) (sym (append-nil run.used)) ∙ run.row.row [] ∙ ap (λ (fs : List Frame). run.frames ++ fs) (front-none level (Some m)) ∙ append-nil run.frames
+front_bytes : (a b : List ℕ) → IsBytes (a ++ b) → IsBytes a
+front_bytes a b fits = subst IsBytes (take_at a b (length a) refl) (IsBytes-take (length a) (a ++ b) fits)
 
-used_row : (level : Level) (m turns left : ℕ) (a b : Supply) (k l : Store) (held : List ℕ) (idle : ℕ) (run : Running level m turns left a b k l held idle) → IsRow level m run.used
-used_row level m turns left a b k l held idle run =
-    let none : place level (Some m) run.used ≡ [] = ap (place level (Some m)) (sym (append-nil run.used)) ∙ run.row.after [] ∙ place-none level (Some m) in
-    (front level (Some m) run.used, row_of_all level (Some m) run.used (used_bytes level m turns left a b k l held idle run) none)
+short_by : {S E : Type 0} {w : Manner S E} {m : ℕ} {s t : S} {used text : List ℕ} (rest more : List ℕ) → Spans w m s t used text → IsBytes (used ++ rest) → length rest ≤ m + 8 → IsShortBy w s m (used ++ rest) (text ++ more) (m + 8)
+short_by {w = w} {m = m} {s = s} {used = used} {text = text} rest more h fits few =
+    let is = spanned h (front_bytes used rest fits) in
+    record { row = used; rest = rest; parts = refl; is_row = is.row; written_begins = (more, ap (λ (xs : List ℕ). xs ++ more) is.text_is); few = few }
 
-behind_by : (level : Level) (m turns left : ℕ) (a b : Supply) (k l : Store) (held piece : List ℕ) (idle : ℕ) (run : Running level m turns left a b k l held idle) → IsBehindBy level m (run.used ++ held) (canon_row run.frames ++ piece) (m + 8)
-behind_by level m turns left a b k l held piece idle run = record {
-  row = run.used;
-  rest = held;
-  parts = refl;
-  is_row = used_row level m turns left a b k l held idle run;
-  written_begins = (piece, ap (λ (fs : List Frame). canon_row fs ++ piece) (used_front level m turns left a b k l held idle run));
-  few = run.room;
-}
+-- ---- a run that ends with nothing pending
 
-prefix_of_all : (xs ys : List ℕ) → xs ≡ ys → IsPrefix xs ys
-prefix_of_all xs ys e = ([], append-nil xs ∙ e)
+-- what is known of all that was taken, where no frame follows
+record AtPlace {S E : Type 0} (w : Manner S E) (m : ℕ) (s u : S) (taken held written : List ℕ) : Type 0 where
+  all : IsAllWritten w s m taken written
+  state_is : u ≡ state_of w s m taken
+  verdict_is : place_verdict w.level m taken ≡ verdict w.level (Some m) held
+  place_is : place w.level (Some m) taken ≡ held
 
--- a call that ends behind what was written, and a piece
-finish : (level : Level) (m turns left : ℕ) (a b : Supply) (k l l' : Store) (held piece : List ℕ) (idle : ℕ) (r : Result (Unit {0}) StreamError) (run : Running level m turns left a b k l held idle) → Gains l l' piece → (r ≡ Err errors.TurnsSpent → left ≡ 0) → IsPrefix (canon_row run.frames ++ piece) (canon_of level m (run.used ++ held)) → HasWritten level m (run.used ++ held) (canon_row run.frames ++ piece) r → HasCause level m turns (run.used ++ held) (canon_row run.frames ++ piece) a b k l' r → Canonicalizes level m turns a b k l' r
-finish level m turns left a b k l l' held piece idle r run g spent begins w cause = record {
-  taken = run.used ++ held;
-  are_bytes = run.are_bytes;
-  reads = turns - left;
-  takes = run.takes;
+at_place : {S E : Type 0} {r : Start S E} {u : S} {left : ℕ} {c : Supply} {l : Store} {held : List ℕ} {idle : ℕ} (h : Clear r u left c l held idle) → IsStop (verdict r.w.level (Some r.m) held) → AtPlace r.w r.m r.s u (h.used ++ held) held h.text
+at_place {r = r} {held = held} h stop =
+    let w = r.w in
+    let m = r.m in
+    let rest = front-stop w.level (Some m) held stop in
+    let fronts : front w.level (Some m) (h.used ++ held) ≡ h.spans.frames = h.spans.row.row held ∙ ap (λ (fs : List Frame). h.spans.frames ++ fs) rest.0 ∙ append-nil h.spans.frames in
+    let places : place w.level (Some m) (h.used ++ held) ≡ held = h.spans.row.after held ∙ rest.1 in
+    let all = Passes-all h.spans.passes in
+    record {
+      all = record { text_is = sym (ap (text w r.s) fronts ∙ all.text_is); none_refused = ap (refused w r.s) fronts ∙ all.none_refused };
+      state_is = sym (ap (state w r.s) fronts ∙ all.state_is);
+      verdict_is = ap (verdict w.level (Some m)) places;
+      place_is = places;
+    }
+
+-- a run that ends so
+finish : {S E : Type 0} {r : Start S E} {u : S} {left : ℕ} {c : Supply} {l : Store} {held : List ℕ} {idle : ℕ} (t : S) (e : Ending E) (h : Clear r u left c l held idle) → (e ≡ stopped_by turns_spent → left ≡ 0) → HasWrittenBy r.w r.s r.m (h.used ++ held) h.text e → HasStateBy r.w r.s t r.m (h.used ++ held) e → HasCauseBy r.w r.s r.m r.turns (h.used ++ held) h.text r.source c r.sink l e → (e ≡ stopped_by (faulty not_tidy) → AsksTidy r.w.level) → Streams r.w r.s t r.m r.turns r.source c r.sink l e
+finish {r = r} {left = left} {held = held} t e h spent writes state_is cause tidy_only = record {
+  taken = h.used ++ held;
+  are_bytes = h.taken.are_bytes;
+  reads = r.turns - left;
+  takes = h.taken.takes;
   at_most = omega arith;
-  all_turns = λ e. omega (arith, spent e);
-  written = canon_row run.frames ++ piece;
-  gains = Gains-then k l l' (canon_row run.frames) piece run.gains g;
-  writes = w;
+  all_turns = λ same. omega (arith, spent same);
+  written = h.text;
+  gains = h.gains;
+  writes = writes;
+  state_is = state_is;
   cause = cause;
-  behind = behind_by level m turns left a b k l held piece idle run;
-  no_longer = omega (arith, ap length begins.1, length-append (canon_row run.frames ++ piece) begins.0, canon_front-short level (Some m) (run.used ++ held) run.are_bytes);
+  tidy_only = tidy_only;
+  short_by = subst (λ (xs : List ℕ). IsShortBy r.w r.s r.m (h.used ++ held) xs (r.m + 8)) (append-nil h.text) (short_by held [] h.spans h.taken.are_bytes h.room);
 }
-
--- a call that ends with all of the front written
-finish_all : (level : Level) (m turns left : ℕ) (a b : Supply) (k l : Store) (held : List ℕ) (idle : ℕ) (r : Result (Unit {0}) StreamError) (run : Running level m turns left a b k l held idle) → (r ≡ Err errors.TurnsSpent → left ≡ 0) → canon_row run.frames ++ [] ≡ canon_of level m (run.used ++ held) → HasWritten level m (run.used ++ held) (canon_row run.frames ++ []) r → HasCause level m turns (run.used ++ held) (canon_row run.frames ++ []) a b k l r → Canonicalizes level m turns a b k l r
-finish_all level m turns left a b k l held idle r run spent all w cause =
-    finish level m turns left a b k l l held [] idle r run (Gains-none l) spent (prefix_of_all (canon_row run.frames ++ []) (canon_of level m (run.used ++ held)) all) w cause
-
--- all of the front was written
-all_written : (level : Level) (m turns left : ℕ) (a b : Supply) (k l : Store) (held : List ℕ) (idle : ℕ) (run : Running level m turns left a b k l held idle) → IsStop (verdict level (Some m) held) → canon_row run.frames ++ [] ≡ canon_of level m (run.used ++ held)
-all_written level m turns left a b k l held idle run s = append-nil (canon_row run.frames) ∙ ap canon_row (sym (stops level m turns left a b k l held idle run s).0)
-
--- the place is judged as what is held
-place_is : (level : Level) (m turns left : ℕ) (a b : Supply) (k l : Store) (held : List ℕ) (idle : ℕ) (run : Running level m turns left a b k l held idle) → IsStop (verdict level (Some m) held) → place_verdict level m (run.used ++ held) ≡ verdict level (Some m) held
-place_is level m turns left a b k l held idle run s = ap (verdict level (Some m)) (stops level m turns left a b k l held idle run s).1
 
 is_bad : (level : Level) (m : ℕ) (held : List ℕ) (bad : Fault) → verdict level (Some m) held ≡ fault bad → IsStop (verdict level (Some m) held)
 is_bad level m held bad e = rw e tt
@@ -95,166 +103,196 @@ is_bad level m held bad e = rw e tt
 is_more : (level : Level) (m : ℕ) (held : List ℕ) → verdict level (Some m) held ≡ past → IsStop (verdict level (Some m) held)
 is_more level m held e = rw e tt
 
--- the end of the source
-pub finish_ok : (level : Level) (m turns left : ℕ) (a c : Supply) (k l : Store) (held : List ℕ) (u : Unit {0}) → Running level m turns left a c k l held 1 → held ≡ [] → IsEmpty c.left → Canonicalizes level m turns a c k l (Ok u)
-finish_ok level m turns left a c k l held u next none empty =
-    let stop : IsStop (verdict level (Some m) held) = subst (λ (xs : List ℕ). IsStop (verdict level (Some m) xs)) (sym none) (stop-none level (Some m)) in
-    let place-is = (stops level m turns left a c k l held 1 next stop).1 ∙ none in
-    let all = all_written level m turns left a c k l held 1 next stop in
-    finish_all level m turns left a c k l held 1 (Ok u) next (λ e. absurd cc) all all ((front level (Some m) (next.used ++ held), row_of_all level (Some m) (next.used ++ held) next.are_bytes place-is), empty)
+abbrev fault_ending : (E : Type 0) → Fault → Ending E
+fault_ending E bad = stopped_by (faulty bad)
+
+fault_is : (E : Type 0) (bad other : Fault) → fault_ending E bad ≡ fault_ending E other → bad ≡ other
+fault_is E bad other e = cc
 
 -- a fault of bytes
-finish_bad : (level : Level) (m turns left : ℕ) (a b : Supply) (k l : Store) (held : List ℕ) (idle : ℕ) (bad : Fault) (r : Result (Unit {0}) StreamError) (run : Running level m turns left a b k l held idle) → (r ≡ Err errors.TurnsSpent → left ≡ 0) → verdict level (Some m) held ≡ fault bad → ((taken written : List ℕ) → written ≡ canon_of level m taken → HasWritten level m taken written r) → ((taken written : List ℕ) → place_verdict level m taken ≡ fault bad → HasCause level m turns taken written a b k l r) → Canonicalizes level m turns a b k l r
-finish_bad level m turns left a b k l held idle bad r run spent e w cause =
-    let stop = is_bad level m held bad e in
-    let all = all_written level m turns left a b k l held idle run stop in
-    finish_all level m turns left a b k l held idle r run spent all (w _ _ all) (cause _ _ (place_is level m turns left a b k l held idle run stop ∙ e))
+finish_bad : {S E : Type 0} {r : Start S E} {u : S} {left : ℕ} {c : Supply} {l : Store} {held : List ℕ} {idle : ℕ} (bad : Fault) → Clear r u left c l held idle → verdict r.w.level (Some r.m) held ≡ fault bad → (bad ≡ not_tidy → AsksTidy r.w.level) → Streams r.w r.s u r.m r.turns r.source c r.sink l (stopped_by (faulty bad))
+finish_bad {E = E} {r = r} {u = u} {held = held} bad h e asks =
+    let at = at_place h (is_bad r.w.level r.m held bad e) in
+    finish u (stopped_by (faulty bad)) h (λ same. absurd cc) at.all at.state_is (at.verdict_is ∙ e) (λ same. asks (fault_is E bad not_tidy same))
 
--- an error of reading, behind all that was written
-pub finish_err : (level : Level) (m turns left : ℕ) (a b c : Supply) (k l : Store) (held : List ℕ) (e : ReadError) → Running level m turns left a c k l held (idle_reads_at e) → a.faults ≤ b.faults → b.faults ≤ c.faults → Fails m held b c left e → Canonicalizes level m turns a c k l (Err (stream_error e))
-finish_err level m turns left a b c k l held reads.UnknownFrameType next low high p =
-    finish_bad level m turns left a c k l held 0 _ (Err errors.UnknownFrameType) next (λ e. absurd cc) (verdict-bad level (Some m) held _ p) (λ t w e. e) (λ t w e. e)
-finish_err level m turns left a b c k l held reads.BadProtocolHeader next low high p =
-    finish_bad level m turns left a c k l held 0 _ (Err errors.BadProtocolHeader) next (λ e. absurd cc) (verdict-bad level (Some m) held _ p) (λ t w e. e) (λ t w e. e)
-finish_err level m turns left a b c k l held reads.TooLarge next low high p =
-    finish_bad level m turns left a c k l held 0 _ (Err errors.TooLarge) next (λ e. absurd cc) (verdict-bad level (Some m) held _ p) (λ t w e. e) (λ t w e. e)
-finish_err level m turns left a b c k l held reads.BadFrameEnd next low high p =
-    finish_bad level m turns left a c k l held 0 _ (Err errors.BadFrameEnd) next (λ e. absurd cc) (verdict-bad level (Some m) held _ p) (λ t w e. e) (λ t w e. e)
-finish_err level m turns left a b c k l held reads.CutShort next low high p =
-    let more = verdict-more level (Some m) held p.0 in
-    let stop = is_more level m held more in
-    let rest = (stops level m turns left a c k l held 1 next stop).1 in
-    let all = all_written level m turns left a c k l held 1 next stop in
-    finish_all level m turns left a c k l held 1 (Err errors.CutShort) next (λ e. absurd cc) all all (((λ e. p.1 (sym rest ∙ e)), place_is level m turns left a c k l held 1 next stop ∙ more), p.2)
-finish_err level m turns left a b c k l held reads.TurnsSpent next low high p =
-    let more = verdict-more level (Some m) held p.0 in
-    let stop = is_more level m held more in
-    let all = all_written level m turns left a c k l held 0 next stop in
-    finish_all level m turns left a c k l held 0 (Err errors.TurnsSpent) next (λ e. p.1) all all (place_is level m turns left a c k l held 0 next stop ∙ more, omega (arith, next.few, p.1))
-finish_err level m turns left a b c k l held reads.ReadFault next low high p =
-    let more = verdict-more level (Some m) held p.0 in
-    let stop = is_more level m held more in
-    let all = all_written level m turns left a c k l held 1 next stop in
-    finish_all level m turns left a c k l held 1 (Err errors.ReadFault) next (λ e. absurd cc) all all (Rises-later a.faults b.faults c.faults low high p.1)
+-- a fault that the header of a frame shows
+pub finish_fault : {S E : Type 0} {r : Start S E} {u : S} {left : ℕ} {c : Supply} {l : Store} {held : List ℕ} {idle : ℕ} (bad : Fault) (error : ReadError) → Clear r u left c l held idle → read_fault error ≡ Some bad → outer (Some r.m) held ≡ fault bad → Streams r.w r.s u r.m r.turns r.source c r.sink l (stopped_by (cause_of (stream_error error)))
+finish_fault {r = r} {held = held} bad reads.UnknownFrameType h same found = finish_bad unknown_frame_type h (verdict-bad r.w.level (Some r.m) held unknown_frame_type (found ∙ cc)) (λ e. absurd cc)
+finish_fault {r = r} {held = held} bad reads.BadProtocolHeader h same found = finish_bad bad_protocol_header h (verdict-bad r.w.level (Some r.m) held bad_protocol_header (found ∙ cc)) (λ e. absurd cc)
+finish_fault {r = r} {held = held} bad reads.TooLarge h same found = finish_bad too_large h (verdict-bad r.w.level (Some r.m) held too_large (found ∙ cc)) (λ e. absurd cc)
+finish_fault {r = r} {held = held} bad reads.BadFrameEnd h same found = finish_bad bad_frame_end h (verdict-bad r.w.level (Some r.m) held bad_frame_end (found ∙ cc)) (λ e. absurd cc)
+finish_fault bad reads.CutShort h same found = absurd cc
+finish_fault bad reads.TurnsSpent h same found = absurd cc
+finish_fault bad reads.ReadFault h same found = absurd cc
 
--- the canonical bytes of what was used are the beginning of those of all
-front_begins : (level : Level) (m turns left : ℕ) (a b : Supply) (k l : Store) (held piece : List ℕ) (idle : ℕ) (run : Running level m turns left a b k l held idle) → IsPrefix piece (canon_of level m held) → IsPrefix (canon_row run.frames ++ piece) (canon_of level m (run.used ++ held))
-front_begins level m turns left a b k l held piece idle run h =
-    (h.0, append_assoc (canon_row run.frames) piece h.0 ∙ ap (λ (xs : List ℕ). canon_row run.frames ++ xs) h.1 ∙ sym (flat_map-append canon run.frames (front level (Some m) held)) ∙ ap canon_row (sym (run.row.row held)))
+-- the read budget is spent
+pub finish_spent : {S E : Type 0} {r : Start S E} {u : S} {left : ℕ} {c : Supply} {l : Store} {held : List ℕ} → Clear r u left c l held 0 → outer (Some r.m) held ≡ past → left ≡ 0 → Streams r.w r.s u r.m r.turns r.source c r.sink l (stopped_by turns_spent)
+finish_spent {r = r} {u = u} {held = held} h more zero =
+    let undecided = verdict-more r.w.level (Some r.m) held more in
+    let at = at_place h (is_more r.w.level r.m held undecided) in
+    finish u (stopped_by turns_spent) h (λ same. zero) at.all at.state_is (at.verdict_is ∙ undecided, omega (arith, h.taken.few, zero)) (λ same. absurd cc)
 
--- a frame that is refused, behind all that was written
-pub finish_refused : (level : Level) (m turns left : ℕ) (a c : Supply) (k l : Store) (held : List ℕ) (raw : Raw) (n : ℕ) (e : StreamError) → Running level m turns left a c k l held 0 → outer (Some m) held ≡ took raw n → IsRefusal raw e → Canonicalizes level m turns a c k l (Err e)
-finish_refused level m turns left a c k l held raw n errors.ShortPayload next found h =
-    finish_bad level m turns left a c k l held 0 _ (Err errors.ShortPayload) next (λ e. absurd cc) (verdict-fault level (Some m) held raw n _ found h) (λ t w e. e) (λ t w e. e)
-finish_refused level m turns left a c k l held raw n errors.TrailingBytes next found h =
-    finish_bad level m turns left a c k l held 0 _ (Err errors.TrailingBytes) next (λ e. absurd cc) (verdict-fault level (Some m) held raw n _ found h) (λ t w e. e) (λ t w e. e)
-finish_refused level m turns left a c k l held raw n errors.UnknownClass next found h =
-    finish_bad level m turns left a c k l held 0 _ (Err errors.UnknownClass) next (λ e. absurd cc) (verdict-fault level (Some m) held raw n _ found h) (λ t w e. e) (λ t w e. e)
-finish_refused level m turns left a c k l held raw n errors.UnknownMethod next found h =
-    finish_bad level m turns left a c k l held 0 _ (Err errors.UnknownMethod) next (λ e. absurd cc) (verdict-fault level (Some m) held raw n _ found h) (λ t w e. e) (λ t w e. e)
-finish_refused level m turns left a c k l held raw n errors.NotUtf8 next found h =
-    finish_bad level m turns left a c k l held 0 _ (Err errors.NotUtf8) next (λ e. absurd cc) (verdict-fault level (Some m) held raw n _ found h) (λ t w e. e) (λ t w e. e)
-finish_refused level m turns left a c k l held raw n errors.UnknownTag next found h =
-    finish_bad level m turns left a c k l held 0 _ (Err errors.UnknownTag) next (λ e. absurd cc) (verdict-fault level (Some m) held raw n _ found h) (λ t w e. e) (λ t w e. e)
-finish_refused level m turns left a c k l held raw n errors.TooDeep next found h =
-    finish_bad level m turns left a c k l held 0 _ (Err errors.TooDeep) next (λ e. absurd cc) (verdict-fault level (Some m) held raw n _ found h) (λ t w e. e) (λ t w e. e)
-finish_refused level m turns left a c k l held raw n errors.NoMemory next found h =
-    let cause : AtTypedFrame level m (next.used ++ held) (canon_row next.frames ++ []) = record {
-      row = next.used;
-      rest = held;
-      parts = refl;
-      is_row = used_row level m turns left a c k l held 0 next;
-      typed = record { raw = raw; used = n; found = found; such = h };
-      written_is = append-nil (canon_row next.frames) ∙ ap canon_row (sym (used_front level m turns left a c k l held 0 next));
-    } in
-    let begins = front_begins level m turns left a c k l held [] 0 next (canon_of level m held, refl) in
-    finish level m turns left a c k l l held [] 0 (Err errors.NoMemory) next (Gains-none l) (λ e. absurd cc) begins begins cause
-finish_refused level m turns left a c k l held raw n errors.UnknownFrameType next found h = absurd h
-finish_refused level m turns left a c k l held raw n errors.BadProtocolHeader next found h = absurd h
-finish_refused level m turns left a c k l held raw n errors.TooLarge next found h = absurd h
-finish_refused level m turns left a c k l held raw n errors.BadFrameEnd next found h = absurd h
-finish_refused level m turns left a c k l held raw n errors.NotTidy next found h = absurd h
-finish_refused level m turns left a c k l held raw n errors.CutShort next found h = absurd h
-finish_refused level m turns left a c k l held raw n errors.TurnsSpent next found h = absurd h
-finish_refused level m turns left a c k l held raw n errors.ReadFault next found h = absurd h
-finish_refused level m turns left a c k l held raw n errors.WriteFault next found h = absurd h
+-- a read that failed, and left what is held
+pub finish_unread : {S E : Type 0} {r : Start S E} {u : S} {left : ℕ} {b c : Supply} {l : Store} {held after : List ℕ} {bad : SourceFault} → Clear r u left b l held 0 → outer (Some r.m) held ≡ past → 0 < left → ReadsMore b c held after (Err bad) → length after ≤ r.m + 8 → Streams r.w r.s u r.m r.turns r.source c r.sink l (stopped_by read_failed)
+finish_unread {r = r} {u = u} {b = b} {c = c} {held = held} {after = after} k more some read room =
+    let h = Clear-read 1 k some read (omega arith) room in
+    let same : after ≡ held = read.held ∙ ap (λ (xs : List ℕ). held ++ xs) read.err.0 ∙ append-nil held in
+    let undecided = verdict-more r.w.level (Some r.m) after (ap (outer (Some r.m)) same ∙ more) in
+    let at = at_place h (is_more r.w.level r.m after undecided) in
+    finish u (stopped_by read_failed) h (λ e. absurd cc) at.all at.state_is (at.verdict_is ∙ undecided, Rises-later r.source.faults b.faults c.faults k.taken.takes.faults read.takes.faults read.err.1) (λ e. absurd cc)
 
--- what waited was not written, or not all of it
-pub finish_failed : (level : Level) (m turns left : ℕ) (a c : Supply) (k l l' : Store) (pend held waiting : List ℕ) (idle : ℕ) (d : SinkFault) → Running level m turns left a c k l (pend ++ held) idle → Pending level m pend waiting → WritesAll l l' waiting (Err d) → Canonicalizes level m turns a c k l' (Err errors.WriteFault)
-finish_failed level m turns left a c k l l' pend held waiting idle d run w f =
-    let rest = canon_of level m held in
-    let all : canon_of level m (pend ++ held) ≡ waiting ++ rest = ap canon_row (w.row.row held) ∙ canon_row-append w.frames (front level (Some m) held) ∙ ap (λ (xs : List ℕ). xs ++ rest) (sym w.waits) in
-    let begins : IsPrefix f.piece (canon_of level m (pend ++ held)) = (f.prefix.0 ++ rest, sym (append_assoc f.piece f.prefix.0 rest) ∙ ap (λ (xs : List ℕ). xs ++ rest) f.prefix.1 ∙ sym all) in
-    let all_begins = front_begins level m turns left a c k l (pend ++ held) f.piece idle run begins in
-    finish level m turns left a c k l l' (pend ++ held) f.piece idle (Err errors.WriteFault) run f.gains (λ e. absurd cc) all_begins all_begins (Rises-later k.faults l.faults l'.faults run.gains.faults f.gains.faults f.err)
+-- the end of input, by what is held
+at_end : {S E : Type 0} {r : Start S E} {u : S} {left : ℕ} {c : Supply} {l : Store} (held : List ℕ) (end : Option E) → Clear r u left c l held 1 → outer (Some r.m) held ≡ past → IsEmpty c.left → r.w.end u ≡ end → Streams r.w r.s u r.m r.turns r.source c r.sink l (end_with held end)
+at_end {r = r} {u = u} [] None h more empty may =
+    let at = at_place h (stop-none r.w.level (Some r.m)) in
+    let row = row_of_all r.w.level (Some r.m) (h.used ++ []) h.taken.are_bytes at.place_is in
+    finish u finished h (λ e. absurd cc) at.all at.state_is ((_, row), empty, ap r.w.end (sym at.state_is) ∙ may) (λ e. absurd cc)
+at_end {r = r} {u = u} [] (Some why) h more empty may =
+    let at = at_place h (stop-none r.w.level (Some r.m)) in
+    let row = row_of_all r.w.level (Some r.m) (h.used ++ []) h.taken.are_bytes at.place_is in
+    finish u (refused_by why) h (λ e. absurd cc) at.all.text_is at.state_is (inr (record { row = (_, row); empty = empty; none_refused = at.all.none_refused; ends = ap r.w.end (sym at.state_is) ∙ may })) (λ e. absurd cc)
+at_end {r = r} {u = u} (byte ∷ bytes) end h more empty may =
+    let held = byte ∷ bytes in
+    let undecided = verdict-more r.w.level (Some r.m) held more in
+    let at = at_place h (is_more r.w.level r.m held undecided) in
+    finish u (stopped_by cut_short) h (λ e. absurd cc) at.all at.state_is (((λ e. absurd (let none = sym at.place_is ∙ e in cc)), at.verdict_is ∙ undecided), empty) (λ e. absurd cc)
 
--- what waits is written, and then the call ends as it would with nothing waiting
-finish_by : (level : Level) (m turns left : ℕ) (a c : Supply) (k l l' : Store) (pend held waiting : List ℕ) (idle : ℕ) (ok r : Result (Unit {0}) StreamError) (written : Result (Unit {0}) SinkFault) → Running level m turns left a c k l (pend ++ held) idle → Pending level m pend waiting → WritesAll l l' waiting written → (Running level m turns left a c k l' held idle → Canonicalizes level m turns a c k l' ok)
-    → ((u : Unit {0}) → written ≡ Ok u → r ≡ ok) → ((d : SinkFault) → written ≡ Err d → r ≡ Err errors.WriteFault) → Canonicalizes level m turns a c k l' r
-finish_by level m turns left a c k l l' pend held waiting idle ok r (Ok u) run w f done good bad =
-    let all = Running-flushed level m turns left a c k l l' pend held waiting idle run w (subst (Gains l l') f.ok f.gains) in
-    subst (Canonicalizes level m turns a c k l') (sym (good u refl)) (done all)
-finish_by level m turns left a c k l l' pend held waiting idle ok r (Err d) run w f done good bad =
-    subst (Canonicalizes level m turns a c k l') (sym (bad d refl)) (finish_failed level m turns left a c k l l' pend held waiting idle d run w f)
+pub finish_end : {S E : Type 0} {r : Start S E} {u : S} {left : ℕ} {b c : Supply} {l : Store} {held after : List ℕ} {n : ℕ} → Clear r u left b l held 0 → outer (Some r.m) held ≡ past → 0 < left → ReadsMore b c held after (Ok n) → n ≡ 0 → length after ≤ r.m + 8 → Streams r.w r.s u r.m r.turns r.source c r.sink l (end_with after (r.w.end u))
+finish_end {r = r} {u = u} {held = held} {after = after} {n = n} k more some read zero room =
+    let none : read.piece ≡ [] = nil_from_length read.piece (read.ok ∙ zero) in
+    let same : after ≡ held = read.held ∙ ap (λ (xs : List ℕ). held ++ xs) none ∙ append-nil held in
+    at_end after (r.w.end u) (Clear-read 1 k some read (omega arith) room) (ap (outer (Some r.m)) same ∙ more) (read.end zero) refl
 
--- a call that stops
-finish_stop : (level : Level) (m turns left : ℕ) (a c : Supply) (k l l' : Store) (pend held waiting : List ℕ) (idle : ℕ) (error : StreamError) (r : Result (Unit {0}) StreamError) → Running level m turns left a c k l (pend ++ held) idle → Pending level m pend waiting → Stops l l' waiting error r → (Running level m turns left a c k l' held idle → Canonicalizes level m turns a c k l' (Err error)) → Canonicalizes level m turns a c k l' r
-finish_stop level m turns left a c k l l' pend held waiting idle error r run w s done =
-    finish_by level m turns left a c k l l' pend held waiting idle (Err error) r s.written run w s.writes done (λ u e. s.answer ∙ ap (stopped error) e) (λ d e. s.answer ∙ ap (stopped error) e)
+-- ---- a frame for which a run ends
 
--- an error of reading
-pub finish_read : (level : Level) (m turns left left' : ℕ) (a b c : Supply) (k l l' : Store) (waiting held after : List ℕ) (e : ReadError) (r : Result (Unit {0}) StreamError) → Ready level m turns left a b k l held waiting → PullsTo (IsLent m) m b c left left' held after (Err e) → Stops l l' waiting (stream_error e) r → Canonicalizes level m turns a c k l' r
-finish_read level m turns left left' a b c k l l' waiting held after e r ready p s =
-    let going = ready.going in
-    let next = Running-next level m turns left left' a b c k l going.pend held after (Err e) going.running p ready.ready in
-    finish_stop level m turns left' a c k l l' going.pend p.b waiting (idle_reads_at e) (stream_error e) r next going.pending s (λ run. finish_err level m turns left' a b c k l' p.b e run going.running.takes.faults p.pulls.takes.faults p.ends.0)
-
--- the end of the source
-pub finish_end : (level : Level) (m turns left left' : ℕ) (a b c : Supply) (k l l' : Store) (waiting held after : List ℕ) (written : Result (Unit {0}) SinkFault) → Ready level m turns left a b k l held waiting → PullsTo (IsLent m) m b c left left' held after (Ok None) → WritesAll l l' waiting written → Canonicalizes level m turns a c k l' (stream_result written)
-finish_end level m turns left left' a b c k l l' waiting held after written ready p f =
-    let going = ready.going in
-    let next = Running-next level m turns left left' a b c k l going.pend held after (Ok None) going.running p ready.ready in
-    finish_by level m turns left' a c k l l' going.pend p.b waiting 1 (Ok tt) (stream_result written) written next going.pending f (λ run. finish_ok level m turns left' a c k l' p.b tt run p.ends.0 p.ends.2) (λ u e. ap stream_result e) (λ d e. ap stream_result e)
-
--- what waited could not be written before a read
-pub finish_settling : (level : Level) (m turns left : ℕ) (a b : Supply) (k l l' : Store) (waiting held : List ℕ) (d : SinkFault) → Going level m turns left a b k l held waiting → WritesAll l l' waiting (Err d) → Canonicalizes level m turns a b k l' (Err errors.WriteFault)
-finish_settling level m turns left a b k l l' waiting held d g f = finish_failed level m turns left a b k l l' g.pend held waiting 0 d g.running g.pending f
-
--- a frame that was not written, or not all of it
-pub finish_unwritten : (level : Level) (m turns left left' : ℕ) (a b c : Supply) (k l l' : Store) (waiting now held after : List ℕ) (raw : AMQPRawFrame) → Ready level m turns left a b k l held waiting → PullsTo (IsLent m) m b c left left' held after (Ok (Some raw)) → is_at level (raw_of raw) ≡ true → WritesFrame (raw_of raw) l l' waiting now (Err errors.WriteFault) → Canonicalizes level m turns a c k l' (Err errors.WriteFault)
-finish_unwritten level m turns left left' a b c k l l' waiting now held after raw r p at_level w =
-    let f = w.0 in
-    let g = frame_gathers level m turns left left' a b c k l r.going.pend waiting held after raw f r.going.running r.going.pending r.ready p at_level w.1 in
-    finish_failed level m turns left' a c k l l' (r.going.pend ++ g.more) after (waiting ++ canon f) 0 w.2 g.running g.pending w.3
-
-refusal_of : (raw : Raw) (l l' : Store) (waiting now : List ℕ) (e : StreamError) → e ≢ errors.WriteFault → WritesFrame raw l l' waiting now (Err e) → IsRefusal raw e × Keeps l l' waiting now
-refusal_of raw l l' waiting now errors.UnknownFrameType ne h = h
-refusal_of raw l l' waiting now errors.BadProtocolHeader ne h = h
-refusal_of raw l l' waiting now errors.TooLarge ne h = h
-refusal_of raw l l' waiting now errors.BadFrameEnd ne h = h
-refusal_of raw l l' waiting now errors.UnknownClass ne h = h
-refusal_of raw l l' waiting now errors.UnknownMethod ne h = h
-refusal_of raw l l' waiting now errors.NotUtf8 ne h = h
-refusal_of raw l l' waiting now errors.UnknownTag ne h = h
-refusal_of raw l l' waiting now errors.TooDeep ne h = h
-refusal_of raw l l' waiting now errors.NotTidy ne h = h
-refusal_of raw l l' waiting now errors.ShortPayload ne h = h
-refusal_of raw l l' waiting now errors.TrailingBytes ne h = h
-refusal_of raw l l' waiting now errors.CutShort ne h = h
-refusal_of raw l l' waiting now errors.TurnsSpent ne h = h
-refusal_of raw l l' waiting now errors.ReadFault ne h = h
-refusal_of raw l l' waiting now errors.WriteFault ne h = absurd (ne refl)
-refusal_of raw l l' waiting now errors.NoMemory ne h = h
+-- a frame that has a fault
+finish_faulty : {S E : Type 0} {r : Start S E} {u : S} {left : ℕ} {c : Supply} {l : Store} {held : List ℕ} (raw : Raw) (n : ℕ) (bad : Fault) → Clear r u left c l held 0 → outer (Some r.m) held ≡ took raw n → IsFaulty r.w.level raw bad → Streams r.w r.s u r.m r.turns r.source c r.sink l (stopped_by (faulty bad))
+unfolding verdict
+finish_faulty {r = r} raw n bad h found is = finish_bad bad h (ap (judged r.w.level) found ∙ is.judged_bad n) is.tidy_only
 
 -- a frame that is refused
-pub finish_frame : (level : Level) (m turns left left' : ℕ) (a b c : Supply) (k l l' l'' : Store) (waiting now held after : List ℕ) (raw : AMQPRawFrame) (e : StreamError) (r : Result (Unit {0}) StreamError) → Ready level m turns left a b k l held waiting → PullsTo (IsLent m) m b c left left' held after (Ok (Some raw)) → e ≢ errors.WriteFault → WritesFrame (raw_of raw) l l' waiting now (Err e) → Stops l' l'' now e r → Canonicalizes level m turns a c k l'' r
-finish_frame level m turns left left' a b c k l l' l'' waiting now held after raw e r ready p ne w s =
-    let going = ready.going in
-    let next = Running-next level m turns left left' a b c k l going.pend held after (Ok (Some raw)) going.running p ready.ready in
-    let kept = refusal_of (raw_of raw) l l' waiting now e ne w in
-    let still = subst-store level m turns left' a c k l l' (going.pend ++ p.b) next kept.1.0 in
-    let pending = subst (Pending level m going.pend) (sym kept.1.1) going.pending in
-    finish_stop level m turns left' a c k l' l'' going.pend p.b now 0 e r still pending s (λ run. finish_refused level m turns left' a c k l'' p.b (raw_of raw) p.ends.0 e run p.ends.1 kept.0)
+finish_refused : {S E : Type 0} {r : Start S E} {u : S} {left : ℕ} {c : Supply} {l : Store} {held : List ℕ} (raw : Raw) (n : ℕ) (why : E) → Clear r u left c l held 0 → outer (Some r.m) held ≡ took raw n → IsRefused r.w u raw why → Streams r.w r.s u r.m r.turns r.source c r.sink l (refused_by why)
+finish_refused {r = r} {u = u} {held = held} raw n why h found is =
+    let w = r.w in
+    let fronts = (front-got w.level (Some r.m) held is.frame n (verdict-whole w.level (Some r.m) held raw n is.frame found is.at_level is.is_whole)).row in
+    let here = refuses_here w u is.frame (front w.level (Some r.m) (drop n held)) why is.refuses in
+    let passes = h.spans.passes in
+    let all = h.spans.row.row held in
+    let written : text_of w r.s r.m (h.used ++ held) ≡ h.text = ap (text w r.s) all ∙ passes.text_is _ ∙ ap (λ (xs : List ℕ). h.text ++ xs) (ap (text w u) fronts ∙ here.text_is) ∙ append-nil h.text in
+    finish u (refused_by why) h (λ e. absurd cc) (sym written) (sym (ap (state w r.s) all ∙ passes.state_is _ ∙ ap (state w u) fronts ∙ here.state_is)) (inl (ap (refused w r.s) all ∙ passes.refused_is _ ∙ ap (refused w u) fronts ∙ here.refused_is)) (λ e. absurd cc)
 
-pub stops_as : (l l' : Store) (waiting : List ℕ) (e f : StreamError) (r : Result (Unit {0}) StreamError) → e ≡ f → Stops l l' waiting e r → Stops l l' waiting f r
-stops_as l l' waiting e f r same s = subst (λ (x : StreamError). Stops l l' waiting x r) same s
+-- a frame at which memory ran out
+finish_memory : {S E : Type 0} {r : Start S E} {u : S} {left : ℕ} {c : Supply} {l : Store} {held : List ℕ} (t : S) (raw : Raw) (n : ℕ) → Clear r u left c l held 0 → outer (Some r.m) held ≡ took raw n → IsTrue (r.w.wants raw.kind) → Streams r.w r.s t r.m r.turns r.source c r.sink l (stopped_by out_of_memory)
+finish_memory {r = r} {u = u} {held = held} t raw n h found wants =
+    let is = spanned h.spans (front_bytes h.used held h.taken.are_bytes) in
+    let more : h.text ++ text_of r.w u r.m held ≡ text_of r.w r.s r.m (h.used ++ held) = sym (ap (text r.w r.s) (h.spans.row.row held) ∙ h.spans.passes.text_is _) in
+    finish t (stopped_by out_of_memory) h (λ e. absurd cc) (_, more) tt (record {
+      row = h.used;
+      rest = held;
+      parts = refl;
+      is_row = is.row;
+      wanting = record { raw = raw; used = n; found = found; such = wants };
+      written_is = sym is.text_is;
+    }) (λ e. absurd cc)
+
+-- ---- a write that failed
+
+-- A piece of the front of what is pending was written, and of what follows it.
+finish_unwritten : {S E : Type 0} {r : Start S E} {u : S} {left : ℕ} {c : Supply} {l l' : Store} {held pending piece : List ℕ} (t : S) (tail rest : List ℕ) → Going r u left c l held pending → Gains l l' piece → IsPrefix piece (pending ++ tail) → text_of r.w u r.m held ≡ tail ++ rest → (r.sink.faults ≤ l.faults → Rises r.sink.faults l'.faults) → Streams r.w r.s t r.m r.turns r.source c r.sink l' (stopped_by write_failed)
+finish_unwritten {r = r} {u = u} {left = left} {l = l} {l' = l'} {held = held} {pending = pending} {piece = piece} t tail rest g gains prefix text_is rises =
+    let w = r.w in
+    let taken = g.used ++ (g.since ++ held) in
+    let all : text_of w r.s r.m taken ≡ g.text ++ (g.text_since ++ (tail ++ rest)) = ap (text w r.s) (g.spans.row.row (g.since ++ held)) ∙ g.spans.passes.text_is _ ∙ ap (λ (xs : List ℕ). g.text ++ xs) (ap (text w g.between) (g.spans_since.row.row held) ∙ g.spans_since.passes.text_is _ ∙ ap (λ (xs : List ℕ). g.text_since ++ xs) text_is) in
+    let piece_is : piece ++ (prefix.0 ++ rest) ≡ pending ++ (tail ++ rest) = sym (append_assoc piece prefix.0 rest) ∙ ap (λ (xs : List ℕ). xs ++ rest) prefix.1 ∙ append_assoc pending tail rest in
+    let since_is : g.written ++ (piece ++ (prefix.0 ++ rest)) ≡ g.text_since ++ (tail ++ rest) = ap (λ (xs : List ℕ). g.written ++ xs) piece_is ∙ sym (append_assoc g.written pending (tail ++ rest)) ∙ ap (λ (xs : List ℕ). xs ++ (tail ++ rest)) g.parts in
+    let whole : ((g.text ++ g.written) ++ piece) ++ (prefix.0 ++ rest) ≡ text_of w r.s r.m taken = append_assoc (g.text ++ g.written) piece (prefix.0 ++ rest) ∙ append_assoc g.text g.written (piece ++ (prefix.0 ++ rest)) ∙ ap (λ (xs : List ℕ). g.text ++ xs) since_is ∙ sym all in
+    record {
+      taken = taken;
+      are_bytes = g.taken.are_bytes;
+      reads = r.turns - left;
+      takes = g.taken.takes;
+      at_most = omega arith;
+      all_turns = λ e. absurd cc;
+      written = (g.text ++ g.written) ++ piece;
+      gains = Gains-then r.sink l l' (g.text ++ g.written) piece g.gains gains;
+      writes = (prefix.0 ++ rest, whole);
+      state_is = tt;
+      cause = rises g.gains.faults;
+      tidy_only = λ e. absurd cc;
+      short_by = subst (λ (xs : List ℕ). IsShortBy w r.s r.m taken xs (r.m + 8)) (sym (append_assoc g.text g.written piece)) (short_by (g.since ++ held) (g.written ++ piece) g.spans g.taken.are_bytes g.room);
+    }
+
+-- what was pending could not be written
+pub finish_unflushed : {S E : Type 0} {r : Start S E} {u : S} {left : ℕ} {c : Supply} {l l' : Store} {held pending : List ℕ} {bad : SinkFault} (t : S) → Going r u left c l held pending → WritesAll l l' pending (Err bad) → Streams r.w r.s t r.m r.turns r.source c r.sink l' (stopped_by write_failed)
+finish_unflushed {r = r} {u = u} {l = l} {l' = l'} {held = held} {pending = pending} t g f =
+    finish_unwritten t [] (text_of r.w u r.m held) g f.gains (f.prefix.0, f.prefix.1 ∙ sym (append-nil pending)) refl (λ low. Rises-later r.sink.faults l.faults l'.faults low f.gains.faults f.err)
+
+-- a frame for which nothing was written, or not all
+finish_frame : {S E : Type 0} {r : Start S E} {u : S} {left : ℕ} {c : Supply} {l l' : Store} {held before after : List ℕ} (t : S) (raw : Raw) (n : ℕ) → Going r u left c l held before → outer (Some r.m) held ≡ took raw n → WriteFails r.w u raw l l' before after → Streams r.w r.s t r.m r.turns r.source c r.sink l' (stopped_by write_failed)
+finish_frame {r = r} {u = u} {l = l} {l' = l'} {held = held} t raw n g found h =
+    let w = r.w in
+    let is = h.step in
+    let fronts = (front-got w.level (Some r.m) held is.frame n (verdict-whole w.level (Some r.m) held raw n is.frame found is.at_level is.is_whole)).row in
+    let one = Passes-one w u h.next is.frame h.bytes is.steps in
+    finish_unwritten t h.bytes (text w h.next (front w.level (Some r.m) (drop n held))) g h.failed.gains h.failed.prefix (ap (text w u) fronts ∙ one.text_is (front w.level (Some r.m) (drop n held))) (λ low. Rises-later r.sink.faults l.faults l'.faults low h.failed.gains.faults h.failed.rises)
+
+-- ---- a run that is to end with an error, and first writes what is pending
+
+-- the ending with a failed write in place of it
+abbrev ended_by : {E : Type 0} → Ending E → Result (Unit {0}) SinkFault → Ending E
+ended_by ending (Ok done) = ending
+ended_by ending (Err bad) = stopped_by write_failed
+
+ending-ended : {E : Type 0} (error : RunError E) (written : Result (Unit {0}) SinkFault) → ending_of (ended error written) ≡ ended_by (error_ending error) written
+ending-ended error (Ok done) = refl
+ending-ended error (Err bad) = refl
+
+flush_then : {S E : Type 0} {r : Start S E} {u : S} {left : ℕ} {c : Supply} {l l' : Store} {held pending : List ℕ} (t : S) (e : Ending E) (written : Result (Unit {0}) SinkFault) → Going r u left c l held pending → WritesAll l l' pending written → (Clear r u left c l' held 0 → Streams r.w r.s t r.m r.turns r.source c r.sink l' e) → Streams r.w r.s t r.m r.turns r.source c r.sink l' (ended_by e written)
+flush_then t e (Ok done) g f then = then (Clear-flushed g f)
+flush_then t e (Err bad) g f then = finish_unflushed t g f
+
+ended_so : {S E : Type 0} (w : Manner S E) (s t : S) (m turns : ℕ) (a b : Supply) (k l l' : Store) (pending : List ℕ) (error : RunError E) (result : Result (Unit {0}) (RunError E)) (h : EndsWith l l' pending error result) → Streams w s t m turns a b k l' (ended_by (error_ending error) h.written) → Streams w s t m turns a b k l' (ending_of result)
+ended_so w s t m turns a b k l l' pending error result h run = subst (Streams w s t m turns a b k l') (sym (ap ending_of h.answer ∙ ending-ended error h.written)) run
+
+-- a fault that the header of a frame shows
+pub finish_header : {S E : Type 0} {r : Start S E} {u : S} {left : ℕ} {c : Supply} {l l' : Store} {held pending : List ℕ} {result : Result (Unit {0}) (RunError E)} (bad : Fault) (error : ReadError) → Going r u left c l held pending → read_fault error ≡ Some bad → outer (Some r.m) held ≡ fault bad → EndsWith l l' pending (ends.Stream (stream_error error)) result → Streams r.w r.s u r.m r.turns r.source c r.sink l' (ending_of result)
+finish_header {r = r} {u = u} {c = c} {l = l} {l' = l'} {pending = pending} {result = result} bad error g same found h =
+    ended_so r.w r.s u r.m r.turns r.source c r.sink l l' pending (ends.Stream (stream_error error)) result h (flush_then u (stopped_by (cause_of (stream_error error))) h.written g h.writes (λ clear. finish_fault bad error clear same found))
+
+state_as : {S E : Type 0} {w : Manner S E} {s t u : S} {m turns : ℕ} {a b : Supply} {k l : Store} {e : Ending E} → t ≡ u → Streams w s u m turns a b k l e → Streams w s t m turns a b k l e
+state_as {w = w} {s = s} {m = m} {turns = turns} {a = a} {b = b} {k = k} {l = l} {e = e} same run = subst (λ x. Streams w s x m turns a b k l e) (sym same) run
+
+none_left : (E : Type 0) (written : Result (Unit {0}) SinkFault) → ended_by {E = E} (stopped_by write_failed) written ≡ stopped_by write_failed
+none_left E (Ok done) = refl
+none_left E (Err bad) = refl
+
+-- nothing was pending after a failed write, so nothing more was written
+still_failed : {l l' l'' : Store} {before after bytes : List ℕ} {written : Result (Unit {0}) SinkFault} → GatherFails l l' before after bytes → WritesAll l' l'' after written → GatherFails l l'' before after bytes
+still_failed {l = l} {l' = l'} {l'' = l''} f g =
+    let none : g.piece ≡ [] = nil_from_length g.piece (omega (arith, length-append g.piece g.prefix.0, ap length (g.prefix.1 ∙ f.none))) in
+    record {
+      piece = f.piece;
+      gains = subst (Gains l l'') (append-nil f.piece) (Gains-then l l' l'' f.piece [] f.gains (subst (Gains l' l'') none g.gains));
+      prefix = f.prefix;
+      rises = λ low. omega (arith, f.rises low, g.gains.faults);
+      none = f.none;
+    }
+
+-- how a run ends at a frame that was not written, by the cause
+stop_at : {S E : Type 0} {r : Start S E} {u : S} {left : ℕ} {c : Supply} {l l' l'' : Store} {held before after : List ℕ} (t : S) (raw : Raw) (n : ℕ) (cause : Cause) (written : Result (Unit {0}) SinkFault) → Going r u left c l held before → outer (Some r.m) held ≡ took raw n → WritesBy r.w u t raw l l' before after (stopped_by cause) → WritesAll l' l'' after written → Streams r.w r.s t r.m r.turns r.source c r.sink l'' (ended_by (stopped_by cause) written)
+stop_at {u = u} t raw n (faulty bad) written g found h f = state_as h.2 (flush_then u (stopped_by (faulty bad)) written (Going-kept g h.1) f (λ clear. finish_faulty raw n bad clear found h.0))
+stop_at {E = E} {r = r} {c = c} {l'' = l''} t raw n write_failed written g found h f =
+    subst (Streams r.w r.s t r.m r.turns r.source c r.sink l'') (sym (none_left E written)) (finish_frame t raw n g found (record { bytes = h.bytes; next = h.next; step = h.step; failed = still_failed h.failed f }))
+stop_at t raw n out_of_memory written g found h f = flush_then t (stopped_by out_of_memory) written (Going-kept g h.1) f (λ clear. finish_memory t raw n clear found h.0)
+stop_at t raw n cut_short written g found h f = absurd h
+stop_at t raw n turns_spent written g found h f = absurd h
+stop_at t raw n read_failed written g found h f = absurd h
+
+stop_with : {S E : Type 0} {r : Start S E} {u : S} {left : ℕ} {c : Supply} {l l' l'' : Store} {held before after : List ℕ} (t : S) (raw : Raw) (n : ℕ) (error : RunError E) (written : Result (Unit {0}) SinkFault) → Going r u left c l held before → outer (Some r.m) held ≡ took raw n → WritesBy r.w u t raw l l' before after (error_ending error) → WritesAll l' l'' after written → Streams r.w r.s t r.m r.turns r.source c r.sink l'' (ended_by (error_ending error) written)
+stop_with t raw n (ends.Stream error) written g found h f = stop_at t raw n (cause_of error) written g found h f
+stop_with {u = u} t raw n (ends.Refused why) written g found h f = state_as h.2 (flush_then u (refused_by why) written (Going-kept g h.1) f (λ clear. finish_refused raw n why clear found h.0))
+
+-- a frame that was not written
+pub finish_stopped : {S E : Type 0} {r : Start S E} {u t : S} {left : ℕ} {c : Supply} {l l' l'' : Store} {held before after : List ℕ} {raw : Raw} {n : ℕ} {error : RunError E} {result : Result (Unit {0}) (RunError E)} → Going r u left c l held before → outer (Some r.m) held ≡ took raw n → WritesBy r.w u t raw l l' before after (error_ending error) → EndsWith l' l'' after error result → Streams r.w r.s t r.m r.turns r.source c r.sink l'' (ending_of result)
+finish_stopped {r = r} {t = t} {c = c} {l' = l'} {l'' = l''} {after = after} {raw = raw} {n = n} {error = error} {result = result} g found h stop =
+    ended_so r.w r.s t r.m r.turns r.source c r.sink l' l'' after error result stop (stop_with t raw n error stop.written g found h stop.writes)

@@ -1,7 +1,7 @@
 -- A pull goes on by a read, and ends as `next` says.
 use Rattle.std.proofs.Common.{◌≡◌, ◌≢◌, ℕ, ◌+◌, ◌-◌, ◌^◌, ◌<◌, ◌≤◌, List, [], ◌++◌, length, drop, Option, Some, None, Result, Ok, Err, refl, sym, ap, subst, ◌∙◌, arith, append_assoc, append-nil}
 use Rattle.std.proofs.lemmas.List.{length-append, length-drop, nil_from_length}
-use Rattle.amqp_types.specs.Judging.{Fault, Judged, past, fault, took}
+use Rattle.amqp_types.specs.Judging.{Fault, Judged, past, fault, took, IsBytes}
 use Rattle.amqp_frame.specs.Frames.{Raw, raw_of}
 use Rattle.amqp_frame.specs.Outer.{outer}
 use Rattle.amqp_frame.proofs.OuterLook.{outer-none, outer-past_few}
@@ -16,90 +16,87 @@ use Rattle.amqp_stream.specs.Errors.{read_fault}
 use Rattle.amqp_stream.specs.Reading.{Holding, ReadsMore, Fails, Ends, idle_reads, Pulls, PullsTo, LiesIn, IsLent, AnswersAgain, HasNext}
 use Rattle.amqp_stream.proofs.Adding.{Takes-then, Takes-none, Rises-later, IsBytes-append, IsBytes-nil}
 
-pub Pulls-none : (m : ℕ) (s : Supply) (turns : ℕ) (b : List ℕ) → length b ≤ m + 8 → Pulls m s s turns turns b b
-Pulls-none m s turns b room = record {
+-- What a pull keeps: what was taken so far. At most `idle` of its reads gave nothing.
+pub record Pulled (m : ℕ) (old new : Supply) (turns_old turns : ℕ) (before b : List ℕ) (idle : ℕ) : Type 0 where
+  pub taken : List ℕ
+  pub are_bytes : IsBytes taken
+  pub takes : Takes old new taken (turns_old - turns)
+  pub all : b ≡ before ++ taken
+  pub turns_fall : turns ≤ turns_old
+  pub some : 0 < length taken → turns < turns_old
+  pub decided : outer (Some m) before ≢ past → (taken ≡ []) × (turns ≡ turns_old)
+  pub few : turns_old ≤ turns + length taken + idle
+
+pub Pulled-none : (m : ℕ) (s : Supply) (turns : ℕ) (b : List ℕ) → Pulled m s s turns turns b b 0
+Pulled-none m s turns b = record {
   taken = [];
   are_bytes = IsBytes-nil;
   takes = subst (Takes s s []) {x = 0} (omega arith) (Takes-none s);
   all = sym (append-nil b);
-  room = room;
   turns_fall = omega arith;
   some = λ h. absurd (omega arith);
   decided = λ h. (refl, refl);
+  few = omega arith;
 }
 
 -- where more is needed, nothing before was decided
-undecided : (m : ℕ) (a s : Supply) (turns_old turns : ℕ) (before b : List ℕ) → Pulls m a s turns_old turns before b → outer (Some m) b ≡ past → outer (Some m) before ≢ past → ⊥
-undecided m a s turns_old turns before b p more h =
+undecided : {m : ℕ} {a s : Supply} {turns_old turns : ℕ} {before b : List ℕ} → Pulled m a s turns_old turns before b 0 → outer (Some m) b ≡ past → outer (Some m) before ≢ past → ⊥
+undecided {m = m} {before = before} {b = b} p more h =
     let none = p.decided h in
     let same : b ≡ before = p.all ∙ ap (λ (xs : List ℕ). before ++ xs) none.0 ∙ append-nil before in
     h (ap (outer (Some m)) (sym same) ∙ more)
 
-pub Pulls-more : (m : ℕ) (a s t : Supply) (turns_old turns : ℕ) (before b c : List ℕ) (r : Result ℕ SourceFault) → Pulls m a s turns_old turns before b → 0 < turns → outer (Some m) b ≡ past → ReadsMore s t b c r → length c ≤ m + 8 → Pulls m a t turns_old (turns - 1) before c
-Pulls-more m a s t turns_old turns before b c r p some more read room = record {
+-- one more read
+pub Pulled-more : {m : ℕ} {a s t : Supply} {turns_old turns : ℕ} {before b c : List ℕ} {r : Result ℕ SourceFault} (idle : ℕ) → Pulled m a s turns_old turns before b 0 → 0 < turns → outer (Some m) b ≡ past → (read : ReadsMore s t b c r) → 1 ≤ length read.piece + idle → Pulled m a t turns_old (turns - 1) before c idle
+Pulled-more {m = m} {a = a} {s = s} {t = t} {turns_old = turns_old} {turns = turns} {before = before} idle p some more read enough = record {
   taken = p.taken ++ read.piece;
   are_bytes = IsBytes-append p.taken read.piece p.are_bytes read.are_bytes;
   takes = subst (Takes a t (p.taken ++ read.piece)) {x = (turns_old - turns) + 1} (omega (arith, p.turns_fall)) (Takes-then a s t p.taken read.piece (turns_old - turns) 1 p.takes read.takes);
   all = read.held ∙ ap (λ (xs : List ℕ). xs ++ read.piece) p.all ∙ append_assoc before p.taken read.piece;
-  room = room;
   turns_fall = omega (arith, p.turns_fall);
   some = λ h. omega (arith, p.turns_fall);
-  decided = λ h. absurd (undecided m a s turns_old turns before b p more h);
+  decided = λ h. absurd (undecided p more h);
+  few = omega (arith, length-append p.taken read.piece, p.few, p.turns_fall);
 }
 
--- what a pull keeps: each of its reads taken a byte
-pub record Going (m : ℕ) (old new : Supply) (turns_old turns : ℕ) (before b : List ℕ) : Type 0 where
-  pub pulls : Pulls m old new turns_old turns before b
-  pub few : turns_old ≤ turns + length pulls.taken
-
-pub Going-none : (m : ℕ) (s : Supply) (turns : ℕ) (b : List ℕ) → length b ≤ m + 8 → Going m s s turns turns b b
-unfolding Pulls-none
-Going-none m s turns b room = record { pulls = Pulls-none m s turns b room; few = omega arith }
-
-pub Going-more : (m : ℕ) (a s t : Supply) (turns_old turns : ℕ) (before b c : List ℕ) (n : ℕ) → Going m a s turns_old turns before b → 0 < turns → outer (Some m) b ≡ past → ReadsMore s t b c (Ok n) → 0 < n → length c ≤ m + 8 → Going m a t turns_old (turns - 1) before c
-unfolding Pulls-more
-Going-more m a s t turns_old turns before b c n p some more read pos room = record {
-  pulls = Pulls-more m a s t turns_old turns before b c (Ok n) p.pulls some more read room;
-  few = omega (arith, length-append p.pulls.taken read.piece, p.few, read.ok, p.pulls.turns_fall);
-}
-
--- nothing was read: b stays
-pub read_nothing : (s t : Supply) (b c : List ℕ) (r : Result ℕ SourceFault) (h : ReadsMore s t b c r) → length h.piece ≡ 0 → c ≡ b
-read_nothing s t b c r h e = h.held ∙ ap (λ (xs : List ℕ). b ++ xs) (nil_from_length h.piece e) ∙ append-nil b
-
--- a call that ends with no read behind what is held
-pub ends_going : {X : Type 0} (P : List ℕ → List ℕ → X → Type 0) (m : ℕ) (old new : Supply) (turns_old turns : ℕ) (before b : List ℕ) (r : Result (Option X) ReadError) → Going m old new turns_old turns before b → idle_reads r ≡ 0 → Ends (P b b) m b old new turns b r → PullsTo P m old new turns_old turns before b r
-ends_going P m old new turns_old turns before b r g idle e = record { b = b; pulls = g.pulls; ends = e; few = omega (arith, g.few) }
-
--- a call that ends with an idle read
-pub ends_idle : {X : Type 0} (P : List ℕ → List ℕ → X → Type 0) (m : ℕ) (a s t : Supply) (turns_old turns : ℕ) (before b c : List ℕ) (r : Result (Option X) ReadError) (q : Result ℕ SourceFault) → Going m a s turns_old turns before b → 0 < turns → outer (Some m) b ≡ past → ReadsMore s t b c q → length c ≤ m + 8 → idle_reads r ≡ 1 → Ends (P c c) m c a t (turns - 1) c r → PullsTo P m a t turns_old (turns - 1) before c r
-unfolding Pulls-more
-ends_idle P m a s t turns_old turns before b c r q g some more read room idle e = record {
-  b = c;
-  pulls = Pulls-more m a s t turns_old turns before b c q g.pulls some more read room;
+-- a call that ends so
+pub pulls_to : {X : Type 0} (P : List ℕ → List ℕ → X → Type 0) {m : ℕ} {old new : Supply} {turns_old turns : ℕ} {before b : List ℕ} (r : Result (Option X) ReadError) → Pulled m old new turns_old turns before b (idle_reads r) → length b ≤ m + 8 → Ends (P b b) m b old new turns b r → PullsTo P m old new turns_old turns before b r
+pulls_to P {b = b} r g room e = record {
+  b = b;
+  pulls = record { taken = g.taken; are_bytes = g.are_bytes; takes = g.takes; all = g.all; room = room; turns_fall = g.turns_fall; some = g.some; decided = g.decided };
   ends = e;
-  few = omega (arith, g.few, length-append g.pulls.taken read.piece, g.pulls.turns_fall);
+  few = g.few;
 }
 
-still_more : (m : ℕ) (s t : Supply) (b c : List ℕ) (r : Result ℕ SourceFault) (h : ReadsMore s t b c r) → length h.piece ≡ 0 → outer (Some m) b ≡ past → outer (Some m) c ≡ past
-still_more m s t b c r h e more = ap (outer (Some m)) (read_nothing s t b c r h e) ∙ more
+-- a fault that stands at the front of what is held
+pub ends_fault : {X : Type 0} (P : List ℕ → List ℕ → X → Type 0) {m : ℕ} {old new : Supply} {turns_old turns : ℕ} {before b : List ℕ} (error : ReadError) (bad : Fault) → Pulled m old new turns_old turns before b 0 → length b ≤ m + 8 → read_fault error ≡ Some bad → outer (Some m) b ≡ fault bad → PullsTo P m old new turns_old turns before b (Err error)
+ends_fault P errors.UnknownFrameType bad g room same e = pulls_to P (Err errors.UnknownFrameType) g room (e ∙ cc, refl)
+ends_fault P errors.BadProtocolHeader bad g room same e = pulls_to P (Err errors.BadProtocolHeader) g room (e ∙ cc, refl)
+ends_fault P errors.TooLarge bad g room same e = pulls_to P (Err errors.TooLarge) g room (e ∙ cc, refl)
+ends_fault P errors.BadFrameEnd bad g room same e = pulls_to P (Err errors.BadFrameEnd) g room (e ∙ cc, refl)
+ends_fault P errors.CutShort bad g room same e = absurd cc
+ends_fault P errors.TurnsSpent bad g room same e = absurd cc
+ends_fault P errors.ReadFault bad g room same e = absurd cc
+
+-- nothing was read: what is held stays, and is undecided still
+pub still_more : (m : ℕ) {s t : Supply} {b c : List ℕ} {r : Result ℕ SourceFault} (h : ReadsMore s t b c r) → length h.piece ≡ 0 → outer (Some m) b ≡ past → outer (Some m) c ≡ past
+still_more m {b = b} h e more = ap (outer (Some m)) (h.held ∙ ap (λ (xs : List ℕ). b ++ xs) (nil_from_length h.piece e) ∙ append-nil b) ∙ more
 
 -- a read that failed
-pub ends_fault : {X : Type 0} (P : List ℕ → List ℕ → X → Type 0) (m : ℕ) (a s t : Supply) (turns_old turns : ℕ) (before b c : List ℕ) (f : SourceFault) → Going m a s turns_old turns before b → 0 < turns → outer (Some m) b ≡ past → ReadsMore s t b c (Err f) → length c ≤ m + 8 → PullsTo P m a t turns_old (turns - 1) before c (Err errors.ReadFault)
-ends_fault P m a s t turns_old turns before b c f g some more read room =
-    let none : length read.piece ≡ 0 = ap length read.err.0 in
-    let rises = Rises-later a.faults s.faults t.faults g.pulls.takes.faults read.takes.faults read.err.1 in
-    ends_idle P m a s t turns_old turns before b c (Err errors.ReadFault) (Err f) g some more read room refl ((still_more m s t b c (Err f) read none more, rises), refl)
+pub ends_unread : {X : Type 0} (P : List ℕ → List ℕ → X → Type 0) {m : ℕ} {a s t : Supply} {turns_old turns : ℕ} {before b c : List ℕ} {f : SourceFault} → Pulled m a s turns_old turns before b 0 → 0 < turns → outer (Some m) b ≡ past → ReadsMore s t b c (Err f) → length c ≤ m + 8 → PullsTo P m a t turns_old (turns - 1) before c (Err errors.ReadFault)
+ends_unread P {m = m} {a = a} {s = s} {t = t} g some more read room =
+    let rises = Rises-later a.faults s.faults t.faults g.takes.faults read.takes.faults read.err.1 in
+    pulls_to P (Err errors.ReadFault) (Pulled-more 1 g some more read (omega arith)) room ((still_more m read (ap length read.err.0) more, rises), refl)
 
--- the end of the source behind some bytes
-pub ends_short : {X : Type 0} (P : List ℕ → List ℕ → X → Type 0) (m : ℕ) (a s t : Supply) (turns_old turns : ℕ) (before b c : List ℕ) (n : ℕ) → n ≡ 0 → Going m a s turns_old turns before b → 0 < turns → outer (Some m) b ≡ past → ReadsMore s t b c (Ok n) → length c ≤ m + 8 → 0 < length c → PullsTo P m a t turns_old (turns - 1) before c (Err errors.CutShort)
-ends_short P m a s t turns_old turns before b c n zero g some more read room long =
-    ends_idle P m a s t turns_old turns before b c (Err errors.CutShort) (Ok n) g some more read room refl ((still_more m s t b c (Ok n) read (read.ok ∙ zero) more, (λ e. absurd (omega (arith, ap length e))), read.end zero), refl)
+-- the end of the source after some bytes
+pub ends_short : {X : Type 0} (P : List ℕ → List ℕ → X → Type 0) {m : ℕ} {a s t : Supply} {turns_old turns : ℕ} {before b c : List ℕ} {n : ℕ} → n ≡ 0 → Pulled m a s turns_old turns before b 0 → 0 < turns → outer (Some m) b ≡ past → ReadsMore s t b c (Ok n) → length c ≤ m + 8 → c ≢ [] → PullsTo P m a t turns_old (turns - 1) before c (Err errors.CutShort)
+ends_short P {m = m} zero g some more read room long =
+    pulls_to P (Err errors.CutShort) (Pulled-more 1 g some more read (omega arith)) room ((still_more m read (read.ok ∙ zero) more, long, read.end zero), refl)
 
--- the end of the source behind no bytes
-pub ends_done : {X : Type 0} (P : List ℕ → List ℕ → X → Type 0) (m : ℕ) (a s t : Supply) (turns_old turns : ℕ) (before b c : List ℕ) (n : ℕ) → n ≡ 0 → Going m a s turns_old turns before b → 0 < turns → outer (Some m) b ≡ past → ReadsMore s t b c (Ok n) → length c ≡ 0 → PullsTo P m a t turns_old (turns - 1) before c (Ok None)
-ends_done P m a s t turns_old turns before b c n zero g some more read none =
-    ends_idle P m a s t turns_old turns before b c (Ok None) (Ok n) g some more read (omega arith) refl (nil_from_length c none, nil_from_length c none, read.end zero)
+-- the end of the source after no bytes
+pub ends_done : {X : Type 0} (P : List ℕ → List ℕ → X → Type 0) {m : ℕ} {a s t : Supply} {turns_old turns : ℕ} {before b c : List ℕ} {n : ℕ} → n ≡ 0 → Pulled m a s turns_old turns before b 0 → 0 < turns → outer (Some m) b ≡ past → ReadsMore s t b c (Ok n) → c ≡ [] → PullsTo P m a t turns_old (turns - 1) before c (Ok None)
+ends_done P zero g some more read none =
+    pulls_to P (Ok None) (Pulled-more 1 g some more read (omega arith)) (omega (arith, ap length none)) (none, none, read.end zero)
 
 -- an error says the same of every kind of frame
 pub err_as : {X Y : Type 0} (P : List ℕ → List ℕ → X → Type 0) (Q : List ℕ → List ℕ → Y → Type 0) (m : ℕ) (old new : Supply) (turns_old turns : ℕ) (before after : List ℕ) (e : ReadError) → PullsTo P m old new turns_old turns before after (Err e) → PullsTo Q m old new turns_old turns before after (Err e)
@@ -156,33 +153,24 @@ again s t turns_old turns m before after (Err error) bad p e =
       turns = none.1;
     }
 
-has_next : (s t : Supply) (turns_old turns m : ℕ) (before after : List ℕ) (r : Result (Option AMQPRawFrame) ReadError) → m < 2 ^ 32 → PullsTo (IsLent m) m s t turns_old turns before after r → HasNext s t turns_old turns (holding m before) (holding m after) r
-has_next s t turns_old turns m before after r fits p = record {
+-- a call of `next` that pulls so
+pub has_next : {s t : Supply} {turns_old turns : ℕ} {old new : Holding} {r : Result (Option AMQPRawFrame) ReadError} → old.limit < 2 ^ 32 → new.limit ≡ old.limit → PullsTo (IsLent old.limit) old.limit s t turns_old turns old.held new.held r → HasNext s t turns_old turns old new r
+has_next {s = s} {t = t} {turns_old = turns_old} {turns = turns} {old = old} {new = new} {r = r} fits same p = record {
   limit_fits = fits;
-  limit = refl;
+  limit = same;
   pulls = p;
-  room = held_room m s t turns_old turns before after r p;
-  undecided_room = λ e. omega (arith, outer-past_few m after e);
-  again = λ bad e. again s t turns_old turns m before after r bad p e;
+  room = held_room old.limit s t turns_old turns old.held new.held r p;
+  undecided_room = λ e. omega (arith, outer-past_few old.limit new.held e);
+  again = λ bad e. let told = again s t turns_old turns old.limit old.held new.held r bad p e in record { same = told.same; held = told.held; turns = told.turns };
 }
 
--- a call of `next` that pulls so
-pub HasNext-from : (s t : Supply) (turns_old turns m : ℕ) (before after now : List ℕ) (old : Holding) (r : Result (Option AMQPRawFrame) ReadError) → m < 2 ^ 32 → holding m before ≡ old → now ≡ after → PullsTo (IsLent m) m s t turns_old turns before after r → HasNext s t turns_old turns old (holding m now) r
-HasNext-from s t turns_old turns m before after now old r fits e d p =
-    let call : HasNext s t turns_old turns old (holding m after) r = subst (λ (h : Holding). HasNext s t turns_old turns h (holding m after) r) e (has_next s t turns_old turns m before after r fits p) in
-    subst (λ (xs : List ℕ). HasNext s t turns_old turns old (holding m xs) r) (sym d) call
-
--- the frame that lies in b is lent, and the rest is held
+-- the frame that lies in b is borrowed, and the rest is held
 pub some_as : (m : ℕ) (old new : Supply) (turns_old turns : ℕ) (before b after : List ℕ) (layout : FrameLayout) (raw : AMQPRawFrame) → PullsTo (LiesIn m) m old new turns_old turns before b (Ok (Some layout)) → raw_of raw ≡ laid_out layout b → after ≡ drop layout.frame_len b → PullsTo (IsLent m) m old new turns_old turns before after (Ok (Some raw))
 some_as m old new turns_old turns before b after layout raw p e d =
     let same : b ≡ p.b = p.ends.1 in
     record {
       b = p.b;
       pulls = p.pulls;
-      ends = (layout.frame_len, p.ends.0 ∙ ap (λ r. took r layout.frame_len) (ap (laid_out layout) (sym same) ∙ sym e), d ∙ ap (drop layout.frame_len) same);
+      ends = (layout.frame_len, p.ends.0.found ∙ ap (λ r. took r layout.frame_len) (ap (laid_out layout) (sym same) ∙ sym e), d ∙ ap (drop layout.frame_len) same);
       few = p.few;
     }
-
--- a look that says no more is needed
-pub not_past : (j : Judged Raw) (bad : Fault) → j ≡ fault bad → j ≢ past
-not_past j bad e h = absurd cc

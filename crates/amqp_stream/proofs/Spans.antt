@@ -44,3 +44,7 @@ part-part xs s e from len g h =
     let deep : take len (drop i (take e xs)) ≡ drop i (take (i + len) (take e xs)) = ap (λ k. take k (drop i (take e xs))) {x = len} (omega arith) ∙ between_is (take e xs) i (i + len) in
     let same : take len (drop from (take (e - s) (drop s xs))) ≡ take len (drop i (take e xs)) = ap (λ (ys : List ℕ). take len (drop from ys)) (between_is xs s e) ∙ ap (take len) (drop-drop from s (take e xs)) in
     between_is xs i (i + len) ∙ ap (drop i) (sym (take-take (i + len) e xs (omega arith))) ∙ sym deep ∙ sym same
+
+-- the same of a copy of the whole
+pub part-frame : (xs ys : List ℕ) (s e from len : ℕ) → ys ≡ xs → s ≤ e → from + len ≤ e - s → take ((s + from + len) - (s + from)) (drop (s + from) ys) ≡ take len (drop from (take (e - s) (drop s xs)))
+part-frame xs ys s e from len same g h = ap (λ (zs : List ℕ). take ((s + from + len) - (s + from)) (drop (s + from) zs)) same ∙ part-part xs s e from len g h

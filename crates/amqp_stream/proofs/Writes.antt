@@ -13,7 +13,7 @@ use Rattle.amqp_types.specs.declared.errors.ParserError.{ParserError}
 use Rattle.amqp_types.specs.declared.errors.ParserError.TheVariants as parses
 use Rattle.amqp_stream.specs.declared.sink.SinkFault.{SinkFault}
 use Rattle.amqp_stream.specs.Ends.{Store, Gains, Rises}
-use Rattle.amqp_stream.specs.Writing.{payload_fault, WritesAll, WritesFrame, behind, alone, through, Gathers, stream_result}
+use Rattle.amqp_stream.specs.Writing.{payload_fault, WritesAll, WritesFrame, Gathered, GatherFails, Gathers, Keeps, stream_result}
 use Rattle.amqp_stream.proofs.Adding.{Rises-later, Gains-none, Gains-then}
 
 -- one more write
@@ -49,42 +49,47 @@ WritesAll-then a b c p q u (Err e) f g = record {
   err = Rises-later a.faults b.faults c.faults f.gains.faults g.gains.faults g.err;
 }
 
--- a failed write of the front
-pub WritesAll-front : (a b : Store) (p q xs : List ℕ) (e : SinkFault) → xs ≡ p → WritesAll a b xs (Err e) → WritesAll a b (p ++ q) (Err e)
-WritesAll-front a b p q xs e same f = record {
+-- bytes that are pending after the others
+pub pushed : (a : Store) (before after bytes : List ℕ) (u : Unit {0}) → after ≡ before ++ bytes → Gathers a a before after bytes (Ok u)
+pushed a before after bytes u e = record { written = []; gains = Gains-none a; parts = e }
+
+-- a failed write of the front of them all
+pub gather_fails : {a b : Store} {bytes before after all : List ℕ} {e : SinkFault} (rest : List ℕ) → WritesAll a b bytes (Err e) → bytes ++ rest ≡ before ++ all → after ≡ [] → GatherFails a b before after all
+gather_fails rest f same none = record {
   piece = f.piece;
   gains = f.gains;
-  prefix = (f.prefix.0 ++ q, sym (append_assoc f.piece f.prefix.0 q) ∙ ap (λ (ys : List ℕ). ys ++ q) (f.prefix.1 ∙ same));
-  ok = tt;
-  err = f.err;
+  prefix = (f.prefix.0 ++ rest, sym (append_assoc f.piece f.prefix.0 rest) ∙ ap (λ (ys : List ℕ). ys ++ rest) f.prefix.1 ∙ same);
+  rises = f.err;
+  none = none;
 }
 
--- bytes that were gathered, or written behind those that waited
-pub pushed_gathers : (a : Store) (before after bytes : List ℕ) (u : Unit {0}) → after ≡ before ++ bytes → Gathers a a before after bytes (Ok u)
-pushed_gathers a before after bytes u e = behind (Gains-none a) e
+-- the pending bytes were written, and then these
+pub written_after : (a b c : Store) (before after bytes : List ℕ) (u : Unit {0}) (r : Result (Unit {0}) SinkFault) → after ≡ [] → WritesAll a b before (Ok u) → WritesAll b c bytes r → Gathers a c before after bytes r
+written_after a b c before after bytes u (Ok v) e f g =
+    let all = WritesAll-then a b c before bytes u (Ok v) f g in
+    record { written = all.piece; gains = all.gains; parts = ap (λ (xs : List ℕ). all.piece ++ xs) e ∙ append-nil all.piece ∙ all.ok }
+written_after a b c before after bytes u (Err d) e f g = gather_fails [] (WritesAll-then a b c before bytes u (Err d) f g) (append-nil (before ++ bytes)) e
 
--- bytes that wait alone, since what waited was written
-pub alone_gathers : (a b : Store) (before after bytes : List ℕ) (u v : Unit {0}) → WritesAll a b before (Ok u) → after ≡ bytes → Gathers a b before after bytes (Ok v)
-alone_gathers a b before after bytes u v w e = alone (subst (Gains a b) w.ok w.gains) e
+pub flush_failed : (a b : Store) (before after bytes : List ℕ) (e : SinkFault) → after ≡ [] → WritesAll a b before (Err e) → Gathers a b before after bytes (Err e)
+flush_failed a b before after bytes e none f = gather_fails bytes f refl none
 
-pub written_gathers : (a b c : Store) (before after bytes : List ℕ) (u : Unit {0}) (r : Result (Unit {0}) SinkFault) → after ≡ [] → WritesAll a b before (Ok u) → WritesAll b c bytes r → Gathers a c before after bytes r
-written_gathers a b c before after bytes u (Ok v) e f g = let all = WritesAll-then a b c before bytes u (Ok v) f g in through (subst (Gains a c) all.ok all.gains) e
-written_gathers a b c before after bytes u (Err d) e f g = WritesAll-then a b c before bytes u (Err d) f g
+-- all of a text was written, and the rest is pending
+pub all_but : {a b : Store} {bytes before after all : List ℕ} {u : Unit {0}} → WritesAll a b bytes (Ok u) → bytes ++ after ≡ before ++ all → Gathered a b before after all
+all_but {a = a} {b = b} f same = record { written = f.piece; gains = f.gains; parts = ap (λ (xs : List ℕ). xs ++ _) f.ok ∙ same }
 
-pub flush_failed : (a b : Store) (before after bytes : List ℕ) (e : SinkFault) → WritesAll a b before (Err e) → Gathers a b before after bytes (Err e)
-flush_failed a b before after bytes e f = WritesAll-front a b before bytes before e refl f
+-- ---- the canonical bytes of a frame
 
-pub gathered : (raw : Raw) (a b : Store) (before after : List ℕ) (f : Frame) (bytes : List ℕ) (r : Result (Unit {0}) SinkFault) → whole raw ≡ Ok f → bytes ≡ canon f → Gathers a b before after bytes r → WritesFrame raw a b before after (stream_result r)
-gathered raw a b before after f bytes (Ok u) w e h = (f, w, subst (λ (xs : List ℕ). Gathers a b before after xs (Ok u)) e h)
-gathered raw a b before after f bytes (Err d) w e h = (f, w, d, subst (λ (xs : List ℕ). Gathers a b before after xs (Err d)) e h)
+pub wrote : (raw : Raw) (a b : Store) (before after bytes : List ℕ) (f : Frame) (r : Result (Unit {0}) SinkFault) → whole raw ≡ Ok f → bytes ≡ canon f → Gathers a b before after bytes r → WritesFrame raw a b before after (stream_result r)
+wrote raw a b before after bytes f (Ok u) w e h = (f, w, subst (λ (xs : List ℕ). Gathered a b before after xs) e h)
+wrote raw a b before after bytes f (Err d) w e h = (f, w, subst (λ (xs : List ℕ). GatherFails a b before after xs) e h)
 
--- canonical bytes that wait behind the others
+-- canonical bytes that are pending after the others
 pub added : (raw : Raw) (a : Store) (before after : List ℕ) (f : Frame) → whole raw ≡ Ok f → after ≡ before ++ canon f → WritesFrame raw a a before after (Ok tt)
-added raw a before after f w e = (f, w, behind (Gains-none a) e)
+added raw a before after f w e = (f, w, pushed a before after (canon f) tt e)
 
-pub gathered-body : (raw : Raw) (a b : Store) (before after : List ℕ) (r : Result (Unit {0}) SinkFault) → raw.kind ≡ kinds.Body → Gathers a b before after (framed 3 raw.channel raw.payload) r → WritesFrame raw a b before after (stream_result r)
+pub wrote-body : (raw : Raw) (a b : Store) (before after : List ℕ) (r : Result (Unit {0}) SinkFault) → raw.kind ≡ kinds.Body → Gathers a b before after (framed 3 raw.channel raw.payload) r → WritesFrame raw a b before after (stream_result r)
 unfolding whole_as canon
-gathered-body raw a b before after r k h = gathered raw a b before after (Body raw.channel raw.payload) (framed 3 raw.channel raw.payload) r (rw k refl) refl h
+wrote-body raw a b before after r k h = wrote raw a b before after (framed 3 raw.channel raw.payload) (Body raw.channel raw.payload) r (rw k refl) refl h
 
 canon-beat_on : (channel : ℕ) → framed 8 channel [] ≡ canon (beat_on channel)
 unfolding canon
@@ -93,9 +98,9 @@ canon-beat_on channel = elim (cases_eq channel 0) [
   | inr some ↦ rw (ne_eqb channel 0 some) refl
 ]
 
-pub gathered-beat : (raw : Raw) (a b : Store) (before after : List ℕ) (bytes : List ℕ) (r : Result (Unit {0}) SinkFault) → raw.kind ≡ kinds.Heartbeat → bytes ≡ framed 8 raw.channel [] → Gathers a b before after bytes r → WritesFrame raw a b before after (stream_result r)
+pub wrote-beat : (raw : Raw) (a : Store) (before after bytes : List ℕ) → raw.kind ≡ kinds.Heartbeat → bytes ≡ framed 8 raw.channel [] → after ≡ before ++ bytes → WritesFrame raw a a before after (Ok tt)
 unfolding whole_as
-gathered-beat raw a b before after bytes r k e h = gathered raw a b before after (beat_on raw.channel) bytes r (rw k refl) (e ∙ canon-beat_on raw.channel) h
+wrote-beat raw a before after bytes k e h = added raw a before after (beat_on raw.channel) (rw k refl) (h ∙ ap (λ (xs : List ℕ). before ++ xs) (e ∙ canon-beat_on raw.channel))
 
 whole-proto : (payload : List ℕ) (channel : ℕ) → length payload ≡ 3 → whole_as kinds.ProtocolHeader channel payload ≡ Ok (Proto (get_or payload 0 0) (get_or payload 1 0) (get_or payload 2 0))
 unfolding whole_as
@@ -105,35 +110,25 @@ whole-proto (a ∷ b ∷ []) channel e = absurd (omega arith)
 whole-proto (a ∷ b ∷ c ∷ []) channel e = refl
 whole-proto (a ∷ b ∷ c ∷ d ∷ more) channel e = absurd (omega arith)
 
-pub gathered-proto : (raw : Raw) (a b : Store) (before after : List ℕ) (bytes : List ℕ) (r : Result (Unit {0}) SinkFault) → raw.kind ≡ kinds.ProtocolHeader → length raw.payload ≡ 3 → bytes ≡ proto (get_or raw.payload 0 0) (get_or raw.payload 1 0) (get_or raw.payload 2 0) → Gathers a b before after bytes r → WritesFrame raw a b before after (stream_result r)
+pub wrote-proto : (raw : Raw) (a : Store) (before after bytes : List ℕ) → raw.kind ≡ kinds.ProtocolHeader → length raw.payload ≡ 3 → bytes ≡ proto (get_or raw.payload 0 0) (get_or raw.payload 1 0) (get_or raw.payload 2 0) → after ≡ before ++ bytes → WritesFrame raw a a before after (Ok tt)
 unfolding canon
-gathered-proto raw a b before after bytes r k e is h = gathered raw a b before after (Proto (get_or raw.payload 0 0) (get_or raw.payload 1 0) (get_or raw.payload 2 0)) bytes r (rw k (whole-proto raw.payload raw.channel e)) is h
+wrote-proto raw a before after bytes k e is h = added raw a before after (Proto (get_or raw.payload 0 0) (get_or raw.payload 1 0) (get_or raw.payload 2 0)) (rw k (whole-proto raw.payload raw.channel e)) (h ∙ ap (λ (xs : List ℕ). before ++ xs) is)
 
-renamed : (a b : Store) (xs h : List ℕ) (r : Result (Unit {0}) SinkFault) → xs ≡ h → WritesAll a b xs r → WritesAll a b h r
-renamed a b xs h r e w = subst (λ (ys : List ℕ). WritesAll a b ys r) e w
-
--- a head, a payload and an end, of which the second failed
-pub WritesAll-second : (a b c : Store) (h payload end xs : List ℕ) (u : Unit {0}) (e : SinkFault) → xs ≡ h → WritesAll a b xs (Ok u) → WritesAll b c payload (Err e) → WritesAll a c (h ++ (payload ++ end)) (Err e)
-WritesAll-second a b c h payload end xs u e same f g = WritesAll-then a b c h (payload ++ end) u (Err e) (renamed a b xs h (Ok u) same f) (WritesAll-front b c payload end payload e refl g)
-
-pub WritesAll-third : (a b c d : Store) (h payload end xs : List ℕ) (u v : Unit {0}) (r : Result (Unit {0}) SinkFault) → xs ≡ h → WritesAll a b xs (Ok u) → WritesAll b c payload (Ok v) → WritesAll c d end r → WritesAll a d (h ++ (payload ++ end)) r
-WritesAll-third a b c d h payload end xs u v r same f g k = WritesAll-then a b d h (payload ++ end) u r (renamed a b xs h (Ok u) same f) (WritesAll-then b c d payload end v r g k)
+-- nothing was gathered
+kept : (a : Store) (before after : List ℕ) → after ≡ before → Keeps a a before after
+kept a before after e = record { written = []; gains = Gains-none a; parts = e ∙ sym (append-nil before) }
 
 -- a method or content header that was not read
-pub typed_refused : (raw : Raw) (a : Store) (before : List ℕ) (error : ParserError) → IsTyped raw.kind → IsPayloadError error → RefusesWhole error (whole raw) → WritesFrame raw a a before before (Err (payload_fault error))
-typed_refused raw a before parses.ShortPayload t i h = (h, (Gains-none a, refl))
-typed_refused raw a before parses.TrailingBytes t i h = (h, (Gains-none a, refl))
-typed_refused raw a before parses.UnknownClass t i h = (h, (Gains-none a, refl))
-typed_refused raw a before parses.UnknownMethod t i h = (h, (Gains-none a, refl))
-typed_refused raw a before parses.NotUtf8 t i h = (h, (Gains-none a, refl))
-typed_refused raw a before parses.UnknownTag t i h = (h, (Gains-none a, refl))
-typed_refused raw a before parses.TooDeep t i h = (h, (Gains-none a, refl))
-typed_refused raw a before parses.NoMemory t i h = (t, (Gains-none a, refl))
-typed_refused raw a before parses.Incomplete t i h = absurd i
-typed_refused raw a before parses.UnknownFrameType t i h = absurd i
-typed_refused raw a before parses.BadProtocolHeader t i h = absurd i
-typed_refused raw a before parses.BadFrameEnd t i h = absurd i
-
--- a refused frame left what waits
 pub added_refused : (raw : Raw) (a : Store) (before after : List ℕ) (error : ParserError) → IsTyped raw.kind → IsPayloadError error → RefusesWhole error (whole raw) → after ≡ before → WritesFrame raw a a before after (Err (payload_fault error))
-added_refused raw a before after error t i h same = subst (λ (bytes : List ℕ). WritesFrame raw a a before bytes (Err (payload_fault error))) (sym same) (typed_refused raw a before error t i h)
+added_refused raw a before after parses.ShortPayload t i h e = (h, (λ x. absurd cc), kept a before after e)
+added_refused raw a before after parses.TrailingBytes t i h e = (h, (λ x. absurd cc), kept a before after e)
+added_refused raw a before after parses.UnknownClass t i h e = (h, (λ x. absurd cc), kept a before after e)
+added_refused raw a before after parses.UnknownMethod t i h e = (h, (λ x. absurd cc), kept a before after e)
+added_refused raw a before after parses.NotUtf8 t i h e = (h, (λ x. absurd cc), kept a before after e)
+added_refused raw a before after parses.UnknownTag t i h e = (h, (λ x. absurd cc), kept a before after e)
+added_refused raw a before after parses.TooDeep t i h e = (h, (λ x. absurd cc), kept a before after e)
+added_refused raw a before after parses.NoMemory t i h e = (t, kept a before after e)
+added_refused raw a before after parses.Incomplete t i h e = absurd i
+added_refused raw a before after parses.UnknownFrameType t i h e = absurd i
+added_refused raw a before after parses.BadProtocolHeader t i h e = absurd i
+added_refused raw a before after parses.BadFrameEnd t i h e = absurd i

@@ -1,7 +1,7 @@
--- What canonicalizing a stream does.
+-- What canonicalizing a stream does: which bytes are taken, which are written, and why it ends.
 use Rattle.std.specs.Prelude.{◌≡◌, ℕ, ◌+◌, ◌<◌, ◌≤◌, List, [], ◌∷◌, ◌++◌, length, Some, Result, Ok, Err}
 use Rattle.amqp_types.specs.Levels.{Level, plain, tidy, strict}
-use Rattle.amqp_types.specs.Judging.{unknown_frame_type, bad_protocol_header, too_large, bad_frame_end, unknown_class, unknown_method, short_payload, trailing_bytes, not_utf8, unknown_tag, too_deep, not_tidy, Judged, past, fault, took, IsBytes}
+use Rattle.amqp_types.specs.Judging.{Judged, past, fault, took, IsBytes}
 use Rattle.amqp_frame.specs.Frames.{Frame, IsTyped}
 use Rattle.amqp_frame.specs.Outer.{BeginsWith}
 use Rattle.amqp_frame.specs.Verdicts.{verdict}
@@ -10,7 +10,7 @@ use Rattle.amqp_frame.specs.Canonical.{canon_row}
 use Rattle.amqp_frame.specs.Fronts.{front, place, IsUndecided}
 use Rattle.amqp_stream.specs.declared.errors.StreamError.{StreamError}
 use Rattle.amqp_stream.specs.declared.errors.StreamError.TheVariants as errors
-use Rattle.amqp_stream.specs.Errors.{error_of}
+use Rattle.amqp_stream.specs.Errors.{error_of, Cause, faulty, cut_short, turns_spent, read_failed, write_failed, out_of_memory, cause_of}
 use Rattle.amqp_stream.specs.Ends.{Supply, Store, Takes, Gains, Rises, IsEmpty, last}
 use Rattle.amqp_stream.specs.Writing.{IsPrefix}
 
@@ -50,32 +50,31 @@ AsksTidy plain = ⊥
 AsksTidy tidy = Unit {0}
 AsksTidy strict = Unit {0}
 
--- When each answer comes: by the bytes taken, the turns, what the source has left, and the counts of faults.
+-- When a stream ends early by each cause: by the bytes taken, the read budget, what the source has left, and the counts of faults.
+-- A fault of bytes comes exactly where the place of the bytes taken has it, a failed read only where that place is empty or undecided.
+abbrev pub IsCausedBy : Level → ℕ → ℕ → List ℕ → Supply → Supply → Store → Store → Type 0 → Cause → Type 0
+IsCausedBy level m turns taken a b k l AtMemory (faulty bad) = place_verdict level m taken ≡ fault bad
+IsCausedBy level m turns taken a b k l AtMemory cut_short = IsUndecided level (Some m) (place level (Some m) taken) × IsEmpty b.left
+IsCausedBy level m turns taken a b k l AtMemory turns_spent = (place_verdict level m taken ≡ past) × (turns ≤ length taken)
+IsCausedBy level m turns taken a b k l AtMemory read_failed = (place_verdict level m taken ≡ past) × Rises a.faults b.faults
+IsCausedBy level m turns taken a b k l AtMemory write_failed = Rises k.faults l.faults
+IsCausedBy level m turns taken a b k l AtMemory out_of_memory = AtMemory
+
+-- when each answer comes
 abbrev pub HasCause : Level → ℕ → ℕ → List ℕ → List ℕ → Supply → Supply → Store → Store → Result (Unit {0}) StreamError → Type 0
 HasCause level m turns taken written a b k l (Ok done) = IsRow level m taken × IsEmpty b.left
-HasCause level m turns taken written a b k l (Err errors.UnknownFrameType) = place_verdict level m taken ≡ fault unknown_frame_type
-HasCause level m turns taken written a b k l (Err errors.BadProtocolHeader) = place_verdict level m taken ≡ fault bad_protocol_header
-HasCause level m turns taken written a b k l (Err errors.TooLarge) = place_verdict level m taken ≡ fault too_large
-HasCause level m turns taken written a b k l (Err errors.BadFrameEnd) = place_verdict level m taken ≡ fault bad_frame_end
-HasCause level m turns taken written a b k l (Err errors.UnknownClass) = place_verdict level m taken ≡ fault unknown_class
-HasCause level m turns taken written a b k l (Err errors.UnknownMethod) = place_verdict level m taken ≡ fault unknown_method
-HasCause level m turns taken written a b k l (Err errors.ShortPayload) = place_verdict level m taken ≡ fault short_payload
-HasCause level m turns taken written a b k l (Err errors.TrailingBytes) = place_verdict level m taken ≡ fault trailing_bytes
-HasCause level m turns taken written a b k l (Err errors.NotUtf8) = place_verdict level m taken ≡ fault not_utf8
-HasCause level m turns taken written a b k l (Err errors.UnknownTag) = place_verdict level m taken ≡ fault unknown_tag
-HasCause level m turns taken written a b k l (Err errors.TooDeep) = place_verdict level m taken ≡ fault too_deep
-HasCause level m turns taken written a b k l (Err errors.NotTidy) = AsksTidy level × (place_verdict level m taken ≡ fault not_tidy)
-HasCause level m turns taken written a b k l (Err errors.CutShort) = IsUndecided level (Some m) (place level (Some m) taken) × IsEmpty b.left
-HasCause level m turns taken written a b k l (Err errors.TurnsSpent) = (place_verdict level m taken ≡ past) × (turns ≤ length taken)
-HasCause level m turns taken written a b k l (Err errors.ReadFault) = Rises a.faults b.faults
-HasCause level m turns taken written a b k l (Err errors.WriteFault) = Rises k.faults l.faults
-HasCause level m turns taken written a b k l (Err errors.NoMemory) = AtTypedFrame level m taken written
+HasCause level m turns taken written a b k l (Err error) = IsCausedBy level m turns taken a b k l (AtTypedFrame level m taken written) (cause_of error)
+
+-- What was written of a text by a stream that ended early: all of it, or a part of its front where a write or memory failed.
+abbrev pub IsWrittenUpTo : List ℕ → List ℕ → Cause → Type 0
+IsWrittenUpTo text written write_failed = IsPrefix written text
+IsWrittenUpTo text written out_of_memory = IsPrefix written text
+IsWrittenUpTo text written cause = written ≡ text
 
 -- What was written: the canonical bytes of the whole front, or of a part of it where a write or memory failed.
 abbrev pub HasWritten : Level → ℕ → List ℕ → List ℕ → Result (Unit {0}) StreamError → Type 0
-HasWritten level m taken written (Err errors.WriteFault) = IsPrefix written (canon_of level m taken)
-HasWritten level m taken written (Err errors.NoMemory) = IsPrefix written (canon_of level m taken)
-HasWritten level m taken written result = written ≡ canon_of level m taken
+HasWritten level m taken written (Ok done) = written ≡ canon_of level m taken
+HasWritten level m taken written (Err error) = IsWrittenUpTo (canon_of level m taken) written (cause_of error)
 
 -- A whole call: a is the source before it and b after it, k and l the sink.
 pub record Canonicalizes (level : Level) (m turns : ℕ) (a b : Supply) (k l : Store) (result : Result (Unit {0}) StreamError) : Type 0 where
@@ -89,6 +88,7 @@ pub record Canonicalizes (level : Level) (m turns : ℕ) (a b : Supply) (k l : S
   pub gains : Gains k l written
   pub writes : HasWritten level m taken written result
   pub cause : HasCause level m turns taken written a b k l result
+  pub tidy_only : result ≡ Err errors.NotTidy → AsksTidy level
   pub behind : IsBehindBy level m taken written (m + 8)
   pub no_longer : length written ≤ length taken
 
@@ -108,13 +108,20 @@ answer_at (b ∷ bytes) (took frame used) = Ok tt
 abbrev pub answer_to : Level → ℕ → List ℕ → Result (Unit {0}) StreamError
 answer_to level m bytes = answer_at (place level (Some m) bytes) (place_verdict level m bytes)
 
--- That answer was given and all of the front written, but for want of memory, spent turns, and faults of the two ends.
+-- This is so, but for want of memory, a spent read budget, and faults of the two ends.
+abbrev pub UnlessStopped : Cause → Type 0 → Type 0
+UnlessStopped (faulty bad) So = So
+UnlessStopped cut_short So = So
+UnlessStopped cause So = Unit {0}
+
+-- what is answered and written by the bytes alone
+abbrev pub IsExactly : Level → ℕ → List ℕ → List ℕ → Result (Unit {0}) StreamError → Type 0
+IsExactly level m bytes written result = (result ≡ answer_to level m bytes) × (written ≡ canon_of level m bytes)
+
+-- that answer was given and all of the front written, unless the stream was stopped
 abbrev pub IsAnswerTo : Level → ℕ → List ℕ → List ℕ → Result (Unit {0}) StreamError → Type 0
-IsAnswerTo level m bytes written (Err errors.TurnsSpent) = Unit {0}
-IsAnswerTo level m bytes written (Err errors.ReadFault) = Unit {0}
-IsAnswerTo level m bytes written (Err errors.WriteFault) = Unit {0}
-IsAnswerTo level m bytes written (Err errors.NoMemory) = Unit {0}
-IsAnswerTo level m bytes written result = (result ≡ answer_to level m bytes) × (written ≡ canon_of level m bytes)
+IsAnswerTo level m bytes written (Ok done) = IsExactly level m bytes written (Ok done)
+IsAnswerTo level m bytes written (Err error) = UnlessStopped (cause_of error) (IsExactly level m bytes written (Err error))
 
 -- what a call answers over a source that tells its bytes
 pub record AnswersExactly (level : Level) (m : ℕ) (bytes : List ℕ) (k l : Store) (result : Result (Unit {0}) StreamError) : Type 0 where
@@ -134,7 +141,11 @@ pub record NoFaults (a b : Supply) (k l : Store) : Type 0 where
   pub sink : l.faults ≡ k.faults
   pub sink_below : k.faults < last
 
+-- memory ran out
+abbrev pub IsOutOfMemory : Cause → Type 0
+IsOutOfMemory out_of_memory = Unit {0}
+IsOutOfMemory cause = ⊥
+
 abbrev pub IsOkOrNoMemory : Result (Unit {0}) StreamError → Type 0
 IsOkOrNoMemory (Ok done) = Unit {0}
-IsOkOrNoMemory (Err errors.NoMemory) = Unit {0}
-IsOkOrNoMemory (Err error) = ⊥
+IsOkOrNoMemory (Err error) = IsOutOfMemory (cause_of error)

@@ -88,3 +88,32 @@ stream_error_status errors.TooDeep = 20
 stream_error_status errors.CutShort = 21
 stream_error_status errors.TurnsSpent = 22
 stream_error_status errors.NotTidy = 23
+
+-- Why a stream ended early: a fault of bytes, or what it ran out of, or which of its ends failed.
+pub data Cause : Type 0 where
+  faulty : Fault → Cause
+  cut_short : Cause
+  turns_spent : Cause
+  read_failed : Cause
+  write_failed : Cause
+  out_of_memory : Cause
+
+-- the cause that an error reports; each cause has one error
+abbrev pub cause_of : StreamError → Cause
+cause_of errors.UnknownFrameType = faulty unknown_frame_type
+cause_of errors.BadProtocolHeader = faulty bad_protocol_header
+cause_of errors.TooLarge = faulty too_large
+cause_of errors.BadFrameEnd = faulty bad_frame_end
+cause_of errors.UnknownClass = faulty unknown_class
+cause_of errors.UnknownMethod = faulty unknown_method
+cause_of errors.ShortPayload = faulty short_payload
+cause_of errors.TrailingBytes = faulty trailing_bytes
+cause_of errors.NotUtf8 = faulty not_utf8
+cause_of errors.UnknownTag = faulty unknown_tag
+cause_of errors.TooDeep = faulty too_deep
+cause_of errors.NotTidy = faulty not_tidy
+cause_of errors.CutShort = cut_short
+cause_of errors.TurnsSpent = turns_spent
+cause_of errors.ReadFault = read_failed
+cause_of errors.WriteFault = write_failed
+cause_of errors.NoMemory = out_of_memory

@@ -3,8 +3,11 @@ pub mod Scripts
 pub mod Errors
 pub mod Spans
 pub mod Reading
-pub mod Waiting
+pub mod Buffers
 pub mod Writing
 pub mod Canonicalizing
+pub mod Steps
+pub mod Streaming
+pub mod Manners
 pub mod Made
 pub mod Making

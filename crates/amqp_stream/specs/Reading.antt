@@ -76,9 +76,21 @@ pub record PullsTo {X : Type 0} (IsFound : List ℕ → List ℕ → X → Type 
   pub ends : Ends (IsFound b after) m b old new turns_new after result
   pub few : turns_old ≤ turns_new + length pulls.taken + idle_reads result
 
+-- a whole frame lies so at the front of the bytes
+pub record Lies (m : ℕ) (bytes : List ℕ) (layout : FrameLayout) : Type 0 where
+  pub found : outer (Some m) bytes ≡ took (laid_out layout bytes) layout.frame_len
+  pub payload_inside : layout.payload_start + layout.payload_len ≤ layout.frame_len
+  pub inside : layout.frame_len ≤ length bytes
+
+-- what stands at the front of the bytes: a frame, a fault, or neither, so that more bytes are needed
+abbrev pub Finds : ℕ → List ℕ → Result (Option FrameLayout) ReadError → Type 0
+Finds m bytes (Ok (Some layout)) = Lies m bytes layout
+Finds m bytes (Ok None) = outer (Some m) bytes ≡ past
+Finds m bytes (Err error) = (bad : Fault) × (read_fault error ≡ Some bad) × (outer (Some m) bytes ≡ fault bad)
+
 -- a frame that lies in the bytes, which are all held
 abbrev pub LiesIn : ℕ → List ℕ → List ℕ → FrameLayout → Type 0
-LiesIn m b after layout = (outer (Some m) b ≡ took (laid_out layout b) layout.frame_len) × (after ≡ b) × (layout.payload_start + layout.payload_len ≤ layout.frame_len) × (layout.frame_len ≤ length b)
+LiesIn m b after layout = Lies m b layout × (after ≡ b)
 
 -- a frame that is lent, and whose bytes are held no more
 abbrev pub IsLent : ℕ → List ℕ → List ℕ → AMQPRawFrame → Type 0

@@ -1,15 +1,17 @@
--- What calls write, and what waits to be written.
-use Rattle.std.specs.Prelude.{◌≡◌, ◌≢◌, ◌⊎◌, ℕ, Some, List, [], ◌++◌, Result, Ok, Err, OnOk, OnErr}
-use Rattle.amqp_types.specs.Judging.{past, short_payload, trailing_bytes, unknown_class, unknown_method, not_utf8, unknown_tag, too_deep}
+-- What calls write, and what is pending after them.
+use Rattle.std.specs.Prelude.{◌≡◌, ◌≢◌, ℕ, ◌+◌, List, [], ◌++◌, length, Result, Ok, Err, OnOk, OnErr}
+use Rattle.amqp_types.specs.Judging.{not_tidy}
 use Rattle.amqp_types.specs.declared.errors.ParserError.{ParserError}
 use Rattle.amqp_types.specs.declared.errors.ParserError.TheVariants as parser_errors
+use Rattle.amqp_frame.specs.declared.frame_type.AMQPFrameType.{AMQPFrameType}
+use Rattle.amqp_frame.specs.declared.frame_type.AMQPFrameType.TheVariants as kinds
 use Rattle.amqp_frame.specs.Frames.{Raw, Frame, IsTyped}
 use Rattle.amqp_frame.specs.Verdicts.{whole}
-use Rattle.amqp_frame.specs.Outer.{outer}
 use Rattle.amqp_frame.specs.Canonical.{canon}
 use Rattle.amqp_stream.specs.declared.errors.StreamError.{StreamError}
 use Rattle.amqp_stream.specs.declared.errors.StreamError.TheVariants as errors
 use Rattle.amqp_stream.specs.declared.sink.SinkFault.{SinkFault}
+use Rattle.amqp_stream.specs.Errors.{Cause, faulty, cut_short, turns_spent, read_failed, write_failed, out_of_memory, cause_of}
 use Rattle.amqp_stream.specs.Ends.{Store, Gains, Rises}
 
 -- the bytes begin so
@@ -24,36 +26,32 @@ pub record WritesAll (old new : Store) (bytes : List ℕ) (result : Result (Unit
   pub ok : OnOk result (piece ≡ bytes)
   pub err : OnErr result (Rises old.faults new.faults)
 
+-- Bytes were put after those that were pending; some of them all were written, and the rest is pending.
+pub record Gathered (old new : Store) (before after bytes : List ℕ) : Type 0 where
+  pub written : List ℕ
+  pub gains : Gains old new written
+  pub parts : written ++ after ≡ before ++ bytes
+
+-- A part of the front of them all was written, the sink failed, and nothing is pending.
+pub record GatherFails (old new : Store) (before after bytes : List ℕ) : Type 0 where
+  pub piece : List ℕ
+  pub gains : Gains old new piece
+  pub prefix : IsPrefix piece (before ++ bytes)
+  pub rises : Rises old.faults new.faults
+  pub none : after ≡ []
+
+abbrev pub Gathers : Store → Store → List ℕ → List ℕ → List ℕ → Result (Unit {0}) SinkFault → Type 0
+Gathers old new before after bytes (Ok done) = Gathered old new before after bytes
+Gathers old new before after bytes (Err bad) = GatherFails old new before after bytes
+
+-- nothing more is written or pending
+abbrev pub Keeps : Store → Store → List ℕ → List ℕ → Type 0
+Keeps old new before after = Gathered old new before after []
+
 -- a failed write, as an error of a stream
 abbrev pub stream_result : Result (Unit {0}) SinkFault → Result (Unit {0}) StreamError
 stream_result (Ok done) = Ok done
 stream_result (Err bad) = Err errors.WriteFault
-
--- How bytes were gathered: they wait behind those that waited; or those were written, and they wait alone; or all of them were written.
-pub data Gathered (old new : Store) (before after bytes : List ℕ) : Type 0 where
-  behind : Gains old new [] → after ≡ before ++ bytes → Gathered old new before after bytes
-  alone : Gains old new before → after ≡ bytes → Gathered old new before after bytes
-  through : Gains old new (before ++ bytes) → after ≡ [] → Gathered old new before after bytes
-
--- bytes were gathered, or a write failed
-abbrev pub Gathers : Store → Store → List ℕ → List ℕ → List ℕ → Result (Unit {0}) SinkFault → Type 0
-Gathers old new before after bytes (Ok done) = Gathered old new before after bytes
-Gathers old new before after bytes (Err bad) = WritesAll old new (before ++ bytes) (Err bad)
-
--- nothing was written, and what waited waits still
-abbrev pub Keeps : Store → Store → List ℕ → List ℕ → Type 0
-Keeps old new before after = Gains old new [] × (after ≡ before)
-
--- the answer of a call that is to end with this error, and first writes what waits
-abbrev pub stopped : StreamError → Result (Unit {0}) SinkFault → Result (Unit {0}) StreamError
-stopped error (Ok done) = Err error
-stopped error (Err bad) = Err errors.WriteFault
-
--- what waits was written, and then the call ends with this error, if it can
-pub record Stops (old new : Store) (waiting : List ℕ) (error : StreamError) (result : Result (Unit {0}) StreamError) : Type 0 where
-  pub written : Result (Unit {0}) SinkFault
-  pub writes : WritesAll old new waiting written
-  pub answer : result ≡ stopped error written
 
 -- the error of a whole payload, as an error of a stream
 abbrev pub payload_fault : ParserError → StreamError
@@ -70,25 +68,25 @@ payload_fault parser_errors.UnknownFrameType = errors.NoMemory
 payload_fault parser_errors.BadProtocolHeader = errors.NoMemory
 payload_fault parser_errors.BadFrameEnd = errors.NoMemory
 
--- what is said of a frame that was not written
-abbrev pub IsRefusal : Raw → StreamError → Type 0
-IsRefusal raw errors.ShortPayload = whole raw ≡ Err short_payload
-IsRefusal raw errors.TrailingBytes = whole raw ≡ Err trailing_bytes
-IsRefusal raw errors.UnknownClass = whole raw ≡ Err unknown_class
-IsRefusal raw errors.UnknownMethod = whole raw ≡ Err unknown_method
-IsRefusal raw errors.NotUtf8 = whole raw ≡ Err not_utf8
-IsRefusal raw errors.UnknownTag = whole raw ≡ Err unknown_tag
-IsRefusal raw errors.TooDeep = whole raw ≡ Err too_deep
-IsRefusal raw errors.NoMemory = IsTyped raw.kind
-IsRefusal raw error = ⊥
+-- how many bytes a frame has around a payload of n bytes (AMQP 0-9-1, sections 4.2.2 and 4.2.3)
+abbrev pub length_around : AMQPFrameType → ℕ → ℕ
+length_around kinds.ProtocolHeader n = 8
+length_around kinds.Method n = n + 8
+length_around kinds.Header n = n + 8
+length_around kinds.Body n = n + 8
+length_around kinds.Heartbeat n = n + 8
 
--- a frame was written or gathered, or it is told why not
+abbrev pub frame_length : Raw → ℕ
+frame_length raw = length_around raw.kind (length raw.payload)
+
+-- why the canonical bytes of a frame were not written
+abbrev pub IsUnwritten : Raw → Store → Store → List ℕ → List ℕ → Cause → Type 0
+IsUnwritten raw old new before after (faulty bad) = (whole raw ≡ Err bad) × (bad ≢ not_tidy) × Keeps old new before after
+IsUnwritten raw old new before after write_failed = (frame : Frame) × (whole raw ≡ Ok frame) × GatherFails old new before after (canon frame)
+IsUnwritten raw old new before after out_of_memory = IsTyped raw.kind × Keeps old new before after
+IsUnwritten raw old new before after cause = ⊥
+
+-- the canonical bytes of a frame were gathered, or it is reported why not
 abbrev pub WritesFrame : Raw → Store → Store → List ℕ → List ℕ → Result (Unit {0}) StreamError → Type 0
-WritesFrame raw old new before after (Ok done) = (frame : Frame) × (whole raw ≡ Ok frame) × Gathers old new before after (canon frame) (Ok done)
-WritesFrame raw old new before after (Err errors.WriteFault) = (frame : Frame) × (whole raw ≡ Ok frame) × (bad : SinkFault) × WritesAll old new (before ++ canon frame) (Err bad)
-WritesFrame raw old new before after (Err error) = IsRefusal raw error × Keeps old new before after
-
--- what waits was written, or the reader reads nothing next
-abbrev pub MakesReady : ℕ → List ℕ → Store → Store → List ℕ → List ℕ → Result (Unit {0}) SinkFault → Type 0
-MakesReady m held old new before after (Ok done) = (WritesAll old new before (Ok tt) × (after ≡ [])) ⊎ ((outer (Some m) held ≢ past) × (new ≡ old) × (after ≡ before))
-MakesReady m held old new before after (Err bad) = WritesAll old new before (Err bad)
+WritesFrame raw old new before after (Ok done) = (frame : Frame) × (whole raw ≡ Ok frame) × Gathered old new before after (canon frame)
+WritesFrame raw old new before after (Err error) = IsUnwritten raw old new before after (cause_of error)

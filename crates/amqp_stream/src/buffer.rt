@@ -1,12 +1,10 @@
-//! The buffer of a reader: the bytes that are held lie in it, and are read on behind.
+//! The buffer of a reader: where the held bytes lie in it, and reading more after them.
 
-ghost use Rattle.std.specs.Prelude.{◌≡◌, ◌+◌, ◌-◌, ◌<◌, length};
-ghost use Rattle.amqp_stream.specs.Reading.{ReadsMore, PullsTo, LiesIn};
+ghost use Rattle.std.specs.Prelude.{◌≡◌, ◌-◌, ◌<◌, length};
+ghost use Rattle.amqp_stream.specs.Reading.{ReadsMore};
 ghost use Rattle.amqp_stream.specs.Spans.{IsSpan, held_in};
 
-use crate::errors::ReadError;
 use crate::source::{Source, SourceFault};
-use amqp_frame::{FrameLayout, Look, look_at};
 
 /// Where the held bytes lie in the buffer.
 #[derive(Clone, Copy)]
@@ -15,7 +13,7 @@ pub(crate) struct Span {
     pub end: usize,
 }
 
-/// Moves the held bytes to the front, where no room is left behind them.
+/// Moves the held bytes to the front, where no room is left after them.
 fn make_room(buf: &mut [u8], span: &mut Span)
     requires span { IsSpan span.old (length buf.old) }
     requires room { span.old.end - span.old.start < length buf.old }
@@ -30,8 +28,8 @@ fn make_room(buf: &mut [u8], span: &mut Span)
     }
 }
 
-/// Reads behind the held bytes, which may move to the front for it.
-fn read_more<S: Source>(
+/// Reads after the held bytes, which may move to the front for it.
+pub(crate) fn read_more<S: Source>(
     source: &mut S,
     buf: &mut [u8],
     span: &mut Span,
@@ -50,42 +48,5 @@ fn read_more<S: Source>(
             Ok(count)
         }
         Err(fault) => Err(fault),
-    }
-}
-
-/// Reads until a frame or a fault stands at the front of the held bytes, and answers where the frame
-/// lies.
-pub(crate) fn pull<S: Source>(
-    source: &mut S,
-    turns: &mut u64,
-    buf: &mut [u8],
-    span: &mut Span,
-    max_payload: u32,
-) -> Result<Option<FrameLayout>, ReadError>
-    requires span { IsSpan span.old (length buf.old) }
-    requires room { length buf.old ≡ max_payload + 8 }
-    ensures span { IsSpan span.new (length buf.new) }
-    ensures pulls { PullsTo (LiesIn max_payload) max_payload (S.supply source.old) (S.supply source.new) turns.old turns.new
-        (held_in buf.old span.old) (held_in buf.new span.new) result }
-{
-    loop {
-        match look_at(Some(max_payload), &buf[span.start..span.end]) {
-            Look::Incomplete => {}
-            Look::UnknownFrameType => return Err(ReadError::UnknownFrameType),
-            Look::BadProtocolHeader => return Err(ReadError::BadProtocolHeader),
-            Look::TooLarge => return Err(ReadError::TooLarge),
-            Look::BadFrameEnd => return Err(ReadError::BadFrameEnd),
-            Look::Whole(layout) => return Ok(Some(layout)),
-        }
-        if *turns == 0 {
-            return Err(ReadError::TurnsSpent);
-        }
-        *turns -= 1;
-        match read_more(source, buf, span) {
-            Err(SourceFault) => return Err(ReadError::ReadFault),
-            Ok(0) if span.start == span.end => return Ok(None),
-            Ok(0) => return Err(ReadError::CutShort),
-            Ok(_) => {}
-        }
     }
 }

@@ -1,72 +1,27 @@
-ghost use Rattle.std.specs.Prelude.{◌≡◌, ◌+◌, ◌≤◌, ◌⊎◌, ℕ, List, [], Some, IfOk};
-ghost use Rattle.amqp_types.specs.Levels.{plain};
-ghost use Rattle.amqp_stream.specs.Writing.{MakesReady};
-ghost use Rattle.amqp_stream.specs.Canonicalizing.{Canonicalizes, NeverBegan, AnswersExactly, IsValid, NoFaults, IsOkOrNoMemory};
+//! A reader and an output buffer, reserved in full, and what runs over them.
 
-use crate::errors::StreamError;
-use crate::output::{flush, stop, told, write_frame};
+ghost use Rattle.std.specs.Prelude.{◌≡◌, ◌⊎◌, ℕ, List, Some, IfOk};
+ghost use Rattle.amqp_types.specs.Levels.{plain};
+ghost use Rattle.amqp_stream.specs.Canonicalizing.{Canonicalizes, NeverBegan, AnswersExactly, IsValid, NoFaults, IsOkOrNoMemory};
+ghost use Rattle.amqp_stream.specs.Streaming.{Streams, StreamsExactly, RunNeverBegan, IsWelcome, IsDoneOrWanting, ending_of};
+
+use crate::canonical::{Canonical, unrefused};
+use crate::engine::run_with;
+use crate::errors::{RunError, StreamError};
+use crate::frame_writer::FrameWriter;
+use crate::output_buffer::OutputBuffer;
 use crate::reader::FrameReader;
-use crate::sink::{Sink, SinkFault};
+use crate::sink::Sink;
 use crate::source::Source;
-use crate::waiting::Waiting;
 use amqp_types::{ChunkSize, NoMemory};
 use std::alloc::Global;
 use std::marker::Model;
 
-/// Writes what waits, where the reader is to read.
-fn settle<K: Sink>(reader: &FrameReader, out: &mut Waiting, sink: &mut K) -> Result<(), SinkFault>
-    ensures room { out.new.room ≡ out.old.room }
-    ensures ready { MakesReady reader.now.limit reader.now.held (K.store sink.old) (K.store sink.new) out.old.bytes out.new.bytes result }
-{
-    if reader.is_ready() {
-        return Ok(());
-    }
-    flush(out, sink)
-}
-
-/// Writes the canonical bytes of each frame that is read, to the end of input.
-fn canonicalize_with<S: Source, K: Sink>(
-    alloc: Global,
-    reader: &mut FrameReader,
-    out: &mut Waiting,
-    source: &mut S,
-    sink: &mut K,
-    turns: u64,
-) -> Result<(), StreamError>
-    requires none { reader.old.held ≡ [] }
-    requires room { reader.old.limit + 8 ≤ out.old.room }
-    ensures limit { reader.new.limit ≡ reader.old.limit }
-    ensures room { out.new.room ≡ out.old.room }
-    ensures stream { Canonicalizes plain reader.old.limit turns (S.supply source.old) (S.supply source.new)
-        (K.store sink.old) (K.store sink.new) result }
-{
-    out.clear();
-    let mut left = turns;
-    loop {
-        match settle(reader, out, sink) {
-            Err(_) => return Err(StreamError::WriteFault),
-            Ok(()) => {}
-        }
-        match reader.next(source, &mut left) {
-            Err(error) => return stop(out, sink, StreamError::from(error)),
-            Ok(None) => return told(flush(out, sink)),
-            Ok(Some(raw)) => match write_frame(alloc, out, sink, raw) {
-                Err(error) => match error {
-                    StreamError::WriteFault => return Err(StreamError::WriteFault),
-                    _ => return stop(out, sink, error),
-                },
-                Ok(()) => {}
-            },
-        }
-    }
-}
-
-/// A reader and an output buffer, both reserved in full, which write what is read in its one
-/// canonical spelling.
+/// A reader and an output buffer, both reserved in full, over which streams are read and written.
 #[derive(Drop)]
 pub struct Codec {
     reader: FrameReader,
-    out: Waiting,
+    out: OutputBuffer,
 }
 
 impl Model for Codec {
@@ -85,12 +40,39 @@ impl Codec {
         ensures { IfOk result (λ codec. codec ≡ max_payload) }
     {
         let reader = FrameReader::open(alloc, max_payload)?;
-        let out = Waiting::open(alloc, max_payload as usize + 8)?;
+        let out = OutputBuffer::open(alloc, max_payload as usize + 8)?;
         Ok(Codec { reader, out })
     }
 
+    /// Writes for each frame that is read, to the end of input or an error. Each read takes one of
+    /// the read budget. What an earlier call left in the codec is dropped.
+    pub fn run<W: FrameWriter, S: Source, K: Sink>(
+        &mut self,
+        writer: &mut W,
+        source: &mut S,
+        sink: &mut K,
+        turns: u64,
+    ) -> Result<(), RunError<W::Refusal>>
+        ensures limit { self.new ≡ self.old }
+        ensures stream { Streams W.manner writer.old writer.new self.old turns (S.supply source.old) (S.supply source.new)
+            (K.store sink.old) (K.store sink.new) (ending_of result) }
+        ensures unread { turns ≡ 0 → source.new ≡ source.old }
+
+        // Over a source that tells its bytes, the answer is by all of them, however they are cut.
+        ensures exact { (bytes : List ℕ) → (S.supply source.old).left ≡ Some bytes
+            → StreamsExactly W.manner writer.old self.old bytes (K.store sink.old) (K.store sink.new) (ending_of result) }
+        ensures complete { (bytes : List ℕ) → (S.supply source.old).left ≡ Some bytes
+            → IsValid W.manner.level self.old turns bytes
+            → IsWelcome W.manner writer.old self.old bytes
+            → NoFaults (S.supply source.old) (S.supply source.new) (K.store sink.old) (K.store sink.new)
+            → IsDoneOrWanting (ending_of result) }
+    {
+        self.reader.clear();
+        run_with(&mut self.reader, &mut self.out, writer, source, sink, turns)
+    }
+
     /// Writes the canonical bytes of each frame that is read, to the end of input or an error. Each
-    /// read takes one of the turns. What an earlier call left in the codec is dropped.
+    /// read takes one of the read budget. What an earlier call left in the codec is dropped.
     pub fn canonicalize<S: Source, K: Sink>(
         &mut self,
         alloc: Global,
@@ -101,6 +83,7 @@ impl Codec {
         ensures limit { self.new ≡ self.old }
         ensures stream { Canonicalizes plain self.old turns (S.supply source.old) (S.supply source.new)
             (K.store sink.old) (K.store sink.new) result }
+        ensures unread { turns ≡ 0 → source.new ≡ source.old }
 
         // Over a source that tells its bytes, the answer is by all of them, however they are cut.
         ensures exact { (bytes : List ℕ) → (S.supply source.old).left ≡ Some bytes
@@ -110,8 +93,39 @@ impl Codec {
             → NoFaults (S.supply source.old) (S.supply source.new) (K.store sink.old) (K.store sink.new)
             → IsOkOrNoMemory result }
     {
-        self.reader.clear();
-        canonicalize_with(alloc, &mut self.reader, &mut self.out, source, sink, turns)
+        unrefused(self.run(&mut Canonical { alloc }, source, sink, turns))
+    }
+}
+
+/// Opens a codec and runs a writer over it.
+pub fn run_stream<W: FrameWriter, S: Source, K: Sink>(
+    alloc: Global,
+    writer: &mut W,
+    source: &mut S,
+    sink: &mut K,
+    max_payload: ChunkSize,
+    turns: u64,
+) -> Result<(), RunError<W::Refusal>>
+    ensures stream { Streams W.manner writer.old writer.new max_payload turns (S.supply source.old) (S.supply source.new)
+        (K.store sink.old) (K.store sink.new) (ending_of result)
+        ⊎ RunNeverBegan writer.old writer.new (S.supply source.old) (S.supply source.new) (K.store sink.old) (K.store sink.new) (ending_of result) }
+    ensures unread { turns ≡ 0 → source.new ≡ source.old }
+
+    // Over a source that tells its bytes, the answer is by all of them, however they are cut.
+    ensures exact { (bytes : List ℕ) → (S.supply source.old).left ≡ Some bytes
+        → StreamsExactly W.manner writer.old max_payload bytes (K.store sink.old) (K.store sink.new) (ending_of result) }
+    ensures complete { (bytes : List ℕ) → (S.supply source.old).left ≡ Some bytes
+        → IsValid W.manner.level max_payload turns bytes
+        → IsWelcome W.manner writer.old max_payload bytes
+        → NoFaults (S.supply source.old) (S.supply source.new) (K.store sink.old) (K.store sink.new)
+        → IsDoneOrWanting (ending_of result) }
+{
+    match Codec::open(alloc, max_payload) {
+        Ok(codec) => {
+            let mut codec = codec;
+            codec.run(writer, source, sink, turns)
+        }
+        Err(_) => Err(RunError::Stream(StreamError::NoMemory)),
     }
 }
 
@@ -126,6 +140,7 @@ pub fn canonicalize<S: Source, K: Sink>(
     ensures stream { Canonicalizes plain max_payload turns (S.supply source.old) (S.supply source.new)
         (K.store sink.old) (K.store sink.new) result
         ⊎ NeverBegan (S.supply source.old) (S.supply source.new) (K.store sink.old) (K.store sink.new) result }
+    ensures unread { turns ≡ 0 → source.new ≡ source.old }
 
     // Over a source that tells its bytes, the answer is by all of them, however they are cut.
     ensures exact { (bytes : List ℕ) → (S.supply source.old).left ≡ Some bytes

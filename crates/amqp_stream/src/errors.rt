@@ -202,3 +202,13 @@ impl From<ReadError> for StreamError {
         }
     }
 }
+
+/// Why a run did not come to the end of its stream.
+#[derive(Debug, Drop)]
+pub enum RunError<R> {
+    /// The stream ended early.
+    Stream(StreamError),
+
+    /// The writer refused a frame, or the end of input.
+    Refused(R),
+}

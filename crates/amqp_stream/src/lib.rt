@@ -2,25 +2,31 @@
 #![tactic(auto)]
 
 mod buffer;
+mod canonical;
 mod codec;
 mod count_sink;
+mod engine;
 mod errors;
+mod frame_writer;
 mod made_laws;
 mod make_source;
 mod output;
+mod output_buffer;
 mod reader;
 mod sink;
 mod sinks;
 mod source;
 mod sources;
-mod waiting;
 
-pub use codec::{Codec, canonicalize};
+pub use canonical::{Canonical, as_run, unrefused};
+pub use codec::{Codec, canonicalize, run_stream};
 pub use count_sink::CountSink;
-pub use errors::{ReadError, StreamError};
+pub use errors::{ReadError, RunError, StreamError};
+pub use frame_writer::FrameWriter;
 pub use made_laws::made_is_a_row;
 pub use make_source::MakeSource;
-pub use output::write_all;
+pub use output::{flush, gather, write_all, write_canonical};
+pub use output_buffer::OutputBuffer;
 pub use reader::FrameReader;
 pub use sink::{Sink, SinkFault};
 pub use sinks::{ScriptSink, StdSink, VecSink};

@@ -1,23 +1,24 @@
-//! Writing canonical bytes: those of small frames wait in a buffer, and are written together.
+//! Writing: all of some bytes, what is pending, and the canonical bytes of a frame.
 
-ghost use Rattle.std.specs.Prelude.{◌≡◌, ◌+◌, ◌^◌, ◌<◌, ◌≤◌, [], length, Ok};
-ghost use Rattle.amqp_frame.specs.Frames.{frame_of, raw_of, IsTyped};
-ghost use Rattle.amqp_frame.specs.Canonical.{canon, size_of};
+ghost use Rattle.std.specs.Prelude.{◌≡◌, ◌+◌, ◌++◌, ◌^◌, ◌<◌, ◌≤◌, [], length};
+ghost use Rattle.amqp_frame.specs.Frames.{raw_of, IsTyped};
 ghost use Rattle.amqp_frame.specs.Spelling.{framed};
 ghost use Rattle.amqp_frame.specs.Verdicts.{IsPayloadError};
-ghost use Rattle.amqp_stream.specs.Writing.{WritesAll, WritesFrame, Gathers, Stops, stream_result, payload_fault};
+ghost use Rattle.amqp_stream.specs.Writing.{WritesAll, WritesFrame, Gathers, Gathered, stream_result, payload_fault, frame_length};
+ghost use Rattle.amqp_stream.specs.Ends.{Store};
+ghost use Rattle.amqp_stream.specs.Streaming.{EndsWith};
 
-use crate::errors::StreamError;
+use crate::errors::{RunError, StreamError};
+use crate::output_buffer::OutputBuffer;
 use crate::sink::{Sink, SinkFault};
-use crate::waiting::Waiting;
 use amqp_frame::{
-    AMQPFrame, AMQPFrameType, AMQPRawFrame, ProtocolVersion, frame_head, header_bytes,
-    heartbeat_bytes, parse_payload, release,
+    AMQPFrameType, AMQPRawFrame, ProtocolVersion, frame_head, header_bytes, heartbeat_bytes,
 };
 use amqp_types::{ChannelId, ParserError};
 use std::alloc::Global;
 
-/// Bodies up to this size wait with the small frames; larger ones are written from where they lie.
+/// Bodies up to this size are pending with the small frames; larger ones are written from where they
+/// lie.
 const SMALL_BODY: usize = 4096;
 
 /// Writes all of the bytes, in as many writes as it takes.
@@ -34,8 +35,8 @@ pub fn write_all<K: Sink>(sink: &mut K, bytes: &[u8]) -> Result<(), SinkFault>
     Ok(())
 }
 
-/// Writes what waits.
-pub(crate) fn flush<K: Sink>(out: &mut Waiting, sink: &mut K) -> Result<(), SinkFault>
+/// Writes what is pending. Nothing is pending afterwards, also where a write failed.
+pub fn flush<K: Sink>(out: &mut OutputBuffer, sink: &mut K) -> Result<(), SinkFault>
     ensures written { WritesAll (K.store sink.old) (K.store sink.new) out.old.bytes result }
     ensures empty { out.new ≡ record { room = out.old.room; bytes = [] } }
 {
@@ -44,13 +45,14 @@ pub(crate) fn flush<K: Sink>(out: &mut Waiting, sink: &mut K) -> Result<(), Sink
     written
 }
 
-/// Lets bytes wait, or writes what waits and then them.
-#[tactic(auto, using(crate::proofs::Writes::pushed_gathers, crate::proofs::Writes::written_gathers, crate::proofs::Writes::flush_failed))]
-fn gather<K: Sink>(out: &mut Waiting, sink: &mut K, bytes: &[u8]) -> Result<(), SinkFault>
+/// Puts bytes after the pending ones, where they fit; else writes what is pending and then them.
+#[tactic(auto, using(crate::proofs::Writes::pushed, crate::proofs::Writes::written_after, crate::proofs::Writes::flush_failed))]
+pub fn gather<K: Sink>(out: &mut OutputBuffer, sink: &mut K, bytes: &[u8]) -> Result<(), SinkFault>
     ensures room { out.new.room ≡ out.old.room }
     ensures gathers { Gathers (K.store sink.old) (K.store sink.new) out.old.bytes out.new.bytes bytes.now result }
 {
-    if out.push(bytes) {
+    if bytes.len() <= out.room() {
+        out.push(bytes);
         return Ok(());
     }
     match flush(out, sink) {
@@ -59,67 +61,46 @@ fn gather<K: Sink>(out: &mut Waiting, sink: &mut K, bytes: &[u8]) -> Result<(), 
     }
 }
 
-/// Writes a body frame, its payload from where it lies.
-fn write_body<K: Sink>(sink: &mut K, channel_id: ChannelId, payload: &[u8]) -> Result<(), SinkFault>
-    requires { length payload.now < 2 ^ 32 }
-    ensures { WritesAll (K.store sink.old) (K.store sink.new) (framed 3 channel_id payload.now) result }
+/// Puts a body frame after the pending bytes.
+fn push_body(out: &mut OutputBuffer, channel_id: ChannelId, payload: &[u8])
+    requires few { length payload.now < 2 ^ 32 }
+    requires room { length out.old.bytes + (length payload.now + 8) ≤ out.old.room }
+    ensures room { out.new.room ≡ out.old.room }
+    ensures pushed { out.new.bytes ≡ out.old.bytes ++ framed 3 channel_id payload.now }
 {
-    match write_all(sink, &frame_head(3, channel_id, payload.len() as u32)) {
-        Err(fault) => Err(fault),
-        Ok(()) => match write_all(sink, payload) {
-            Err(fault) => Err(fault),
-            Ok(()) => write_all(sink, &[206]),
-        },
-    }
+    out.push(&frame_head(3, channel_id, payload.len() as u32));
+    out.push(payload);
+    out.push(&[206]);
 }
 
-/// Lets a small body frame wait, or writes what waits and then it.
-#[tactic(auto, using(crate::proofs::Writes::pushed_gathers, crate::proofs::Writes::written_gathers, crate::proofs::Writes::flush_failed))]
-fn gather_body<K: Sink>(
-    out: &mut Waiting,
+/// Writes what is pending and a body frame, its payload from where it lies. Its end is pending.
+fn write_body<K: Sink>(
+    out: &mut OutputBuffer,
     sink: &mut K,
     channel_id: ChannelId,
     payload: &[u8],
 ) -> Result<(), SinkFault>
-    requires { length payload.now < 2 ^ 32 }
+    requires few { length payload.now < 2 ^ 32 }
+    requires room { length out.old.bytes + (length payload.now + 8) ≤ out.old.room }
     ensures room { out.new.room ≡ out.old.room }
     ensures gathers { Gathers (K.store sink.old) (K.store sink.new) out.old.bytes out.new.bytes (framed 3 channel_id payload.now) result }
+    ensures compact { length out.new.bytes ≤ length out.old.bytes + (length payload.now + 8) }
 {
-    if payload.len() <= SMALL_BODY && out.push_body(channel_id, payload) {
-        return Ok(());
-    }
+    out.push(&frame_head(3, channel_id, payload.len() as u32));
     match flush(out, sink) {
         Err(fault) => Err(fault),
-        Ok(()) => write_body(sink, channel_id, payload),
-    }
-}
-
-/// Lets a frame wait that fits the buffer, and first writes what waits where there is no room left.
-#[tactic(auto, using(crate::proofs::Writes::pushed_gathers, crate::proofs::Writes::alone_gathers, crate::proofs::Writes::flush_failed))]
-fn gather_frame<K: Sink>(
-    out: &mut Waiting,
-    sink: &mut K,
-    frame: &AMQPFrame,
-) -> Result<(), SinkFault>
-    requires sized { size_of (frame_of frame.now) ≡ Ok (length (canon (frame_of frame.now))) }
-    requires room { length (canon (frame_of frame.now)) ≤ out.old.room }
-    ensures room { out.new.room ≡ out.old.room }
-    ensures gathers { Gathers (K.store sink.old) (K.store sink.new) out.old.bytes out.new.bytes (canon (frame_of frame.now)) result }
-{
-    if out.push_frame(frame) {
-        return Ok(());
-    }
-    match flush(out, sink) {
-        Err(fault) => Err(fault),
-        Ok(()) => {
-            out.push_frame(frame);
-            Ok(())
-        }
+        Ok(()) => match write_all(sink, payload) {
+            Err(fault) => Err(fault),
+            Ok(()) => {
+                out.push(&[206]);
+                Ok(())
+            }
+        },
     }
 }
 
 /// A failed write, as an error of a stream.
-pub(crate) fn told(written: Result<(), SinkFault>) -> Result<(), StreamError>
+fn as_stream(written: Result<(), SinkFault>) -> Result<(), StreamError>
     ensures { result ≡ stream_result written }
 {
     match written {
@@ -128,18 +109,18 @@ pub(crate) fn told(written: Result<(), SinkFault>) -> Result<(), StreamError>
     }
 }
 
-/// Writes what waits, and ends with an error.
-pub(crate) fn stop<K: Sink>(
-    out: &mut Waiting,
+/// Writes what is pending, and ends with an error.
+pub(crate) fn stop<K: Sink, R: Drop>(
+    out: &mut OutputBuffer,
     sink: &mut K,
-    error: StreamError,
-) -> Result<(), StreamError>
+    error: RunError<R>,
+) -> Result<(), RunError<R>>
     ensures room { out.new.room ≡ out.old.room }
-    ensures stops { Stops (K.store sink.old) (K.store sink.new) out.old.bytes error result }
+    ensures ends { EndsWith (K.store sink.old) (K.store sink.new) out.old.bytes error result }
 {
     match flush(out, sink) {
         Ok(()) => Err(error),
-        Err(_) => Err(StreamError::WriteFault),
+        Err(_) => Err(RunError::Stream(StreamError::WriteFault)),
     }
 }
 
@@ -164,66 +145,42 @@ fn payload_error(error: ParserError) -> StreamError
     }
 }
 
-/// Reads the payload of a method or content header into memory, and lets its canonical bytes wait.
-#[tactic(auto, using(crate::proofs::Writes::typed_refused, crate::proofs::Writes::gathered))]
-fn gather_read<K: Sink>(
-    alloc: Global,
-    out: &mut Waiting,
-    sink: &mut K,
-    raw: AMQPRawFrame<'_>,
-) -> Result<(), StreamError>
-    requires typed { IsTyped raw.frame_type }
-    requires few { length raw.payload.now < 2 ^ 32 }
-    requires room { length raw.payload.now + 8 ≤ out.old.room }
-    ensures room { out.new.room ≡ out.old.room }
-    ensures writes { WritesFrame (raw_of raw.entry) (K.store sink.old) (K.store sink.new) out.old.bytes out.new.bytes result }
-{
-    match parse_payload(alloc, raw) {
-        Err(error) => Err(payload_error(error)),
-        Ok(frame) => {
-            let gathered = gather_frame(out, sink, &frame);
-            release(frame);
-            told(gathered)
-        }
-    }
-}
-
-/// Lets the canonical bytes of a method or content header wait: where there is room for what it
-/// came in, without reading it into memory if it came in them.
+/// Gathers the canonical bytes of a method or content header. Memory may run out where its payload
+/// is not canonical.
 #[tactic(auto, using(crate::proofs::Writes::added_refused, crate::proofs::Writes::added))]
-fn gather_typed<K: Sink>(
+fn write_typed(
     alloc: Global,
-    out: &mut Waiting,
-    sink: &mut K,
+    out: &mut OutputBuffer,
     raw: AMQPRawFrame<'_>,
 ) -> Result<(), StreamError>
     requires typed { IsTyped raw.frame_type }
     requires few { length raw.payload.now < 2 ^ 32 }
-    requires room { length raw.payload.now + 8 ≤ out.old.room }
+    requires room { length out.old.bytes + (length raw.payload.now + 8) ≤ out.old.room }
     ensures room { out.new.room ≡ out.old.room }
-    ensures writes { WritesFrame (raw_of raw.entry) (K.store sink.old) (K.store sink.new) out.old.bytes out.new.bytes result }
+    ensures writes { (store : Store) → WritesFrame (raw_of raw.entry) store store out.old.bytes out.new.bytes result }
+    ensures compact { length out.new.bytes ≤ length out.old.bytes + (length raw.entry.payload.now + 8) }
 {
-    if !out.has_room(raw.payload.len() + 8) {
-        return gather_read(alloc, out, sink, raw);
-    }
     match out.push_raw(alloc, raw) {
         Err(error) => Err(payload_error(error)),
         Ok(()) => Ok(()),
     }
 }
 
-/// Lets the canonical bytes of a lent frame wait, or writes them.
+/// Gathers the canonical bytes of a borrowed frame. A large body is written from where it lies.
 #[tactic(auto, unfolding(amqp_frame::specs::Verdicts::whole_as, amqp_frame::specs::Canonical::canon))]
-pub(crate) fn write_frame<K: Sink>(
+pub fn write_canonical<K: Sink>(
     alloc: Global,
-    out: &mut Waiting,
+    out: &mut OutputBuffer,
     sink: &mut K,
     raw: AMQPRawFrame<'_>,
 ) -> Result<(), StreamError>
     requires few { length raw.payload.now < 2 ^ 32 }
-    requires room { IsTyped raw.frame_type → length raw.payload.now + 8 ≤ out.old.room }
+    requires room { length out.old.bytes + frame_length (raw_of raw) ≤ out.old.room }
     ensures room { out.new.room ≡ out.old.room }
     ensures writes { WritesFrame (raw_of raw.entry) (K.store sink.old) (K.store sink.new) out.old.bytes out.new.bytes result }
+
+    // No more bytes are pending than the frame had.
+    ensures compact { length out.new.bytes ≤ length out.old.bytes + frame_length (raw_of raw.entry) }
 {
     match raw.frame_type {
         AMQPFrameType::ProtocolHeader => match raw.payload {
@@ -233,13 +190,21 @@ pub(crate) fn write_frame<K: Sink>(
                     minor: *minor,
                     revision: *revision,
                 };
-                told(gather(out, sink, &header_bytes(version)))
+                out.push(&header_bytes(version));
+                Ok(())
             }
             [_, _, _, _, ..] => Err(StreamError::TrailingBytes),
             _ => Err(StreamError::ShortPayload),
         },
-        AMQPFrameType::Method | AMQPFrameType::Header => gather_typed(alloc, out, sink, raw),
-        AMQPFrameType::Body => told(gather_body(out, sink, raw.channel_id, raw.payload)),
-        AMQPFrameType::Heartbeat => told(gather(out, sink, &heartbeat_bytes(raw.channel_id))),
+        AMQPFrameType::Method | AMQPFrameType::Header => write_typed(alloc, out, raw),
+        AMQPFrameType::Body if raw.payload.len() <= SMALL_BODY => {
+            push_body(out, raw.channel_id, raw.payload);
+            Ok(())
+        }
+        AMQPFrameType::Body => as_stream(write_body(out, sink, raw.channel_id, raw.payload)),
+        AMQPFrameType::Heartbeat => {
+            out.push(&heartbeat_bytes(raw.channel_id));
+            Ok(())
+        }
     }
 }

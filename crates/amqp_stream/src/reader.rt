@@ -1,13 +1,15 @@
-use crate::buffer::{Span, pull};
+//! Reading frames: a buffer for the largest of them, filled by reads, out of which they are borrowed.
+
+use crate::buffer::{Span, read_more};
 use crate::errors::ReadError;
-use crate::source::Source;
-use amqp_frame::{AMQPRawFrame, Look, look_at};
+use crate::source::{Source, SourceFault};
+use amqp_frame::{AMQPRawFrame, FrameLayout, Look, look_at};
 use amqp_types::{ChunkSize, NoMemory};
 use std::alloc::Global;
 use std::marker::Model;
 
 /// A reader of frames, over a buffer for the largest of them that is reserved in full. A frame is
-/// lent out of the buffer, and no call but `open` takes memory.
+/// borrowed out of the buffer, and no call but `open` takes memory.
 #[derive(Drop)]
 pub struct FrameReader {
     buf: Vec<u8>,
@@ -28,13 +30,15 @@ impl Model for FrameReader {
 }
 
 impl FrameReader {
-    ghost use Rattle.std.specs.Prelude.{◌≡◌, ◌≢◌, ◌↔◌, [], Some, IsTrue, IfOk};
+    ghost use Rattle.std.specs.Prelude.{◌≡◌, ◌+◌, ◌^◌, ◌<◌, ◌≤◌, ◌↔◌, [], Some, IsTrue, IfOk, length, drop};
     ghost use Rattle.std.specs.Borrow.{sem};
     ghost use Rattle.std.specs.Io.BufRead.{Rests};
     ghost use Rattle.amqp_types.specs.Judging.{past};
+    ghost use Rattle.amqp_frame.specs.Frames.{raw_of};
     ghost use Rattle.amqp_frame.specs.Outer.{outer};
+    ghost use Rattle.amqp_frame.specs.Looks.{laid_out};
     ghost use Rattle.amqp_stream.specs.contracts.reader.FrameReader.{the_row};
-    ghost use Rattle.amqp_stream.specs.Reading.{HasNext};
+    ghost use Rattle.amqp_stream.specs.Reading.{ReadsMore, PullsTo, Lies, LiesIn, Finds, HasNext};
 
     /// A reader that holds nothing, for payloads of at most so many bytes.
     pub fn open(alloc: Global, max_payload: ChunkSize) -> Result<FrameReader, NoMemory>
@@ -55,22 +59,103 @@ impl FrameReader {
         self.span = Span { start: 0, end: 0 };
     }
 
-    /// Whether a frame or a fault stands at the front of what is held, so that `next` reads nothing.
-    #[tactic(auto, using(crate::proofs::Pulling::not_past))]
-    pub fn is_ready(&self) -> bool
-        ensures { IsTrue result ↔ (outer (Some self.now.limit) self.now.held ≢ past) }
+    /// Whether no bytes are held.
+    pub fn is_empty(&self) -> bool
+        ensures { IsTrue result ↔ self.now.held ≡ [] }
+    {
+        self.span.start == self.span.end
+    }
+
+    /// Where the frame at the front of the held bytes lies in them; `None` where more bytes are
+    /// needed. Nothing is read.
+    #[inline]
+    pub fn buffered(&self) -> Result<Option<FrameLayout>, ReadError>
+        ensures finds { Finds self.now.limit self.now.held result }
+        ensures room { length self.now.held ≤ self.now.limit + 8 }
     {
         match look_at(
             Some(self.max_payload),
             &self.buf[self.span.start..self.span.end],
         ) {
-            Look::Incomplete => false,
-            _ => true,
+            Look::Whole(layout) => Ok(Some(layout)),
+            Look::Incomplete => Ok(None),
+            Look::UnknownFrameType => Err(ReadError::UnknownFrameType),
+            Look::BadProtocolHeader => Err(ReadError::BadProtocolHeader),
+            Look::TooLarge => Err(ReadError::TooLarge),
+            Look::BadFrameEnd => Err(ReadError::BadFrameEnd),
         }
     }
 
-    /// Lends the next whole frame until the next call, and answers `None` at the end of input. Each
-    /// read takes one of the turns.
+    /// The frame at the front of the held bytes, whose payload is borrowed out of them.
+    #[inline]
+    pub fn frame(&self, layout: FrameLayout) -> AMQPRawFrame<'_>
+        requires { Lies self.now.limit self.now.held layout }
+        ensures frame { raw_of result ≡ laid_out layout self.now.held }
+        ensures few { length result.payload.now < 2 ^ 32 }
+    {
+        let start = self.span.start + layout.payload_start;
+        AMQPRawFrame {
+            frame_type: layout.frame_type,
+            channel_id: layout.channel_id,
+            payload: &self.buf[start..start + layout.payload_len],
+        }
+    }
+
+    /// Drops the frame at the front of the held bytes.
+    #[inline]
+    pub fn consume(&mut self, layout: FrameLayout)
+        requires { Lies self.old.limit self.old.held layout }
+        ensures limit { self.new.limit ≡ self.old.limit }
+        ensures held { self.new.held ≡ drop layout.frame_len self.old.held }
+    {
+        self.span.start += layout.frame_len;
+    }
+
+    /// Reads once, after the held bytes, and returns how many bytes came. None is the end of input.
+    pub fn fill<S: Source>(&mut self, source: &mut S) -> Result<usize, SourceFault>
+        requires { outer (Some self.old.limit) self.old.held ≡ past }
+        ensures limit { self.new.limit ≡ self.old.limit }
+        ensures room { length self.new.held ≤ self.old.limit + 8 }
+        ensures reads { ReadsMore (S.supply source.old) (S.supply source.new) self.old.held self.new.held result }
+    {
+        let mut span = self.span;
+        let count = read_more(source, &mut self.buf, &mut span);
+        self.span = span;
+        count
+    }
+
+    /// Reads until a frame or a fault stands at the front of the held bytes, and returns where the
+    /// frame lies.
+    fn pull<S: Source>(
+        &mut self,
+        source: &mut S,
+        turns: &mut u64,
+    ) -> Result<Option<FrameLayout>, ReadError>
+        ensures limit { self.new.limit ≡ self.old.limit }
+        ensures pulls { PullsTo (LiesIn self.old.limit) self.old.limit (S.supply source.old) (S.supply source.new)
+            turns.old turns.new self.old.held self.new.held result }
+    {
+        'reads: loop {
+            match self.buffered() {
+                Err(error) => return Err(error),
+                Ok(Some(layout)) => return Ok(Some(layout)),
+                Ok(None) => {}
+            }
+            if *turns == 0 {
+                return Err(ReadError::TurnsSpent);
+            }
+            *turns -= 1;
+            match self.fill(source) {
+                Err(SourceFault) => return Err(ReadError::ReadFault),
+                Ok(0) if self.is_empty() => return Ok(None),
+                Ok(0) => return Err(ReadError::CutShort),
+                Ok(_) => {}
+            }
+        }
+    }
+
+    /// The next whole frame, borrowed until the next call, and `None` at the end of input. Each read
+    /// takes one of the read budget.
     pub fn next<S: Source>(
         &mut self,
         source: &mut S,
@@ -79,29 +164,18 @@ impl FrameReader {
         ensures* after { sem 𝓛 (Rests the_row self.entry (λ new.
             HasNext (S.supply source.old) (S.supply source.new) turns.old turns.new self.old new result)) }
     {
-        let mut span = self.span;
-        let pulled = pull(source, turns, &mut self.buf, &mut span, self.max_payload);
-        match pulled {
-            Err(error) => {
-                self.span = span;
-                Err(error)
+        match self.pull(source, turns) {
+            Err(error) => Err(error),
+            Ok(None) => Ok(None),
+            Ok(Some(layout)) => {
+                let start = self.span.start + layout.payload_start;
+                self.span.start += layout.frame_len;
+                Ok(Some(AMQPRawFrame {
+                    frame_type: layout.frame_type,
+                    channel_id: layout.channel_id,
+                    payload: &self.buf[start..start + layout.payload_len],
+                }))
             }
-            Ok(found) => match found {
-                None => {
-                    self.span = span;
-                    Ok(None)
-                }
-                Some(layout) => {
-                    let start = span.start + layout.payload_start;
-                    span.start += layout.frame_len;
-                    self.span = span;
-                    Ok(Some(AMQPRawFrame {
-                        frame_type: layout.frame_type,
-                        channel_id: layout.channel_id,
-                        payload: &self.buf[start..start + layout.payload_len],
-                    }))
-                }
-            },
         }
     }
 }

@@ -1,19 +1,28 @@
-use Rattle.std.proofs.Common.{[], ◌∷◌, ◌++◌, length}
+use Rattle.std.proofs.Common.{[], ◌∷◌, ◌++◌, length, refl, sym, ap, subst, ◌∙◌, append_assoc, List, ℕ, Err, Ok}
 use Rattle.amqp_frame.specs.Spelling.{head}
-use Rattle.amqp_stream.proofs.Writes.{WritesAll-front, WritesAll-second, WritesAll-third}
+use Rattle.amqp_stream.proofs.Writes.{WritesAll-then, gather_fails, all_but}
 use Rattle.amqp_stream.proofs.output.write_body.Goals as goal
 
-pub returns-in-Err : goal.returns-in-Err
-returns-in-Err g c =
+pub returns-in-Err-clause-gathers : goal.returns-in-Err-clause-gathers
+returns-in-Err-clause-gathers g c =
     let payload = c.args.payload.now in
-    WritesAll-front _ _ (head 3 c.args.channel_id (length payload)) (payload ++ 206 ∷ []) _ _ c.frame_head.ensures c.in-Err.ensures
+    let before = c.args.out.now.bytes in
+    let pushed = c.push.ensures.pushed ∙ ap (λ (xs : List ℕ). before ++ xs) c.frame_head.ensures in
+    gather_fails (payload ++ 206 ∷ []) c.in-Err.ensures.written (ap (λ (xs : List ℕ). xs ++ (payload ++ 206 ∷ [])) pushed ∙ append_assoc before (head 3 c.args.channel_id (length payload)) (payload ++ 206 ∷ [])) (ap (λ w. w.bytes) c.in-Err.ensures.empty)
 
-pub returns-in-Err-write_all : goal.returns-in-Err-write_all
-returns-in-Err-write_all g c =
+pub returns-in-Err-write_all-clause-gathers : goal.returns-in-Err-write_all-clause-gathers
+returns-in-Err-write_all-clause-gathers g c =
     let payload = c.args.payload.now in
-    WritesAll-second _ _ _ (head 3 c.args.channel_id (length payload)) payload (206 ∷ []) _ _ _ c.frame_head.ensures c.in-Ok.ensures c.in-Err-write_all.ensures
+    let before = c.args.out.now.bytes in
+    let pushed = c.push.ensures.pushed ∙ ap (λ (xs : List ℕ). before ++ xs) c.frame_head.ensures in
+    let all = WritesAll-then _ _ _ c.push.new.self.bytes payload _ _ c.in-Ok.ensures.written c.in-Err-write_all.ensures in
+    gather_fails (206 ∷ []) all (append_assoc c.push.new.self.bytes payload (206 ∷ []) ∙ ap (λ (xs : List ℕ). xs ++ (payload ++ 206 ∷ [])) pushed ∙ append_assoc before (head 3 c.args.channel_id (length payload)) (payload ++ 206 ∷ [])) (ap (λ w. w.bytes) c.in-Ok.ensures.empty)
 
-pub returns-in-Ok-write_all : goal.returns-in-Ok-write_all
-returns-in-Ok-write_all g c =
+pub returns-in-Ok-write_all-clause-gathers : goal.returns-in-Ok-write_all-clause-gathers
+returns-in-Ok-write_all-clause-gathers g c =
     let payload = c.args.payload.now in
-    WritesAll-third _ _ _ _ (head 3 c.args.channel_id (length payload)) payload (206 ∷ []) _ _ _ _ c.frame_head.ensures c.in-Ok.ensures c.in-Ok-write_all.ensures c.write_all-in-Ok-write_all.ensures
+    let before = c.args.out.now.bytes in
+    let pushed = c.push.ensures.pushed ∙ ap (λ (xs : List ℕ). before ++ xs) c.frame_head.ensures in
+    let all = WritesAll-then _ _ _ c.push.new.self.bytes payload _ _ c.in-Ok.ensures.written c.in-Ok-write_all.ensures in
+    let end = c.push-in-Ok-write_all.ensures.pushed ∙ ap (λ w. w.bytes ++ 206 ∷ []) c.in-Ok.ensures.empty in
+    all_but all (ap (λ (xs : List ℕ). (c.push.new.self.bytes ++ payload) ++ xs) end ∙ append_assoc c.push.new.self.bytes payload (206 ∷ []) ∙ ap (λ (xs : List ℕ). xs ++ (payload ++ 206 ∷ [])) pushed ∙ append_assoc before (head 3 c.args.channel_id (length payload)) (payload ++ 206 ∷ []))

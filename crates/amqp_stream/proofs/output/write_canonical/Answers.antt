@@ -1,0 +1,22 @@
+use Rattle.std.proofs.Common.{Ok, refl, arith}
+use Rattle.amqp_frame.specs.Frames.{raw_of}
+use Rattle.amqp_stream.proofs.Writes.{wrote-body, wrote-beat, wrote-proto, pushed}
+use Rattle.amqp_stream.proofs.output.write_canonical.Goals as goal
+
+pub returns-in-len3-clause-writes : goal.returns-in-len3-clause-writes
+returns-in-len3-clause-writes g c = wrote-proto (raw_of c.args.raw) _ _ _ _ c.in-ProtocolHeader.is (omega arith) c.header_bytes.ensures c.push.ensures.pushed
+
+pub returns-in-Method-clause-writes : goal.returns-in-Method-clause-writes
+returns-in-Method-clause-writes g c = c.write_typed.ensures.writes _
+
+pub returns-in-Body-clause-writes : goal.returns-in-Body-clause-writes
+returns-in-Body-clause-writes g c = wrote-body (raw_of c.args.raw) _ _ _ _ (Ok tt) c.in-Body.is (pushed _ _ _ _ tt c.push_body.ensures.pushed)
+
+pub returns-in-Body-2-clause-writes : goal.returns-in-Body-2-clause-writes
+returns-in-Body-2-clause-writes g c = rw c.as_stream.ensures (wrote-body (raw_of c.args.raw) _ _ _ _ _ c.in-Body-2.is c.write_body.ensures.gathers)
+
+pub returns-in-Body-2-clause-compact : goal.returns-in-Body-2-clause-compact
+returns-in-Body-2-clause-compact g c = rw c.in-Body-2.is (c.write_body.ensures.compact)
+
+pub returns-in-Heartbeat-clause-writes : goal.returns-in-Heartbeat-clause-writes
+returns-in-Heartbeat-clause-writes g c = wrote-beat (raw_of c.args.raw) _ _ _ _ c.in-Heartbeat.is c.heartbeat_bytes.ensures c.push-in-Heartbeat.ensures.pushed

@@ -1,0 +1,15 @@
+use Rattle.std.proofs.Common.{◌≡◌, ◌-◌, ◌≤◌, length, ap, arith}
+use Rattle.amqp_frame.proofs.OuterLook.{outer-past_few}
+use Rattle.amqp_stream.specs.Spans.{held_in}
+use Rattle.amqp_stream.proofs.Spans.{part-length}
+use Rattle.amqp_stream.proofs.reader.FrameReader.fill.Goals as goal
+
+pub read_more-count-requires-clause-room : goal.read_more-count-requires-clause-room
+read_more-count-requires-clause-room g c =
+    let span = c.self.inside.span in
+    let within = c.self.invariant.0 in
+    let buf = c.self.inside.buf.items in
+    let fits : span.end ≤ length buf = omega (arith, within.within, c.deref_mut.ensures.len, ap length c.deref_mut.ensures.value) in
+    let long = part-length buf span.start span.end within.ordered fits in
+    let few = outer-past_few c.args.self.now.limit c.args.self.now.held c.requires in
+    omega (arith, few, long, ap (λ h. length h.held) c.self.view_is, ap (λ h. h.limit) c.self.view_is, c.self.invariant.1, ap length c.deref_mut.ensures.value)

@@ -1,0 +1,12 @@
+use Rattle.std.proofs.Common.{◌≡◌}
+use Rattle.amqp_stream.proofs.Pulling.{Pulled}
+use Rattle.amqp_stream.proofs.reader.FrameReader.pull.Given as goal
+
+abbrev pub invariant-reads : goal.invariant-reads
+invariant-reads g l = record {
+  limit : l.self.limit ≡ l.fn.self.limit;
+  pulled : Pulled l.fn.self.limit (g.S.Source.supply l.fn.source) (g.S.Source.supply l.source) l.fn.turns l.turns l.fn.self.held l.self.held 0;
+}
+
+abbrev pub decreases-reads : goal.decreases-reads
+decreases-reads g l = l.turns

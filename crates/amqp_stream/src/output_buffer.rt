@@ -1,0 +1,110 @@
+//! A buffer in which bytes are pending, to be written together.
+
+ghost use Rattle.std.specs.Prelude.{◌≡◌, ◌+◌, ◌++◌, ◌^◌, ◌<◌, ◌≤◌, [], length, take, IfOk, IfErr};
+ghost use Rattle.amqp_frame.specs.Frames.{raw_of};
+ghost use Rattle.amqp_frame.specs.Spelling.{framed, head};
+ghost use Rattle.amqp_frame.specs.Verdicts.{IsPayloadError, whole};
+ghost use Rattle.amqp_stream.specs.Buffers.{Adds, AddsAt};
+
+use amqp_frame::{AMQPRawFrame, put_canonical};
+use amqp_types::{NoMemory, ParserError, put_bytes};
+use std::alloc::Global;
+use std::marker::Model;
+
+/// Puts bytes after the first `len` of a buffer, and returns the place after them.
+fn put_after(buf: &mut [u8], len: usize, bytes: &[u8]) -> usize
+    requires { len + length bytes.now ≤ length buf.old }
+    ensures front { take result buf.new ≡ take len buf.old ++ bytes.now }
+    ensures place { result ≡ len + length bytes.now }
+{
+    put_bytes(buf, len, bytes)
+}
+
+/// Puts the canonical bytes of a borrowed frame after the first `len` bytes of a buffer, and returns
+/// the place after them.
+fn put_raw_after(
+    alloc: Global,
+    buf: &mut [u8],
+    len: usize,
+    raw: AMQPRawFrame<'_>,
+) -> Result<usize, ParserError>
+    requires few { length raw.payload.now < 2 ^ 32 }
+    requires room { len + length raw.payload.now + 8 ≤ length buf.old }
+    ensures adds { AddsAt buf.old buf.new len (whole (raw_of raw.entry)) result }
+    ensures place { IfOk result (λ end. end ≤ len + length raw.entry.payload.now + 8) }
+    ensures inside { IfErr result IsPayloadError }
+{
+    put_canonical(alloc, buf, len, raw)
+}
+
+/// Bytes that are not written yet, in a buffer that is reserved in full.
+#[derive(Drop)]
+pub struct OutputBuffer {
+    buf: Vec<u8>,
+    len: usize,
+}
+
+impl Model for OutputBuffer {
+    ghost use Rattle.std.specs.Prelude.{◌≤◌, take, vec_len};
+    ghost use Rattle.amqp_stream.specs.Buffers.{Buffered};
+
+    ghost Value = { Buffered };
+
+    ghost view = { λ out. record { room = vec_len out.buf; bytes = take out.len out.buf.items } };
+
+    ghost invariant = { λ out. out.len ≤ vec_len out.buf };
+}
+
+impl OutputBuffer {
+    /// An empty buffer of this size in bytes.
+    pub fn open(alloc: Global, room: usize) -> Result<OutputBuffer, NoMemory>
+        ensures { IfOk result (λ out. out ≡ record { room = room; bytes = [] }) }
+    {
+        let buf = vec![in alloc; 0u8; room]?;
+        Ok(OutputBuffer { buf, len: 0 })
+    }
+
+    /// The pending bytes.
+    pub fn bytes(&self) -> &[u8]
+        ensures { result.now ≡ self.now.bytes }
+    {
+        &self.buf[..self.len]
+    }
+
+    /// How many more bytes fit.
+    pub fn room(&self) -> usize
+        ensures { length self.now.bytes + result ≡ self.now.room }
+    {
+        self.buf.len() - self.len
+    }
+
+    /// Drops the pending bytes.
+    pub fn clear(&mut self)
+        ensures { self.new ≡ record { room = self.old.room; bytes = [] } }
+    {
+        self.len = 0;
+    }
+
+    /// Puts bytes after the pending ones.
+    #[inline]
+    pub fn push(&mut self, bytes: &[u8])
+        requires { length self.old.bytes + length bytes.now ≤ self.old.room }
+        ensures room { self.new.room ≡ self.old.room }
+        ensures pushed { self.new.bytes ≡ self.old.bytes ++ bytes.now }
+    {
+        self.len = put_after(&mut self.buf, self.len, bytes);
+    }
+
+    /// Puts the canonical bytes of a borrowed frame after the pending ones.
+    pub fn push_raw(&mut self, alloc: Global, raw: AMQPRawFrame<'_>) -> Result<(), ParserError>
+        requires few { length raw.payload.now < 2 ^ 32 }
+        requires enough { length self.old.bytes + (length raw.payload.now + 8) ≤ self.old.room }
+        ensures room { self.new.room ≡ self.old.room }
+        ensures adds { Adds self.old.bytes self.new.bytes (whole (raw_of raw.entry)) result }
+        ensures compact { length self.new.bytes ≤ length self.old.bytes + (length raw.entry.payload.now + 8) }
+        ensures inside { IfErr result IsPayloadError }
+    {
+        self.len = put_raw_after(alloc, &mut self.buf, self.len, raw)?;
+        Ok(())
+    }
+}
