@@ -5,6 +5,7 @@ pub mod Payloads
 pub mod Typed
 pub mod Spelled
 pub mod Made
+pub mod Outlined
 pub mod Rows
 pub mod Strictness
 pub mod ReadingBack

@@ -9,6 +9,7 @@ mod generation;
 mod laws;
 mod lent_entries;
 mod looking;
+mod outline;
 mod parsing;
 mod raw_frame;
 mod reordered;
@@ -33,6 +34,7 @@ pub use laws::{
     outer_look_is_its_parts, verdicts_are_spellings, verdicts_are_stable, written_again,
 };
 pub use looking::{FrameLayout, Look, look_at};
+pub use outline::{FrameOutline, outline_raw};
 pub use parsing::{
     parse_channel, parse_frame, parse_frame_type, parse_payload, parse_protocol_header,
     parse_raw_frame,

@@ -13,6 +13,8 @@ mod heartbeats;
 #[cfg(test)]
 mod methods;
 #[cfg(test)]
+mod outlines;
+#[cfg(test)]
 mod parts;
 #[cfg(test)]
 mod reading;
