@@ -1,24 +1,22 @@
 -- Tests of slots, payloads and frames tell what is tidy.
-use Rattle.std.proofs.Common.{◌≡◌, ◌≢◌, ◌↔◌, ℕ, ◌+◌, ◌*◌, ◌/◌, ◌%◌, ◌^◌, ◌<◌, ◌≤◌, ◌==◌, ◌&&◌, Bool, true, false, cond, eqb, ltb, List, [], ◌∷◌, ◌++◌, length, get_or, take, drop, map, Option, Some, None, Result, Ok, Err, bit_and, refl, sym, ap, ap₂, subst, ◌∙◌, append_assoc, append-nil, arith, inl, inr}
-use Rattle.std.specs.Prelude.{IsOk, not, nat_eq, nat_lt}
-use Rattle.std.specs.Int.{w16, from_be_bytes, bit_at}
+use Rattle.std.proofs.Common.{◌≡◌, ◌≢◌, ◌↔◌, ℕ, ◌+◌, ◌*◌, ◌/◌, ◌%◌, ◌^◌, ◌<◌, ◌≤◌, ◌&&◌, Bool, true, false, cond, eqb, ltb, List, [], ◌∷◌, ◌++◌, length, get_or, drop, map, Option, Some, None, Result, Ok, Err, bit_and, refl, sym, ap, ap₂, subst, ◌∙◌, append-nil, arith, inl, inr}
+use Rattle.std.specs.Prelude.{IsOk, not, nat_eq}
+use Rattle.std.specs.Int.{bit_at}
 use Rattle.std.specs.List.{starts_with}
-use Rattle.std.proofs.lemmas.Bool.{cases_Bool, cases_eq, cases_lt, eq-eqb, ne_eqb, eqb-true, lt-ltb, le-ltb, ltb-false, ltb-true, and_from, and_parts}
-use Rattle.std.proofs.lemmas.List.{length-append, take_at, drop_at, take_rest}
+use Rattle.std.proofs.lemmas.Bool.{cases_Bool, cases_eq, cases_lt, eq-eqb, ne_eqb, lt-ltb, le-ltb}
 use Rattle.std.proofs.lemmas.Nat.{and_mask, pow_pos, shr_split, mod_below}
-use Rattle.std.proofs.lemmas.Nat.Bits.{bit_at-lt}
 use Rattle.std.proofs.Math.Nat.{div-eq_of_lt}
 use Rattle.std.proofs.Math.Pow.{pow_mono}
-use Rattle.amqp_types.specs.Levels.{Level, plain, tidy, strict}
+use Rattle.amqp_types.specs.Levels.{plain, tidy}
 use Rattle.amqp_types.specs.Judging.{Judged, Judge, Fault, took, past, fault, ◌>>=◌, IsBytes}
 use Rattle.amqp_types.specs.Answers.{AnswersFully}
 use Rattle.amqp_types.specs.ValueJudging.{read_map, filled, whole, judge_entry, judge_table, judge_value, judge_field_table}
 use Rattle.amqp_types.specs.Settling.{settled}
 use Rattle.amqp_types.specs.Strings.{judge_short_string, judge_long_string}
 use Rattle.amqp_types.specs.Values.{Entry}
-use Rattle.amqp_types.specs.Numbers.{NumberWidth, bytes1, bytes2, bytes4, bytes8, byte_count, number_bytes, judge_number}
+use Rattle.amqp_types.specs.Numbers.{NumberWidth, bytes1, bytes2, bytes8, byte_count, number_bytes, judge_number}
 use Rattle.amqp_types.specs.Flags.{flag_at, flags_from, judge_flags}
-use Rattle.amqp_types.specs.Slots.{Item, number_item, flag_item, text_item, bytes_item, entries_item, Form, number_form, flags_form, short_string_form, long_string_form, table_form, Slot, kept_slot, reserved_slot}
+use Rattle.amqp_types.specs.Slots.{number_item, flag_item, text_item, bytes_item, entries_item, number_form, flags_form, short_string_form, long_string_form, table_form, Slot, kept_slot, reserved_slot}
 use Rattle.amqp_types.specs.SlotJudging.{judge_form, judge_dropped, judge_slot, judge_slots}
 use Rattle.amqp_types.specs.SlotBytes.{form_bytes}
 use Rattle.amqp_types.specs.Rows.{slots_at}
@@ -39,7 +37,7 @@ use Rattle.amqp_frame.specs.StrictSpans.{form_in, form_of}
 use Rattle.amqp_frame.specs.Spelling.{framed, proto, byte_of, bytes_as, IsFramed, Spells}
 use Rattle.amqp_frame.specs.Verdicts.{IsTaken, all_of, whole_as, is_tidy_as, is_at, judged, judged_frame, verdict}
 use Rattle.amqp_frame.proofs.Made.{spells_as, judged_frame-is}
-use Rattle.amqp_frame.proofs.Outlined.{HasIds, ids_spelled, HasFront, header_front}
+use Rattle.amqp_frame.proofs.Outlined.{ids_spelled, header_front}
 use Rattle.amqp_frame.proofs.Spelled.{raw_as, outer-method, outer-header, outer-body, outer-beat, verdict-spelled}
 use Rattle.amqp_frame.proofs.Typed.{method_spells, header_spells}
 

@@ -1,4 +1,4 @@
-use Rattle.std.proofs.Common.{ℕ, Bool, eqb, ◌&&◌, get_or, bit_and, sym, ap, ap₂, ◌∙◌, arith}
+use Rattle.std.proofs.Common.{eqb, ◌&&◌, get_or, bit_and, sym, ap, ap₂, ◌∙◌, arith}
 use Rattle.std.proofs.lemmas.Bool.{eq-eqb, eqb-true, ne_eqb}
 use Rattle.amqp_frame.proofs.Tidied.{mask_there}
 use Rattle.amqp_frame.proofs.tidiness.is_tidy_content_header.Goals as goal

@@ -1,4 +1,4 @@
-use Rattle.std.proofs.Common.{List, ℕ, refl, subst, Bool, ◌≡◌}
+use Rattle.std.proofs.Common.{subst}
 use Rattle.std.specs.Prelude.{IsOk}
 use Rattle.amqp_types.specs.Methods.{judge_payload}
 use Rattle.amqp_types.specs.ContentHeaders.{judge_content_header}

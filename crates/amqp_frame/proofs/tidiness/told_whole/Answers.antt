@@ -1,4 +1,4 @@
-use Rattle.std.proofs.Common.{◌≡◌, true, sym, ◌∙◌, arith}
+use Rattle.std.proofs.Common.{sym, ◌∙◌, arith}
 use Rattle.amqp_frame.proofs.Tidied.{frame_told}
 use Rattle.amqp_frame.proofs.tidiness.told_whole.Goals as goal
 
