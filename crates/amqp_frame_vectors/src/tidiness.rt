@@ -1,9 +1,7 @@
 //! Which whole payloads are tidy.
 
-use amqp_frame::{
-    AMQPFrameType::{self, Body, Header, Heartbeat, Method, ProtocolHeader},
-    AMQPRawFrame, is_tidy, parse_payload, release,
-};
+use amqp_frame::AMQPFrameType::{self, Body, Header, Heartbeat, Method, ProtocolHeader};
+use amqp_frame::{AMQPRawFrame, is_tidy, parse_payload, release};
 use amqp_vectors::asking::same;
 use std::alloc::Global;
 use std::test::Fail;
@@ -24,26 +22,10 @@ const FRAMES: [Row; 9] = [
         true,
     ),
     // A weight, and both unused bits of the mask; then each by itself.
-    (
-        Header,
-        &[0, 60, 0, 7, 0, 0, 0, 0, 0, 0, 0, 5, 0, 3],
-        false,
-    ),
-    (
-        Header,
-        &[0, 60, 1, 0, 0, 0, 0, 0, 0, 0, 0, 5, 0, 0],
-        false,
-    ),
-    (
-        Header,
-        &[0, 60, 0, 0, 0, 0, 0, 0, 0, 0, 0, 5, 0, 1],
-        false,
-    ),
-    (
-        Header,
-        &[0, 60, 0, 0, 0, 0, 0, 0, 0, 0, 0, 5, 0, 2],
-        false,
-    ),
+    (Header, &[0, 60, 0, 7, 0, 0, 0, 0, 0, 0, 0, 5, 0, 3], false),
+    (Header, &[0, 60, 1, 0, 0, 0, 0, 0, 0, 0, 0, 5, 0, 0], false),
+    (Header, &[0, 60, 0, 0, 0, 0, 0, 0, 0, 0, 0, 5, 0, 1], false),
+    (Header, &[0, 60, 0, 0, 0, 0, 0, 0, 0, 0, 0, 5, 0, 2], false),
 ];
 
 /// Methods, with reserved slots of each form.
