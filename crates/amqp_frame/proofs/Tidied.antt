@@ -59,13 +59,13 @@ never_refused view errors.TooDeep j h t = subst IsTaken h t
 never_refused view errors.NoMemory j h t = h
 
 -- what goes on from something was taken only where that was
-pub taken_first : {A B : Type 0} (j : Judged A) (f : A × ℕ → Judged B) → IsTaken (j >>= f) → IsTaken j
+taken_first : {A B : Type 0} (j : Judged A) (f : A × ℕ → Judged B) → IsTaken (j >>= f) → IsTaken j
 taken_first (took x n) f t = tt
 taken_first past f t = t
 taken_first (fault bad) f t = t
 
 -- what is made of something takes as many bytes
-pub used_made : {A B : Type 0} (make : A → B) (j : Judged A) → used_by (j >>= λ x. took (make x.0) x.1) ≡ used_by j
+used_made : {A B : Type 0} (make : A → B) (j : Judged A) → used_by (j >>= λ x. took (make x.0) x.1) ≡ used_by j
 used_made make (took x n) = refl
 used_made make past = refl
 used_made make (fault bad) = refl
@@ -73,7 +73,7 @@ used_made make (fault bad) = refl
 -- ---- slots
 
 -- a number takes its width, where that is there
-pub width_taken : (width : NumberWidth) (bytes : List ℕ) → IsTaken (judge_number width bytes) → (ltb (length bytes) (byte_count width) ≡ false) × (used_by (judge_number width bytes) ≡ byte_count width)
+width_taken : (width : NumberWidth) (bytes : List ℕ) → IsTaken (judge_number width bytes) → (ltb (length bytes) (byte_count width) ≡ false) × (used_by (judge_number width bytes) ≡ byte_count width)
 width_taken width bytes t = elim (cases_Bool (ltb (length bytes) (byte_count width))) [
   | inl short ↦ absurd (rw short at t)
   | inr long ↦ (long, rw long refl)
@@ -189,7 +189,7 @@ begins_is [] (want ∷ wanted) = refl
 begins_is (byte ∷ bytes) (want ∷ wanted) = ap₂ (λ a b. a && b) (eqb-sym want byte) (begins_is bytes wanted)
 
 -- no bit above the flags
-pub spare_zero : (byte count : ℕ) → eqb (byte / 2 ^ count) 0 ≡ ltb byte (2 ^ count)
+spare_zero : (byte count : ℕ) → eqb (byte / 2 ^ count) 0 ≡ ltb byte (2 ^ count)
 spare_zero byte count = elim (cases_lt byte (2 ^ count)) [
   | inl low ↦ eq-eqb (byte / 2 ^ count) 0 (div-eq_of_lt low) ∙ sym (lt-ltb byte (2 ^ count) low)
   | inr high ↦ ne_eqb (byte / 2 ^ count) 0 (λ none. absurd (
@@ -210,7 +210,7 @@ spare_none (byte ∷ bytes) count fits many = sym (lt-ltb byte (2 ^ count) (let 
 
 -- ---- whole payloads
 
-pub ok_is : {A : Type 0} (read : Result A Fault) → IsOk read → (x : A) × (read ≡ Ok x)
+ok_is : {A : Type 0} (read : Result A Fault) → IsOk read → (x : A) × (read ≡ Ok x)
 ok_is (Ok x) h = (x, refl)
 ok_is (Err bad) h = absurd cc
 
