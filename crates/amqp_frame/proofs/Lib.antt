@@ -5,6 +5,8 @@ pub mod Payloads
 pub mod Typed
 pub mod Spelled
 pub mod Made
+pub mod Outlined
+pub mod Tidied
 pub mod Rows
 pub mod Strictness
 pub mod ReadingBack

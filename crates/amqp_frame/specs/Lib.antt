@@ -6,6 +6,7 @@ pub mod Looks
 pub mod Verdicts
 pub mod Spelling
 pub mod Canonical
+pub mod Outlines
 pub mod Fronts
 pub mod Laws
 pub mod Shapes

@@ -9,6 +9,7 @@ mod generation;
 mod laws;
 mod lent_entries;
 mod looking;
+mod outline;
 mod parsing;
 mod raw_frame;
 mod reordered;
@@ -17,6 +18,7 @@ mod rewriting;
 mod shapes;
 mod strict;
 mod strict_tables;
+mod tidiness;
 mod version;
 
 pub use amqp_types::{GenError, ParserError};
@@ -33,10 +35,12 @@ pub use laws::{
     outer_look_is_its_parts, verdicts_are_spellings, verdicts_are_stable, written_again,
 };
 pub use looking::{FrameLayout, Look, look_at};
+pub use outline::{FrameOutline, outline_raw};
 pub use parsing::{
     parse_channel, parse_frame, parse_frame_type, parse_payload, parse_protocol_header,
     parse_raw_frame,
 };
 pub use raw_frame::AMQPRawFrame;
 pub use rewriting::put_canonical;
+pub use tidiness::is_tidy;
 pub use version::ProtocolVersion;

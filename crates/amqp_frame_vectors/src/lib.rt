@@ -13,6 +13,8 @@ mod heartbeats;
 #[cfg(test)]
 mod methods;
 #[cfg(test)]
+mod outlines;
+#[cfg(test)]
 mod parts;
 #[cfg(test)]
 mod reading;
@@ -22,3 +24,5 @@ mod refused;
 mod rewriting;
 #[cfg(test)]
 mod texts;
+#[cfg(test)]
+mod tidiness;
