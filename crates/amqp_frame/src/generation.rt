@@ -113,6 +113,19 @@ fn put_header(
     put_bytes(buf, at, &[206])
 }
 
+/// Puts an array at a place of a slice, and returns the place after it. The length is a constant, so
+/// that small arrays are stored and not copied by a call.
+#[inline(always)]
+#[tactic(auto, unfolding(amqp_types::specs::Writing::written))]
+fn put_array<const N: usize>(buf: &mut [u8], at: usize, bytes: [u8; N]) -> usize
+    requires { at + length bytes ≤ length buf.old }
+    ensures { Puts buf.old buf.new at bytes.entry result }
+{
+    let end = at + N;
+    buf[at..end].copy_from_slice(&bytes);
+    end
+}
+
 /// Puts a frame of this type around a payload.
 pub(crate) fn put_framed(
     buf: &mut [u8],
@@ -125,13 +138,10 @@ pub(crate) fn put_framed(
     requires room { at + length (framed frame_type channel_id payload.now) ≤ length buf.old }
     ensures { Puts buf.old buf.new at (framed frame_type channel_id payload.now) result }
 {
-    let at = put_bytes(
-        buf,
-        at,
-        &frame_head(frame_type, channel_id, payload.len() as u32),
-    );
+    let head = frame_head(frame_type, channel_id, payload.len() as u32);
+    let at = put_array(buf, at, head);
     let at = put_bytes(buf, at, payload);
-    put_bytes(buf, at, &[206])
+    put_array(buf, at, [206])
 }
 
 /// Puts the canonical bytes, which are this many, at a place of a slice.

@@ -143,7 +143,7 @@ fn is_tidy_content_header(payload: &[u8]) -> bool
 
 /// Whether a whole frame is tidy, by its type.
 #[tactic(auto, unfolding(crate::specs::Verdicts::is_tidy_as))]
-fn told(raw: AMQPRawFrame<'_>) -> bool
+fn is_tidy_by_type(raw: AMQPRawFrame<'_>) -> bool
     requires { IsOk (whole (raw_of raw)) }
     ensures { result ≡ is_at tidy (raw_of raw.entry) }
 {
@@ -157,13 +157,13 @@ fn told(raw: AMQPRawFrame<'_>) -> bool
 }
 
 /// The same, with what it says of the bytes of the frame.
-fn told_whole(frame_type: AMQPFrameType, channel_id: ChannelId, payload: &[u8]) -> bool
+fn is_tidy_whole(frame_type: AMQPFrameType, channel_id: ChannelId, payload: &[u8]) -> bool
     requires whole { IsOk (whole_as frame_type channel_id payload.now) }
     requires few { length payload.now < 2 ^ 32 }
     ensures value { result ≡ is_tidy_as frame_type payload.now }
     ensures spelled { (frame : Frame) → whole_as frame_type channel_id payload.now ≡ Ok frame → IsTrue result ↔ Spells tidy (bytes_as frame_type channel_id payload.now) frame }
 {
-    told(AMQPRawFrame {
+    is_tidy_by_type(AMQPRawFrame {
         frame_type,
         channel_id,
         payload,
@@ -178,5 +178,5 @@ pub fn is_tidy(raw: AMQPRawFrame<'_>) -> bool
     ensures value { result ≡ is_at tidy (raw_of raw.entry) }
     ensures spelled { (frame : Frame) → whole (raw_of raw.entry) ≡ Ok frame → IsTrue result ↔ Spells tidy (raw_bytes (raw_of raw.entry)) frame }
 {
-    told_whole(raw.frame_type, raw.channel_id, raw.payload)
+    is_tidy_whole(raw.frame_type, raw.channel_id, raw.payload)
 }

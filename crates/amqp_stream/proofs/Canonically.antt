@@ -15,11 +15,11 @@ use Rattle.amqp_stream.specs.declared.errors.StreamError.TheVariants as errors
 use Rattle.amqp_stream.specs.declared.errors.RunError.{RunError}
 use Rattle.amqp_stream.specs.Errors.{error_of, Cause, faulty, cut_short, turns_spent, read_failed, write_failed, out_of_memory, cause_of}
 use Rattle.amqp_stream.specs.Ends.{Supply, Store}
-use Rattle.amqp_stream.specs.Writing.{IsPrefix, WritesFrame, IsUnwritten}
+use Rattle.amqp_stream.specs.Writing.{IsPrefix, WritesFrame, IsUnwritten, PutsTyped, IsUnread, IsFaulty}
 use Rattle.amqp_stream.specs.Canonicalizing.{canon_of, answer_to, IsCausedBy, AtTypedFrame, HasCause, IsWrittenUpTo, HasWritten, Canonicalizes, NeverBegan, IsExactly, UnlessStopped, IsAnswerTo, AnswersExactly, IsOkOrNoMemory}
 use Rattle.amqp_stream.specs.Steps.{Manner, text, refused, state}
 use Rattle.amqp_stream.specs.Manners.{is_typed, canonical_at}
-use Rattle.amqp_stream.specs.Streaming.{Ending, finished, refused_by, stopped_by, ending_of, as_run, IsStep, IsFaulty, WritesBy, text_of, refused_of, AtWanting, HasCauseBy, HasWrittenBy, Streams, RunNeverBegan, answer_at_end, answer_of, answer_by, IsExact, UnlessStoppedBy, StreamsExactly, IsWelcome, IsDoneOrWanting}
+use Rattle.amqp_stream.specs.Streaming.{Ending, finished, refused_by, stopped_by, ending_of, as_run, IsStep, WritesBy, text_of, refused_of, AtWanting, HasCauseBy, HasWrittenBy, Streams, RunNeverBegan, answer_at_end, answer_of, answer_by, IsExact, UnlessStoppedBy, StreamsExactly, IsWelcome, IsDoneOrWanting}
 
 -- ---- what this manner writes, and that it refuses nothing
 

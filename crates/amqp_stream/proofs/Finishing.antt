@@ -20,10 +20,10 @@ use Rattle.amqp_stream.specs.declared.source.SourceFault.{SourceFault}
 use Rattle.amqp_stream.specs.Errors.{stream_error, read_fault, Cause, faulty, cut_short, turns_spent, read_failed, write_failed, out_of_memory, cause_of}
 use Rattle.amqp_stream.specs.Ends.{Supply, Store, Gains, Rises, IsEmpty}
 use Rattle.amqp_stream.specs.Reading.{ReadsMore}
-use Rattle.amqp_stream.specs.Writing.{IsPrefix, Keeps, WritesAll, GatherFails}
-use Rattle.amqp_stream.specs.Canonicalizing.{place_verdict, IsRow, AsksTidy}
+use Rattle.amqp_stream.specs.Writing.{IsPrefix, Keeps, WritesAll, GatherFails, IsFaulty, AsksTidy}
+use Rattle.amqp_stream.specs.Canonicalizing.{place_verdict, IsRow}
 use Rattle.amqp_stream.specs.Steps.{Manner, text, refused, state}
-use Rattle.amqp_stream.specs.Streaming.{Ending, finished, refused_by, stopped_by, error_ending, ending_of, IsRefused, IsFaulty, WriteFails, WritesBy, end_with, ended, EndsWith, text_of, refused_of, state_of, AtWanting, IsShortBy, HasCauseBy, IsAllWritten, HasWrittenBy, HasStateBy, Streams}
+use Rattle.amqp_stream.specs.Streaming.{Ending, finished, refused_by, stopped_by, error_ending, ending_of, IsRefused, WriteFails, WritesBy, end_with, ended, EndsWith, text_of, refused_of, state_of, AtWanting, IsShortBy, HasCauseBy, IsAllWritten, HasWrittenBy, HasStateBy, Streams}
 use Rattle.amqp_stream.proofs.Adding.{Gains-none, Gains-then, Rises-later}
 use Rattle.amqp_stream.proofs.Passing.{Passes-one, Passes-all, refuses_here}
 use Rattle.amqp_stream.proofs.Going.{Start, Spans, Spans-then, Spans-one, Clear, Going, Clear-flushed, Clear-read, Going-kept}

@@ -7,6 +7,7 @@ pub mod Going
 pub mod Finishing
 pub mod Exactly
 pub mod Canonically
+pub mod Tidying
 pub mod Putting
 pub mod Flushes
 pub mod MadeSizes

@@ -115,7 +115,7 @@ unfolding canon
 wrote-proto raw a before after bytes k e is h = added raw a before after (Proto (get_or raw.payload 0 0) (get_or raw.payload 1 0) (get_or raw.payload 2 0)) (rw k (whole-proto raw.payload raw.channel e)) (h ∙ ap (λ (xs : List ℕ). before ++ xs) is)
 
 -- nothing was gathered
-kept : (a : Store) (before after : List ℕ) → after ≡ before → Keeps a a before after
+pub kept : (a : Store) (before after : List ℕ) → after ≡ before → Keeps a a before after
 kept a before after e = record { written = []; gains = Gains-none a; parts = e ∙ sym (append-nil before) }
 
 -- a method or content header that was not read

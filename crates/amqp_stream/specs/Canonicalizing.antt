@@ -1,6 +1,6 @@
 -- What canonicalizing a stream does: which bytes are taken, which are written, and why it ends.
 use Rattle.std.specs.Prelude.{◌≡◌, ℕ, ◌+◌, ◌<◌, ◌≤◌, List, [], ◌∷◌, ◌++◌, length, Some, Result, Ok, Err}
-use Rattle.amqp_types.specs.Levels.{Level, plain, tidy, strict}
+use Rattle.amqp_types.specs.Levels.{Level}
 use Rattle.amqp_types.specs.Judging.{Judged, past, fault, took, IsBytes}
 use Rattle.amqp_frame.specs.Frames.{Frame, IsTyped}
 use Rattle.amqp_frame.specs.Outer.{BeginsWith}
@@ -12,7 +12,7 @@ use Rattle.amqp_stream.specs.declared.errors.StreamError.{StreamError}
 use Rattle.amqp_stream.specs.declared.errors.StreamError.TheVariants as errors
 use Rattle.amqp_stream.specs.Errors.{error_of, Cause, faulty, cut_short, turns_spent, read_failed, write_failed, out_of_memory, cause_of}
 use Rattle.amqp_stream.specs.Ends.{Supply, Store, Takes, Gains, Rises, IsEmpty, last}
-use Rattle.amqp_stream.specs.Writing.{IsPrefix}
+use Rattle.amqp_stream.specs.Writing.{IsPrefix, AsksTidy}
 
 -- the canonical bytes of the row at the front of some bytes
 abbrev pub canon_of : Level → ℕ → List ℕ → List ℕ
@@ -43,12 +43,6 @@ pub record IsBehindBy (level : Level) (m : ℕ) (taken written : List ℕ) (n : 
   pub is_row : IsRow level m row
   pub written_begins : IsPrefix (canon_of level m row) written
   pub few : length rest ≤ n
-
--- only a reader that asks for tidy bytes refuses others
-abbrev pub AsksTidy : Level → Type 0
-AsksTidy plain = ⊥
-AsksTidy tidy = Unit {0}
-AsksTidy strict = Unit {0}
 
 -- When a stream ends early by each cause: by the bytes taken, the read budget, what the source has left, and the counts of faults.
 -- A fault of bytes comes exactly where the place of the bytes taken has it, a failed read only where that place is empty or undecided.

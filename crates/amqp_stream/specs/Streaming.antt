@@ -2,10 +2,10 @@
 use Rattle.std.specs.Prelude.{◌≡◌, ◌⊎◌, ℕ, ◌+◌, ◌≤◌, Bool, true, List, [], ◌∷◌, ◌++◌, length, Option, Some, None, Result, Ok, Err, IsTrue}
 use Rattle.std.specs.List.{flat_map}
 use Rattle.amqp_types.specs.Levels.{Level}
-use Rattle.amqp_types.specs.Judging.{Fault, not_tidy, fault, took, IsBytes}
+use Rattle.amqp_types.specs.Judging.{not_tidy, IsBytes}
 use Rattle.amqp_frame.specs.Frames.{Raw, Frame}
 use Rattle.amqp_frame.specs.Outer.{BeginsWith}
-use Rattle.amqp_frame.specs.Verdicts.{whole, is_at, judged}
+use Rattle.amqp_frame.specs.Verdicts.{whole, is_at}
 use Rattle.amqp_frame.specs.Fronts.{front}
 use Rattle.amqp_stream.specs.declared.errors.StreamError.{StreamError}
 use Rattle.amqp_stream.specs.declared.errors.StreamError.TheVariants as errors
@@ -14,8 +14,8 @@ use Rattle.amqp_stream.specs.declared.errors.RunError.TheVariants as ends
 use Rattle.amqp_stream.specs.declared.sink.SinkFault.{SinkFault}
 use Rattle.amqp_stream.specs.Errors.{Cause, faulty, cut_short, turns_spent, read_failed, write_failed, out_of_memory, cause_of}
 use Rattle.amqp_stream.specs.Ends.{Supply, Store, Takes, Gains, Rises, IsEmpty}
-use Rattle.amqp_stream.specs.Writing.{IsPrefix, WritesAll, Gathered, GatherFails, Keeps}
-use Rattle.amqp_stream.specs.Canonicalizing.{answer_to, IsRow, AsksTidy, IsCausedBy, UnlessStopped, IsOutOfMemory}
+use Rattle.amqp_stream.specs.Writing.{IsPrefix, WritesAll, Gathered, GatherFails, Keeps, IsFaulty, AsksTidy}
+use Rattle.amqp_stream.specs.Canonicalizing.{answer_to, IsRow, IsCausedBy, UnlessStopped, IsOutOfMemory}
 use Rattle.amqp_stream.specs.Steps.{Manner, text, refused, state}
 
 -- ---- how a run ends
@@ -54,11 +54,6 @@ pub record IsRefused {S E : Type 0} (w : Manner S E) (s : S) (raw : Raw) (why : 
   pub is_whole : whole raw ≡ Ok frame
   pub at_level : is_at w.level raw ≡ true
   pub refuses : w.step s frame ≡ Err why
-
--- a frame that is none at this level
-pub record IsFaulty (level : Level) (raw : Raw) (bad : Fault) : Type 0 where
-  pub judged_bad : (used : ℕ) → judged level (took raw used) ≡ fault bad
-  pub tidy_only : bad ≡ not_tidy → AsksTidy level
 
 -- what is written for a frame was gathered
 pub record Writes {S E : Type 0} (w : Manner S E) (s t : S) (raw : Raw) (old new : Store) (before after : List ℕ) : Type 0 where

@@ -1,12 +1,13 @@
 -- What calls write, and what is pending after them.
-use Rattle.std.specs.Prelude.{◌≡◌, ◌≢◌, ℕ, ◌+◌, List, [], ◌++◌, length, Result, Ok, Err, OnOk, OnErr}
-use Rattle.amqp_types.specs.Judging.{not_tidy}
+use Rattle.std.specs.Prelude.{◌≡◌, ◌≢◌, ℕ, ◌+◌, true, List, [], ◌++◌, length, Result, Ok, Err, OnOk, OnErr}
+use Rattle.amqp_types.specs.Levels.{Level, plain, tidy, strict}
+use Rattle.amqp_types.specs.Judging.{Fault, not_tidy, fault, took}
 use Rattle.amqp_types.specs.declared.errors.ParserError.{ParserError}
 use Rattle.amqp_types.specs.declared.errors.ParserError.TheVariants as parser_errors
 use Rattle.amqp_frame.specs.declared.frame_type.AMQPFrameType.{AMQPFrameType}
 use Rattle.amqp_frame.specs.declared.frame_type.AMQPFrameType.TheVariants as kinds
 use Rattle.amqp_frame.specs.Frames.{Raw, Frame, IsTyped}
-use Rattle.amqp_frame.specs.Verdicts.{whole}
+use Rattle.amqp_frame.specs.Verdicts.{whole, is_at, judged}
 use Rattle.amqp_frame.specs.Canonical.{canon}
 use Rattle.amqp_stream.specs.declared.errors.StreamError.{StreamError}
 use Rattle.amqp_stream.specs.declared.errors.StreamError.TheVariants as errors
@@ -79,6 +80,17 @@ length_around kinds.Heartbeat n = n + 8
 abbrev pub frame_length : Raw → ℕ
 frame_length raw = length_around raw.kind (length raw.payload)
 
+-- only a reader that asks for tidy bytes refuses others
+abbrev pub AsksTidy : Level → Type 0
+AsksTidy plain = ⊥
+AsksTidy tidy = Unit {0}
+AsksTidy strict = Unit {0}
+
+-- a frame that is none at this level
+pub record IsFaulty (level : Level) (raw : Raw) (bad : Fault) : Type 0 where
+  pub judged_bad : (used : ℕ) → judged level (took raw used) ≡ fault bad
+  pub tidy_only : bad ≡ not_tidy → AsksTidy level
+
 -- why the canonical bytes of a frame were not written
 abbrev pub IsUnwritten : Raw → Store → Store → List ℕ → List ℕ → Cause → Type 0
 IsUnwritten raw old new before after (faulty bad) = (whole raw ≡ Err bad) × (bad ≢ not_tidy) × Keeps old new before after
@@ -90,3 +102,14 @@ IsUnwritten raw old new before after cause = ⊥
 abbrev pub WritesFrame : Raw → Store → Store → List ℕ → List ℕ → Result (Unit {0}) StreamError → Type 0
 WritesFrame raw old new before after (Ok done) = (frame : Frame) × (whole raw ≡ Ok frame) × Gathered old new before after (canon frame)
 WritesFrame raw old new before after (Err error) = IsUnwritten raw old new before after (cause_of error)
+
+-- Why no method or content header was put at a level: a fault, or memory ran out. Nothing more is pending.
+abbrev pub IsUnread : Level → Raw → Store → Store → List ℕ → List ℕ → Cause → Type 0
+IsUnread level raw old new before after (faulty bad) = IsFaulty level raw bad × Keeps old new before after
+IsUnread level raw old new before after out_of_memory = IsTyped raw.kind × Keeps old new before after
+IsUnread level raw old new before after cause = ⊥
+
+-- the canonical bytes of a method or content header at a level were put after the pending ones, or it is reported why not
+abbrev pub PutsTyped : Level → Raw → Store → Store → List ℕ → List ℕ → Result (Unit {0}) StreamError → Type 0
+PutsTyped level raw old new before after (Ok done) = (frame : Frame) × (whole raw ≡ Ok frame) × (is_at level raw ≡ true) × Gathered old new before after (canon frame)
+PutsTyped level raw old new before after (Err error) = IsUnread level raw old new before after (cause_of error)

@@ -5,10 +5,10 @@ ghost use Rattle.amqp_stream.specs.Streaming.{as_run};
 
 use crate::errors::{RunError, StreamError};
 use crate::frame_writer::FrameWriter;
-use crate::output::write_canonical;
+use crate::output::{push_tidy, write_canonical};
 use crate::output_buffer::OutputBuffer;
 use crate::sink::Sink;
-use amqp_frame::AMQPRawFrame;
+use amqp_frame::{AMQPFrameType, AMQPRawFrame};
 use std::alloc::Global;
 use std::convert::Infallible;
 
@@ -54,6 +54,42 @@ impl FrameWriter for Canonical {
         raw: AMQPRawFrame<'_>,
     ) -> Result<(), RunError<Infallible>> {
         as_run(write_canonical(self.alloc, out, sink, raw))
+    }
+
+    fn finish(&self) -> Result<(), Infallible> {
+        Ok(())
+    }
+}
+
+/// Writes the canonical bytes of each frame, and takes tidy frames alone.
+#[derive(Drop)]
+pub struct TidyCanonical {
+    pub alloc: Global,
+}
+
+impl FrameWriter for TidyCanonical {
+    ghost use Rattle.amqp_types.specs.Levels.{tidy};
+    ghost use Rattle.amqp_stream.specs.Manners.{canonical_at};
+
+    type Refusal = Infallible;
+
+    ghost manner = { canonical_at tidy };
+
+    fn write_frame<K: Sink>(
+        &mut self,
+        out: &mut OutputBuffer,
+        sink: &mut K,
+        raw: AMQPRawFrame<'_>,
+    ) -> Result<(), RunError<Infallible>> {
+        match raw.frame_type {
+            AMQPFrameType::Method | AMQPFrameType::Header => {
+                as_run(push_tidy(self.alloc, out, raw))
+            }
+            AMQPFrameType::Heartbeat if !raw.payload.is_empty() => {
+                Err(RunError::Stream(StreamError::NotTidy))
+            }
+            _ => as_run(write_canonical(self.alloc, out, sink, raw)),
+        }
     }
 
     fn finish(&self) -> Result<(), Infallible> {

@@ -1,11 +1,11 @@
 //! A reader and an output buffer, reserved in full, and what runs over them.
 
-ghost use Rattle.std.specs.Prelude.{◌≡◌, ◌⊎◌, ℕ, List, Some, IfOk};
-ghost use Rattle.amqp_types.specs.Levels.{plain};
+ghost use Rattle.std.specs.Prelude.{◌≡◌, ◌≢◌, ◌⊎◌, ℕ, List, Some, Err, IfOk};
+ghost use Rattle.amqp_types.specs.Levels.{plain, tidy, level_of};
 ghost use Rattle.amqp_stream.specs.Canonicalizing.{Canonicalizes, NeverBegan, AnswersExactly, IsValid, NoFaults, IsOkOrNoMemory};
 ghost use Rattle.amqp_stream.specs.Streaming.{Streams, StreamsExactly, RunNeverBegan, IsWelcome, IsDoneOrWanting, ending_of};
 
-use crate::canonical::{Canonical, unrefused};
+use crate::canonical::{Canonical, TidyCanonical, unrefused};
 use crate::engine::run_with;
 use crate::errors::{RunError, StreamError};
 use crate::frame_writer::FrameWriter;
@@ -13,7 +13,7 @@ use crate::output_buffer::OutputBuffer;
 use crate::reader::FrameReader;
 use crate::sink::Sink;
 use crate::source::Source;
-use amqp_types::{ChunkSize, NoMemory};
+use amqp_types::{ChunkSize, NoMemory, Profile};
 use std::alloc::Global;
 use std::marker::Model;
 
@@ -71,8 +71,38 @@ impl Codec {
         run_with(&mut self.reader, &mut self.out, writer, source, sink, turns)
     }
 
-    /// Writes the canonical bytes of each frame that is read, to the end of input or an error. Each
-    /// read takes one of the read budget. What an earlier call left in the codec is dropped.
+    /// Writes the canonical bytes of each frame that is read in a profile, to the end of input or an
+    /// error. Each read takes one of the read budget. What an earlier call left in the codec is
+    /// dropped.
+    pub fn canonicalize_in<S: Source, K: Sink>(
+        &mut self,
+        alloc: Global,
+        profile: Profile,
+        source: &mut S,
+        sink: &mut K,
+        turns: u64,
+    ) -> Result<(), StreamError>
+        ensures limit { self.new ≡ self.old }
+        ensures stream { Canonicalizes (level_of profile) self.old turns (S.supply source.old) (S.supply source.new)
+            (K.store sink.old) (K.store sink.new) result }
+        ensures unread { turns ≡ 0 → source.new ≡ source.old }
+
+        // Over a source that tells its bytes, the answer is by all of them, however they are cut.
+        ensures exact { (bytes : List ℕ) → (S.supply source.old).left ≡ Some bytes
+            → AnswersExactly (level_of profile) self.old bytes (K.store sink.old) (K.store sink.new) result }
+        ensures complete { (bytes : List ℕ) → (S.supply source.old).left ≡ Some bytes
+            → IsValid (level_of profile) self.old turns bytes
+            → NoFaults (S.supply source.old) (S.supply source.new) (K.store sink.old) (K.store sink.new)
+            → IsOkOrNoMemory result }
+    {
+        match profile {
+            Profile::Plain => unrefused(self.run(&mut Canonical { alloc }, source, sink, turns)),
+            Profile::Tidy => unrefused(self.run(&mut TidyCanonical { alloc }, source, sink, turns)),
+        }
+    }
+
+    /// Writes the canonical bytes of each frame that can be read, to the end of input or an error.
+    /// Each read takes one of the read budget. What an earlier call left in the codec is dropped.
     pub fn canonicalize<S: Source, K: Sink>(
         &mut self,
         alloc: Global,
@@ -84,6 +114,7 @@ impl Codec {
         ensures stream { Canonicalizes plain self.old turns (S.supply source.old) (S.supply source.new)
             (K.store sink.old) (K.store sink.new) result }
         ensures unread { turns ≡ 0 → source.new ≡ source.old }
+        ensures never_untidy { result ≢ Err StreamError.NotTidy }
 
         // Over a source that tells its bytes, the answer is by all of them, however they are cut.
         ensures exact { (bytes : List ℕ) → (S.supply source.old).left ≡ Some bytes
@@ -93,7 +124,7 @@ impl Codec {
             → NoFaults (S.supply source.old) (S.supply source.new) (K.store sink.old) (K.store sink.new)
             → IsOkOrNoMemory result }
     {
-        unrefused(self.run(&mut Canonical { alloc }, source, sink, turns))
+        self.canonicalize_in(alloc, Profile::Plain, source, sink, turns)
     }
 }
 
@@ -129,7 +160,38 @@ pub fn run_stream<W: FrameWriter, S: Source, K: Sink>(
     }
 }
 
-/// Opens a codec and canonicalizes with it.
+/// Opens a codec, and canonicalizes with it what is read in a profile.
+pub fn canonicalize_in<S: Source, K: Sink>(
+    alloc: Global,
+    profile: Profile,
+    source: &mut S,
+    sink: &mut K,
+    max_payload: ChunkSize,
+    turns: u64,
+) -> Result<(), StreamError>
+    ensures stream { Canonicalizes (level_of profile) max_payload turns (S.supply source.old) (S.supply source.new)
+        (K.store sink.old) (K.store sink.new) result
+        ⊎ NeverBegan (S.supply source.old) (S.supply source.new) (K.store sink.old) (K.store sink.new) result }
+    ensures unread { turns ≡ 0 → source.new ≡ source.old }
+
+    // Over a source that tells its bytes, the answer is by all of them, however they are cut.
+    ensures exact { (bytes : List ℕ) → (S.supply source.old).left ≡ Some bytes
+        → AnswersExactly (level_of profile) max_payload bytes (K.store sink.old) (K.store sink.new) result }
+    ensures complete { (bytes : List ℕ) → (S.supply source.old).left ≡ Some bytes
+        → IsValid (level_of profile) max_payload turns bytes
+        → NoFaults (S.supply source.old) (S.supply source.new) (K.store sink.old) (K.store sink.new)
+        → IsOkOrNoMemory result }
+{
+    match Codec::open(alloc, max_payload) {
+        Ok(codec) => {
+            let mut codec = codec;
+            codec.canonicalize_in(alloc, profile, source, sink, turns)
+        }
+        Err(_) => Err(StreamError::NoMemory),
+    }
+}
+
+/// Opens a codec, and canonicalizes with it what can be read.
 pub fn canonicalize<S: Source, K: Sink>(
     alloc: Global,
     source: &mut S,
@@ -141,6 +203,7 @@ pub fn canonicalize<S: Source, K: Sink>(
         (K.store sink.old) (K.store sink.new) result
         ⊎ NeverBegan (S.supply source.old) (S.supply source.new) (K.store sink.old) (K.store sink.new) result }
     ensures unread { turns ≡ 0 → source.new ≡ source.old }
+    ensures never_untidy { result ≢ Err StreamError.NotTidy }
 
     // Over a source that tells its bytes, the answer is by all of them, however they are cut.
     ensures exact { (bytes : List ℕ) → (S.supply source.old).left ≡ Some bytes
@@ -150,11 +213,5 @@ pub fn canonicalize<S: Source, K: Sink>(
         → NoFaults (S.supply source.old) (S.supply source.new) (K.store sink.old) (K.store sink.new)
         → IsOkOrNoMemory result }
 {
-    match Codec::open(alloc, max_payload) {
-        Ok(codec) => {
-            let mut codec = codec;
-            codec.canonicalize(alloc, source, sink, turns)
-        }
-        Err(_) => Err(StreamError::NoMemory),
-    }
+    canonicalize_in(alloc, Profile::Plain, source, sink, max_payload, turns)
 }

@@ -18,8 +18,8 @@ mod sinks;
 mod source;
 mod sources;
 
-pub use canonical::{Canonical, as_run, unrefused};
-pub use codec::{Codec, canonicalize, run_stream};
+pub use canonical::{Canonical, TidyCanonical, as_run, unrefused};
+pub use codec::{Codec, canonicalize, canonicalize_in, run_stream};
 pub use count_sink::CountSink;
 pub use errors::{ReadError, RunError, StreamError};
 pub use frame_writer::FrameWriter;

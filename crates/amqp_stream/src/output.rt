@@ -1,10 +1,11 @@
 //! Writing: all of some bytes, what is pending, and the canonical bytes of a frame.
 
 ghost use Rattle.std.specs.Prelude.{◌≡◌, ◌+◌, ◌++◌, ◌^◌, ◌<◌, ◌≤◌, [], length};
+ghost use Rattle.amqp_types.specs.Levels.{tidy};
 ghost use Rattle.amqp_frame.specs.Frames.{raw_of, IsTyped};
 ghost use Rattle.amqp_frame.specs.Spelling.{framed};
 ghost use Rattle.amqp_frame.specs.Verdicts.{IsPayloadError};
-ghost use Rattle.amqp_stream.specs.Writing.{WritesAll, WritesFrame, Gathers, Gathered, stream_result, payload_fault, frame_length};
+ghost use Rattle.amqp_stream.specs.Writing.{WritesAll, WritesFrame, PutsTyped, Gathers, stream_result, payload_fault, frame_length};
 ghost use Rattle.amqp_stream.specs.Ends.{Store};
 ghost use Rattle.amqp_stream.specs.Streaming.{EndsWith};
 
@@ -13,6 +14,7 @@ use crate::output_buffer::OutputBuffer;
 use crate::sink::{Sink, SinkFault};
 use amqp_frame::{
     AMQPFrameType, AMQPRawFrame, ProtocolVersion, frame_head, header_bytes, heartbeat_bytes,
+    is_tidy,
 };
 use amqp_types::{ChannelId, ParserError};
 use std::alloc::Global;
@@ -163,6 +165,33 @@ fn write_typed(
     match out.push_raw(alloc, raw) {
         Err(error) => Err(payload_error(error)),
         Ok(()) => Ok(()),
+    }
+}
+
+/// Puts the canonical bytes of a method or content header after the pending ones, where it is tidy.
+#[tactic(auto, using(crate::proofs::Tidying::tidy_refused, crate::proofs::Tidying::untidy, crate::proofs::Tidying::tidied))]
+pub(crate) fn push_tidy(
+    alloc: Global,
+    out: &mut OutputBuffer,
+    raw: AMQPRawFrame<'_>,
+) -> Result<(), StreamError>
+    requires typed { IsTyped raw.frame_type }
+    requires few { length raw.payload.now < 2 ^ 32 }
+    requires room { length out.old.bytes + (length raw.payload.now + 8) ≤ out.old.room }
+    ensures room { out.new.room ≡ out.old.room }
+    ensures puts { (store : Store) → PutsTyped tidy (raw_of raw.entry) store store out.old.bytes out.new.bytes result }
+    ensures compact { length out.new.bytes ≤ length out.old.bytes + (length raw.entry.payload.now + 8) }
+{
+    let pending = out.bytes().len();
+    match out.push_raw(alloc, raw) {
+        Err(error) => Err(payload_error(error)),
+        Ok(()) => {
+            if is_tidy(raw) {
+                return Ok(());
+            }
+            out.truncate(pending);
+            Err(StreamError::NotTidy)
+        }
     }
 }
 

@@ -85,6 +85,15 @@ impl OutputBuffer {
         self.len = 0;
     }
 
+    /// Drops the pending bytes after the first `len`.
+    pub fn truncate(&mut self, len: usize)
+        requires { len ≤ length self.old.bytes }
+        ensures room { self.new.room ≡ self.old.room }
+        ensures bytes { self.new.bytes ≡ take len self.old.bytes }
+    {
+        self.len = len;
+    }
+
     /// Puts bytes after the pending ones.
     #[inline]
     pub fn push(&mut self, bytes: &[u8])

@@ -2,4 +2,4 @@ use Rattle.amqp_frame.proofs.Sizes.{puts_framed}
 use Rattle.amqp_frame.proofs.generation.put_framed.Goals as goal
 
 pub returns : goal.returns
-returns c = puts_framed _ _ _ _ _ _ _ _ c.args.frame_type c.args.channel_id c.frame_head.result c.args.payload.now c.frame_head.ensures c.requires.room c.put_bytes-at.ensures c.put_bytes-at-2.ensures c.put_bytes.ensures
+returns c = puts_framed _ _ _ _ _ _ _ _ c.args.frame_type c.args.channel_id c.frame_head-head.result c.args.payload.now c.frame_head-head.ensures c.requires.room c.put_array-at.ensures c.put_bytes-at.ensures c.put_array.ensures

@@ -6,7 +6,7 @@ use Rattle.amqp_frame.specs.declared.frame_type.AMQPFrameType.{AMQPFrameType}
 use Rattle.amqp_frame.specs.Frames.{Meth, Head}
 use Rattle.amqp_frame.specs.Verdicts.{all_of, whole_as, is_tidy_as}
 use Rattle.amqp_frame.proofs.Tidied.{mapped_ok}
-use Rattle.amqp_frame.proofs.tidiness.told.Goals as goal
+use Rattle.amqp_frame.proofs.tidiness.is_tidy_by_type.Goals as goal
 
 pub returns-in-Method : goal.returns-in-Method
 unfolding is_tidy_as whole_as

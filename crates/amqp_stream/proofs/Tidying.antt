@@ -1,0 +1,67 @@
+-- Frames of which only tidy ones are written.
+use Rattle.std.proofs.Common.{◌≡◌, ◌≢◌, ℕ, List, [], ◌++◌, Bool, true, false, Result, Ok, Err, refl, sym, ap, subst, ◌∙◌, append-nil}
+use Rattle.amqp_types.specs.Levels.{Level, tidy}
+use Rattle.amqp_types.specs.Judging.{Fault, not_tidy, fault}
+use Rattle.amqp_types.specs.Answers.{RefusesWhole}
+use Rattle.amqp_types.specs.declared.errors.ParserError.{ParserError}
+use Rattle.amqp_types.specs.declared.errors.ParserError.TheVariants as parses
+use Rattle.amqp_frame.specs.declared.frame_type.AMQPFrameType.TheVariants as kinds
+use Rattle.amqp_frame.specs.Frames.{Raw, Frame, IsTyped, beat_on}
+use Rattle.amqp_frame.specs.Verdicts.{IsPayloadError, whole, whole_as, is_at, is_tidy_as, judged_frame}
+use Rattle.amqp_frame.specs.Canonical.{canon}
+use Rattle.amqp_stream.specs.declared.errors.StreamError.{StreamError}
+use Rattle.amqp_stream.specs.declared.errors.StreamError.TheVariants as errors
+use Rattle.amqp_stream.specs.Errors.{Cause, faulty, cut_short, turns_spent, read_failed, write_failed, out_of_memory, cause_of}
+use Rattle.amqp_stream.specs.Ends.{Store}
+use Rattle.amqp_stream.specs.Writing.{payload_fault, PutsTyped, IsUnread, IsFaulty}
+use Rattle.amqp_stream.specs.Manners.{canonical_at}
+use Rattle.amqp_stream.specs.Streaming.{stopped_by, ending_of, as_run, WritesBy}
+use Rattle.amqp_stream.proofs.Writes.{kept, pushed}
+use Rattle.amqp_stream.proofs.Canonically.{is_faulty, typed-wants}
+
+-- a method or content header that is none
+pub tidy_refused : (raw : Raw) (a : Store) (before after : List ℕ) (error : ParserError) → IsTyped raw.kind → IsPayloadError error → RefusesWhole error (whole raw) → after ≡ before → PutsTyped tidy raw a a before after (Err (payload_fault error))
+tidy_refused raw a before after parses.ShortPayload t i h e = (is_faulty tidy raw _ h (λ x. absurd cc), kept a before after e)
+tidy_refused raw a before after parses.TrailingBytes t i h e = (is_faulty tidy raw _ h (λ x. absurd cc), kept a before after e)
+tidy_refused raw a before after parses.UnknownClass t i h e = (is_faulty tidy raw _ h (λ x. absurd cc), kept a before after e)
+tidy_refused raw a before after parses.UnknownMethod t i h e = (is_faulty tidy raw _ h (λ x. absurd cc), kept a before after e)
+tidy_refused raw a before after parses.NotUtf8 t i h e = (is_faulty tidy raw _ h (λ x. absurd cc), kept a before after e)
+tidy_refused raw a before after parses.UnknownTag t i h e = (is_faulty tidy raw _ h (λ x. absurd cc), kept a before after e)
+tidy_refused raw a before after parses.TooDeep t i h e = (is_faulty tidy raw _ h (λ x. absurd cc), kept a before after e)
+tidy_refused raw a before after parses.NoMemory t i h e = (t, kept a before after e)
+tidy_refused raw a before after parses.Incomplete t i h e = absurd i
+tidy_refused raw a before after parses.UnknownFrameType t i h e = absurd i
+tidy_refused raw a before after parses.BadProtocolHeader t i h e = absurd i
+tidy_refused raw a before after parses.BadFrameEnd t i h e = absurd i
+
+untidy_at : (t : Bool) (read : Result Frame Fault) (f : Frame) (n : ℕ) → read ≡ Ok f → t ≡ false → judged_frame t read n ≡ fault not_tidy
+untidy_at true read f n e h = absurd cc
+untidy_at false read f n e h = ap (λ r. judged_frame false r n) e
+
+-- a whole frame that is not tidy
+pub is_untidy : (raw : Raw) (f : Frame) → whole raw ≡ Ok f → is_at tidy raw ≡ false → IsFaulty tidy raw not_tidy
+is_untidy raw f e h = record { judged_bad = λ n. untidy_at (is_at tidy raw) (whole raw) f n e h; tidy_only = λ x. tt }
+
+pub untidy : (raw : Raw) (a : Store) (before after : List ℕ) (f : Frame) → whole raw ≡ Ok f → is_at tidy raw ≡ false → after ≡ before → PutsTyped tidy raw a a before after (Err errors.NotTidy)
+untidy raw a before after f e h same = (is_untidy raw f e h, kept a before after same)
+
+pub tidied : (raw : Raw) (a : Store) (before after : List ℕ) (f : Frame) → whole raw ≡ Ok f → is_at tidy raw ≡ true → after ≡ before ++ canon f → PutsTyped tidy raw a a before after (Ok tt)
+tidied raw a before after f e h same = (f, e, h, pushed a before after (canon f) tt same)
+
+unread_by : {S : Type 0} (E : Type 0) (level : Level) (s : S) (raw : Raw) (a b : Store) (before after : List ℕ) (cause : Cause) → IsUnread level raw a b before after cause → WritesBy {S = S} {E = E} (canonical_at level) s s raw a b before after (stopped_by cause)
+unread_by E level s raw a b before after (faulty bad) h = (h.0, h.1, refl)
+unread_by E level s raw a b before after out_of_memory h = (typed-wants raw.kind h.0, h.1)
+unread_by E level s raw a b before after cut_short h = absurd h
+unread_by E level s raw a b before after turns_spent h = absurd h
+unread_by E level s raw a b before after read_failed h = absurd h
+unread_by E level s raw a b before after write_failed h = absurd h
+
+-- what was put for a method or content header at a level is what this manner writes for it
+pub put_by : {S : Type 0} (E : Type 0) (level : Level) (s : S) (raw : Raw) (a b : Store) (before after : List ℕ) (r : Result (Unit {0}) StreamError) → PutsTyped level raw a b before after r → WritesBy {S = S} {E = E} (canonical_at level) s s raw a b before after (ending_of (as_run r))
+put_by E level s raw a b before after (Ok done) h = record { bytes = canon h.0; step = record { frame = h.0; is_whole = h.1; at_level = h.2; steps = refl }; gathered = h.3 }
+put_by E level s raw a b before after (Err error) h = unread_by E level s raw a b before after (cause_of error) h
+
+-- a heartbeat that carries bytes
+pub untidy_beat : {S : Type 0} (E : Type 0) (s : S) (raw : Raw) (a : Store) (before : List ℕ) → raw.kind ≡ kinds.Heartbeat → is_at tidy raw ≡ false → WritesBy {S = S} {E = E} (canonical_at tidy) s s raw a a before before (stopped_by (faulty not_tidy))
+unfolding whole_as
+untidy_beat E s raw a before k h = (is_untidy raw (beat_on raw.channel) (rw k refl) h, kept a before before refl, refl)
