@@ -176,7 +176,6 @@ pub never_began : {S : Type 0} (E : Type 0) (s t : S) (a b : Supply) (k l : Stor
 never_began E s t a b k l (Ok done) h = absurd (let e = h.no_memory in cc)
 never_began E s t a b k l (Err error) h = record { no_memory = ap Err (same_error E error errors.NoMemory h.no_memory); source = h.source; sink = h.sink }
 
-
 -- ---- exactness and completeness
 
 -- the answer to all bytes, as an ending in which nothing is refused

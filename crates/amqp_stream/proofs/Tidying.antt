@@ -1,5 +1,5 @@
 -- Frames of which only tidy ones are written.
-use Rattle.std.proofs.Common.{◌≡◌, ◌≢◌, ℕ, List, [], ◌++◌, Bool, true, false, Result, Ok, Err, refl, sym, ap, subst, ◌∙◌, append-nil}
+use Rattle.std.proofs.Common.{◌≡◌, ◌≢◌, ℕ, List, [], ◌++◌, Bool, true, false, Result, Ok, Err, refl, sym, ap, subst, ◌∙◌, append-nil, length, eqb, ◌⊎◌, inl, inr}
 use Rattle.amqp_types.specs.Levels.{Level, tidy}
 use Rattle.amqp_types.specs.Judging.{Fault, not_tidy, fault}
 use Rattle.amqp_types.specs.Answers.{RefusesWhole}
@@ -65,3 +65,13 @@ put_by E level s raw a b before after (Err error) h = unread_by E level s raw a 
 pub untidy_beat : {S : Type 0} (E : Type 0) (s : S) (raw : Raw) (a : Store) (before : List ℕ) → raw.kind ≡ kinds.Heartbeat → is_at tidy raw ≡ false → WritesBy {S = S} {E = E} (canonical_at tidy) s s raw a a before before (stopped_by (faulty not_tidy))
 unfolding whole_as
 untidy_beat E s raw a before k h = (is_untidy raw (beat_on raw.channel) (rw k refl) h, kept a before before refl, refl)
+
+-- ---- frames that are tidy by their type
+
+pub tidy-always : (raw : Raw) → (raw.kind ≡ kinds.ProtocolHeader) ⊎ (raw.kind ≡ kinds.Body) → is_at tidy raw ≡ true
+unfolding is_tidy_as
+tidy-always raw h = elim h [ inl k ↦ rw k refl | inr k ↦ rw k refl ]
+
+pub tidy-beat : (raw : Raw) → raw.kind ≡ kinds.Heartbeat → is_at tidy raw ≡ eqb (length raw.payload) 0
+unfolding is_tidy_as
+tidy-beat raw k = rw k refl

@@ -85,10 +85,15 @@ impl FrameWriter for TidyCanonical {
             AMQPFrameType::Method | AMQPFrameType::Header => {
                 as_run(push_tidy(self.alloc, out, raw))
             }
-            AMQPFrameType::Heartbeat if !raw.payload.is_empty() => {
-                Err(RunError::Stream(StreamError::NotTidy))
+            AMQPFrameType::Heartbeat => {
+                if !raw.payload.is_empty() {
+                    return Err(RunError::Stream(StreamError::NotTidy));
+                }
+                as_run(write_canonical(self.alloc, out, sink, raw))
             }
-            _ => as_run(write_canonical(self.alloc, out, sink, raw)),
+            AMQPFrameType::ProtocolHeader | AMQPFrameType::Body => {
+                as_run(write_canonical(self.alloc, out, sink, raw))
+            }
         }
     }
 

@@ -55,6 +55,7 @@ impl Sink for CountSink {
         ensures some { IfOk result (λ n. (0 < n) × (n ≤ length piece.now)) }
         ensures gains { Gains (count_of self.old) (count_of self.new) (piece_of result piece.now) }
         ensures fault { OnErr result (Rises self.old.faults self.new.faults) }
+        ensures most { self.new.faults ≤ last }
 
         // A write takes as much as can be counted, and fails exactly where that is nothing.
         ensures full { IsErr result ↔ (self.old.total ≡ last) }

@@ -183,16 +183,14 @@ pub(crate) fn push_tidy(
     ensures compact { length out.new.bytes ≤ length out.old.bytes + (length raw.entry.payload.now + 8) }
 {
     let pending = out.bytes().len();
-    match out.push_raw(alloc, raw) {
-        Err(error) => Err(payload_error(error)),
-        Ok(()) => {
-            if is_tidy(raw) {
-                return Ok(());
-            }
-            out.truncate(pending);
-            Err(StreamError::NotTidy)
-        }
+    if let Err(error) = out.push_raw(alloc, raw) {
+        return Err(payload_error(error));
     }
+    if is_tidy(raw) {
+        return Ok(());
+    }
+    out.truncate(pending);
+    Err(StreamError::NotTidy)
 }
 
 /// Gathers the canonical bytes of a borrowed frame. A large body is written from where it lies.

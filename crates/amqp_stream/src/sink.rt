@@ -1,5 +1,7 @@
+//! Where bytes go: a trait whose contract says what a sink reports of itself.
+
 ghost use Rattle.std.specs.Prelude.{◌<◌, ◌≤◌, length, IfOk, OnErr};
-ghost use Rattle.amqp_stream.specs.Ends.{Store, Gains, Rises, piece_of};
+ghost use Rattle.amqp_stream.specs.Ends.{Store, Gains, Rises, last, piece_of};
 
 use thiserror::Error;
 
@@ -18,5 +20,6 @@ pub trait Sink {
         requires { 0 < length piece.now }
         ensures some { IfOk result (λ n. (0 < n) × (n ≤ length piece.now)) }
         ensures gains { Gains (store self.old) (store self.new) (piece_of result piece.now) }
-        ensures fault { OnErr result (Rises (store self.old).faults (store self.new).faults) };
+        ensures fault { OnErr result (Rises (store self.old).faults (store self.new).faults) }
+        ensures most { (store self.new).faults ≤ last };
 }

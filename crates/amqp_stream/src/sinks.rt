@@ -19,11 +19,14 @@ pub struct VecSink {
 }
 
 impl Model for VecSink {
+    ghost use Rattle.std.specs.Prelude.{◌<◌, ◌^◌};
     ghost use Rattle.amqp_stream.specs.Scripts.{Kept};
 
     ghost Value = { Kept };
 
     ghost view = { λ sink. record { bytes = sink.bytes.items; faults = sink.faults } };
+
+    ghost invariant = { λ sink. sink.faults < 2 ^ 64 };
 }
 
 impl VecSink {
@@ -53,6 +56,7 @@ impl Sink for VecSink {
         ensures some { IfOk result (λ n. (0 < n) × (n ≤ length piece.now)) }
         ensures gains { Gains (store_of self.old) (store_of self.new) (piece_of result piece.now) }
         ensures fault { OnErr result (Rises self.old.faults self.new.faults) }
+        ensures most { self.new.faults ≤ last }
         ensures faultless { OnOk result (self.new.faults ≡ self.old.faults) }
 
         // A write that does not fail takes the whole piece.
@@ -122,6 +126,7 @@ impl<'a> Sink for ScriptSink<'a> {
         ensures some { IfOk result (λ n. (0 < n) × (n ≤ length piece.now)) }
         ensures gains { Gains (store_of self.old.kept) (store_of self.new.kept) (piece_of result piece.now) }
         ensures fault { OnErr result (Rises self.old.kept.faults self.new.kept.faults) }
+        ensures most { self.new.kept.faults ≤ last }
         ensures faultless { OnOk result (self.new.kept.faults ≡ self.old.kept.faults) }
 
         // Each call is counted, whether it fails or not.
@@ -152,11 +157,14 @@ pub struct StdSink<W> {
 }
 
 impl<W> Model for StdSink<W> {
+    ghost use Rattle.std.specs.Prelude.{◌<◌, ◌^◌};
     ghost use Rattle.amqp_stream.specs.Scripts.{Writes};
 
     ghost Value = { Writes W };
 
     ghost view = { λ sink. record { writer = sink.writer; faults = sink.faults } };
+
+    ghost invariant = { λ sink. sink.faults < 2 ^ 64 };
 }
 
 impl<W: Write> StdSink<W> {
@@ -177,6 +185,7 @@ impl<W: Write> Sink for StdSink<W> {
         ensures some { IfOk result (λ n. (0 < n) × (n ≤ length piece.now)) }
         ensures gains { Gains (untold_store self.old.faults) (untold_store self.new.faults) (piece_of result piece.now) }
         ensures fault { OnErr result (Rises self.old.faults self.new.faults) }
+        ensures most { self.new.faults ≤ last }
         ensures faultless { OnOk result (self.new.faults ≡ self.old.faults) }
 
         // Where the writer tells its bytes, those that were taken stand behind the others.

@@ -1,5 +1,7 @@
+//! Where bytes come from: a trait whose contract says what a source reports of itself.
+
 ghost use Rattle.std.specs.Prelude.{◌≡◌, ◌<◌, ◌≤◌, length, IfOk, OnErr};
-ghost use Rattle.amqp_stream.specs.Ends.{Supply, Takes, Rises, IsEmpty, piece_of};
+ghost use Rattle.amqp_stream.specs.Ends.{Supply, Takes, Rises, IsEmpty, last, piece_of};
 
 use thiserror::Error;
 
@@ -19,5 +21,6 @@ pub trait Source {
         ensures bound { IfOk result (λ n. n ≤ length buf.old) }
         ensures takes { Takes (supply self.old) (supply self.new) (piece_of result buf.new) 1 }
         ensures end { IfOk result (λ n. n ≡ 0 → IsEmpty (supply self.new).left) }
-        ensures fault { OnErr result (Rises (supply self.old).faults (supply self.new).faults) };
+        ensures fault { OnErr result (Rises (supply self.old).faults (supply self.new).faults) }
+        ensures most { (supply self.new).faults ≤ last };
 }

@@ -1,7 +1,7 @@
 //! Sources in memory, and a reader of the system.
 
 ghost use Rattle.std.specs.Prelude.{◌≡◌, ◌≢◌, ◌<◌, ◌≤◌, [], length, min, Contains, IfOk, IsErr, OnOk, OnErr, None, Some};
-ghost use Rattle.amqp_stream.specs.Ends.{Takes, Rises, IsEmpty, piece_of};
+ghost use Rattle.amqp_stream.specs.Ends.{Takes, Rises, IsEmpty, last, piece_of};
 ghost use Rattle.std.specs.Io.KnownBytes.{ReadConsumes};
 ghost use Rattle.amqp_stream.specs.Scripts.{supply_of, faultless, most_of, untold_supply};
 
@@ -41,6 +41,7 @@ impl<'a> Source for SliceSource<'a> {
         ensures takes { Takes (faultless self.old) (faultless self.new) (piece_of result buf.new) 1 }
         ensures end { IfOk result (λ n. n ≡ 0 → IsEmpty (faultless self.new).left) }
         ensures fault { OnErr result (Rises (faultless self.old).faults (faultless self.new).faults) }
+        ensures most { (faultless self.new).faults ≤ last }
 
         // As many bytes as fit are given.
         ensures count { result ≡ Ok (min (length self.old) (length buf.old)) }
@@ -108,6 +109,7 @@ impl<'a> Source for PieceSource<'a> {
         ensures takes { Takes (supply_of self.old) (supply_of self.new) (piece_of result buf.new) 1 }
         ensures end { IfOk result (λ n. n ≡ 0 → IsEmpty (supply_of self.new).left) }
         ensures fault { OnErr result (Rises self.old.faults self.new.faults) }
+        ensures most { self.new.faults ≤ last }
         ensures faultless { OnOk result (self.new.faults ≡ self.old.faults) }
 
         // A listed call fails, and no other. Any other gives as the script has it.
@@ -139,11 +141,14 @@ pub struct StdSource<R> {
 }
 
 impl<R> Model for StdSource<R> {
+    ghost use Rattle.std.specs.Prelude.{◌<◌, ◌^◌};
     ghost use Rattle.amqp_stream.specs.Scripts.{Reads};
 
     ghost Value = { Reads R };
 
     ghost view = { λ source. record { reader = source.reader; faults = source.faults } };
+
+    ghost invariant = { λ source. source.faults < 2 ^ 64 };
 }
 
 impl<R: Read> StdSource<R> {
@@ -163,6 +168,7 @@ impl<R: Read> Source for StdSource<R> {
         ensures bound { IfOk result (λ n. n ≤ length buf.old) }
         ensures takes { Takes (untold_supply self.old.faults) (untold_supply self.new.faults) (piece_of result buf.new) 1 }
         ensures fault { OnErr result (Rises self.old.faults self.new.faults) }
+        ensures most { self.new.faults ≤ last }
         ensures faultless { OnOk result (self.new.faults ≡ self.old.faults) }
 
         // Where the reader tells its bytes, the next of them are given, and after a fault none is lost.
