@@ -9,7 +9,7 @@ use std::alloc::Global;
 /// A body `h` on channel 1.
 const BODY: [u8; 9] = [3, 0, 1, 0, 0, 0, 1, 104, 206];
 
-/// A broker's `connection.start`, whose properties come in no order.
+/// A broker's `connection.start`, whose properties are not in ascending key order.
 const START: [u8; 97] = [
     1, 0, 0, 0, 0, 0, 89, 0, 10, 0, 10, 0, 9, 0, 0, 0, 52, 7, 112, 114, 111, 100, 117, 99, 116, 83,
     0, 0, 0, 8, 82, 97, 98, 98, 105, 116, 77, 81, 12, 99, 97, 112, 97, 98, 105, 108, 105, 116, 105,

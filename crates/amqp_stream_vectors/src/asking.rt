@@ -1,4 +1,4 @@
-//! How streams are tested: what some bytes are answered with, and what is written for them.
+//! How streams are tested: what canonicalizing some bytes returns, and what it writes.
 
 use amqp_stream::{PieceSource, Source, StreamError, VecSink, canonicalize};
 use amqp_vectors::asking::{same, same_in};
@@ -25,7 +25,7 @@ pub const MESSAGE: [u8; 69] = [
     105, 110, 2, 206, 3, 0, 1, 0, 0, 0, 5, 104, 101, 108, 108, 111, 206,
 ];
 
-/// A broker's `connection.start`, whose properties come in no order.
+/// A broker's `connection.start`, whose properties are not in ascending key order.
 pub const START: [u8; 97] = [
     1, 0, 0, 0, 0, 0, 89, 0, 10, 0, 10, 0, 9, 0, 0, 0, 52, 7, 112, 114, 111, 100, 117, 99, 116, 83,
     0, 0, 0, 8, 82, 97, 98, 98, 105, 116, 77, 81, 12, 99, 97, 112, 97, 98, 105, 108, 105, 116, 105,
@@ -42,45 +42,48 @@ pub const START_IN_ORDER: [u8; 97] = [
     206,
 ];
 
-/// Fails unless the source is answered so, and these bytes are written.
+/// Fails unless canonicalizing the source returns this outcome, and writes these bytes.
 pub fn ends<S: Source>(
     alloc: Global,
     source: &mut S,
     turns: u64,
-    answer: Result<(), StreamError>,
+    outcome: Result<(), StreamError>,
     written: &[u8],
 ) -> Result<(), Fail> {
     let mut sink = VecSink::new(alloc);
-    same(canonicalize(alloc, source, &mut sink, LIMIT, turns), answer)?;
+    same(
+        canonicalize(alloc, source, &mut sink, LIMIT, turns),
+        outcome,
+    )?;
     same(sink.bytes(), written)
 }
 
-/// Fails unless the bytes in these pieces are answered so, and these are written. There is one turn more than
-/// bytes.
-fn answered(
+/// Fails unless canonicalizing the bytes, read in these pieces, returns this outcome and writes these bytes. It
+/// may make one read more than there are bytes.
+fn canonicalizes_in(
     alloc: Global,
     row: &str,
     bytes: &[u8],
     pieces: &[usize],
-    answer: Result<(), StreamError>,
+    outcome: Result<(), StreamError>,
     written: &[u8],
 ) -> Result<(), Fail> {
     let mut source = PieceSource::new(bytes, pieces, &[]);
     let mut sink = VecSink::new(alloc);
     let turns = bytes.len() as u64 + 1;
     let found = canonicalize(alloc, &mut source, &mut sink, LIMIT, turns);
-    same_in(row, found, answer)?;
+    same_in(row, found, outcome)?;
     same_in(row, sink.bytes(), written)
 }
 
 /// The same, whole and in single bytes.
-pub fn is_answered(
+pub fn canonicalizes(
     alloc: Global,
     row: &str,
     bytes: &[u8],
-    answer: Result<(), StreamError>,
+    outcome: Result<(), StreamError>,
     written: &[u8],
 ) -> Result<(), Fail> {
-    answered(alloc, row, bytes, &[], answer, written)?;
-    answered(alloc, row, bytes, &ONES, answer, written)
+    canonicalizes_in(alloc, row, bytes, &[], outcome, written)?;
+    canonicalizes_in(alloc, row, bytes, &ONES, outcome, written)
 }

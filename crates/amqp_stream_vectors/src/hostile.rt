@@ -1,6 +1,6 @@
 //! The hostile cases that go through calls: each is named by what it shows.
 
-use crate::asking::{HEARTBEAT, LIMIT, MESSAGE, ONES, START, is_answered};
+use crate::asking::{HEARTBEAT, LIMIT, MESSAGE, ONES, START, canonicalizes};
 use amqp_frame::{
     AMQPFrame, AMQPFrameType, AMQPRawFrame, GenError, ParserError, gen_frame_slice, parse_frame,
     release,
@@ -30,7 +30,7 @@ enum Sent {
     Body(u32),
 }
 
-/// What is sent, and what it is answered with. Where it is Ok all is written as it came, else nothing is.
+/// What is sent, and the outcome. Where it is Ok all is written as it came, else nothing is.
 const CASES: [(&str, Sent, Result<(), StreamError>); 12] = [
     ("a message", Sent::Bytes(&MESSAGE), Ok(())),
     ("64 tables", Sent::Tables(64, &[]), Ok(())),
@@ -82,7 +82,7 @@ const CASES: [(&str, Sent, Result<(), StreamError>); 12] = [
     ),
 ];
 
-/// The length of both, and then they.
+/// Both, with their length in front.
 fn counted(alloc: Global, front: &[u8], content: &[u8]) -> Result<Vec<u8>, Fail> {
     let mut both = Vec::from_slice(alloc, front)?;
     both.extend_from_slice(content)?;
@@ -137,11 +137,11 @@ impl Sent {
 
 #[test]
 fn hostile_frames_are_kept_or_refused(rt: HostRuntime) -> Result<(), Fail> {
-    for (case, sent, answer) in CASES {
+    for (case, sent, outcome) in CASES {
         let bytes = sent.bytes(rt.alloc())?;
-        let written = if answer.is_ok() { bytes.len() } else { 0 };
+        let written = if outcome.is_ok() { bytes.len() } else { 0 };
         let written = bytes.as_slice().get(..written).unwrap_or_default();
-        is_answered(rt.alloc(), case, &bytes, answer, written)?;
+        canonicalizes(rt.alloc(), case, &bytes, outcome, written)?;
     }
     Ok(())
 }
@@ -164,7 +164,7 @@ fn the_longest_length_is_incomplete_to_a_parse_call(rt: HostRuntime) -> Result<(
 fn each_cut_start_is_cut_short(rt: HostRuntime) -> Result<(), Fail> {
     for end in 1..START.len() {
         let front = START.get(..end).unwrap_or_default();
-        is_answered(
+        canonicalizes(
             rt.alloc(),
             "a cut start",
             front,
@@ -192,8 +192,8 @@ fn each_read_may_fail(rt: HostRuntime) -> Result<(), Fail> {
         let failing = [k];
         let mut source = PieceSource::new(&MESSAGE, &ONES, &failing);
         let mut sink = VecSink::new(rt.alloc());
-        let answer = canonicalize(rt.alloc(), &mut source, &mut sink, LIMIT, 70);
-        same(answer, Err(StreamError::ReadFault))?;
+        let outcome = canonicalize(rt.alloc(), &mut source, &mut sink, LIMIT, 70);
+        same(outcome, Err(StreamError::ReadFault))?;
         same(Some(sink.bytes()), MESSAGE.get(..whole_frames(k)))?;
     }
     Ok(())
@@ -206,13 +206,13 @@ fn each_write_may_fail(rt: HostRuntime) -> Result<(), Fail> {
         let failing = [k];
         let mut source = SliceSource::new(&MESSAGE);
         let mut sink = ScriptSink::new(rt.alloc(), &ONES, &failing);
-        let answer = canonicalize(rt.alloc(), &mut source, &mut sink, LIMIT, 70);
+        let outcome = canonicalize(rt.alloc(), &mut source, &mut sink, LIMIT, 70);
         let wanted = if k < 69 {
             Err(StreamError::WriteFault)
         } else {
             Ok(())
         };
-        same(answer, wanted)?;
+        same(outcome, wanted)?;
         same(Some(sink.bytes()), MESSAGE.get(..k as usize))?;
     }
     Ok(())
@@ -223,16 +223,16 @@ fn a_codec_drops_what_a_failed_read_left(rt: HostRuntime) -> Result<(), Fail> {
     let mut codec = Codec::open(rt.alloc(), LIMIT)?;
     let mut failing = PieceSource::new(&HEARTBEAT, &[3], &[1]);
     let mut sink = VecSink::new(rt.alloc());
-    let answer = codec.canonicalize(rt.alloc(), &mut failing, &mut sink, 100);
-    same(answer, Err(StreamError::ReadFault))?;
+    let outcome = codec.canonicalize(rt.alloc(), &mut failing, &mut sink, 100);
+    same(outcome, Err(StreamError::ReadFault))?;
     same(sink.bytes(), &[])?;
     let mut fresh = SliceSource::new(&HEARTBEAT);
-    let answer = codec.canonicalize(rt.alloc(), &mut fresh, &mut sink, 100);
-    same(answer, Ok(()))?;
+    let outcome = codec.canonicalize(rt.alloc(), &mut fresh, &mut sink, 100);
+    same(outcome, Ok(()))?;
     same(sink.bytes(), &HEARTBEAT)
 }
 
-/// A heartbeat as it is lent.
+/// A heartbeat as a reader returns it.
 const BEAT: AMQPRawFrame<'static> = AMQPRawFrame {
     frame_type: AMQPFrameType::Heartbeat,
     channel_id: 0,
@@ -250,7 +250,7 @@ fn a_reader_goes_on_after_a_failed_read(rt: HostRuntime) -> Result<(), Fail> {
     same(reader.next(&mut source, &mut turns), Ok(None))
 }
 
-/// A fault is told again without a read, until it is cleared.
+/// A fault is returned again without a read, until it is cleared.
 #[test]
 fn a_reader_keeps_a_fault(rt: HostRuntime) -> Result<(), Fail> {
     let mut reader = FrameReader::open(rt.alloc(), LIMIT)?;
@@ -291,12 +291,12 @@ fn declaring(alloc: Global, arguments: FieldTable) -> AMQPFrame {
     AMQPFrame::Method(1, AMQPClass::Queue(queue::AMQPMethod::Declare(declare)))
 }
 
-/// What is answered of a frame, and what stands in a slice of seven sevens.
+/// What writing a frame returns, and what a slice of seven sevens is then.
 fn written(frame: AMQPFrame) -> (Result<usize, GenError>, [u8; 7]) {
     let mut room = [7; 7];
-    let answer = gen_frame_slice(&mut room, &frame);
+    let outcome = gen_frame_slice(&mut room, &frame);
     release(frame);
-    (answer, room)
+    (outcome, room)
 }
 
 #[test]
@@ -304,8 +304,8 @@ fn a_table_that_is_too_deep_is_written_nowhere(rt: HostRuntime) -> Result<(), Fa
     let alloc = rt.alloc();
     let table = deep_table(alloc)?;
     let mut out = vec![in alloc; 1, 2, 3]?;
-    let answer = gen_field_table(alloc, &mut out, &table);
-    same(answer, Err(GenError::TooDeep))?;
+    let outcome = gen_field_table(alloc, &mut out, &table);
+    same(outcome, Err(GenError::TooDeep))?;
     same(out.as_slice(), &[1, 2, 3])?;
     same(
         written(declaring(alloc, table)),

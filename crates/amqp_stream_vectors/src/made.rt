@@ -51,7 +51,7 @@ fn made_frames_are_canonicalized(rt: HostRuntime) -> Result<(), Fail> {
     ends(alloc, &mut MakeSource::new(4), 60, Ok(()), &CANONICAL)?;
     let mut source = MakeSource::new(100_000);
     let mut sink = CountSink::new();
-    let answer = canonicalize(alloc, &mut source, &mut sink, LIMIT, 1_475_001);
-    same(answer, Ok(()))?;
+    let outcome = canonicalize(alloc, &mut source, &mut sink, LIMIT, 1_475_001);
+    same(outcome, Ok(()))?;
     same(sink.total(), 1_350_000)
 }

@@ -21,7 +21,7 @@ fn refused_memory_leaves_a_front(rt: HostRuntime) {
 }
 
 /// Whether a codec writes these bytes for the others, or was out of memory: in its sink, or before a whole
-/// method or content header, with all before it written, which is none or so many bytes.
+/// method or content header, with all before it written, which is none or `first` bytes. And whether it was.
 fn is_canonical(
     alloc: Global,
     codec: &mut Codec,
@@ -31,9 +31,9 @@ fn is_canonical(
 ) -> (bool, bool) {
     let mut source = SliceSource::new(bytes);
     let mut sink = VecSink::new(alloc);
-    let answer = codec.canonicalize(alloc, &mut source, &mut sink, 100);
+    let outcome = codec.canonicalize(alloc, &mut source, &mut sink, 100);
     let front = sink.bytes();
-    match answer {
+    match outcome {
         Ok(()) => (front == written, false),
         Err(StreamError::WriteFault) => (written.starts_with(front), true),
         Err(StreamError::NoMemory) => {
@@ -44,7 +44,8 @@ fn is_canonical(
     }
 }
 
-/// The codec serves on. A message takes memory in its sink alone; a broker's properties are put in order.
+/// One refusal, and the codec serves on. A message takes memory in its sink alone; a broker's properties are put
+/// in order.
 #[test]
 fn refused_memory_leaves_a_codec(rt: HostRuntime) {
     let Ok(codec) = Codec::open(rt.alloc(), LIMIT) else {
@@ -66,7 +67,7 @@ fn refused_memory_leaves_a_codec(rt: HostRuntime) {
     }
 }
 
-/// Whether a lent frame is read into memory, or memory was refused.
+/// Whether a borrowed frame is read into memory, or memory was refused.
 fn is_read(alloc: Global, raw: AMQPRawFrame<'_>) -> bool {
     match parse_payload(alloc, raw) {
         Ok(frame) => {
@@ -77,7 +78,8 @@ fn is_read(alloc: Global, raw: AMQPRawFrame<'_>) -> bool {
     }
 }
 
-/// Only `open` takes memory. Frames that are lent may be read into memory or not; the reader goes on.
+/// Of a reader only `open` takes memory: whether the frames that it returns are read into memory or not, it goes
+/// on.
 #[test]
 fn refused_memory_leaves_a_reader(rt: HostRuntime) {
     let Ok(reader) = FrameReader::open(rt.alloc(), LIMIT) else {

@@ -1,6 +1,6 @@
-//! Worked rows of bytes, with what is written for them and how they end.
+//! Worked rows of bytes, with what is written for them, or how they end.
 
-use crate::asking::{HEARTBEAT, MESSAGE, START, START_IN_ORDER, is_answered};
+use crate::asking::{HEARTBEAT, MESSAGE, START, START_IN_ORDER, canonicalizes};
 use amqp_stream::StreamError;
 use std::test::Fail;
 
@@ -97,15 +97,15 @@ const CANONICAL: [(&str, &[u8], &[u8]); 17] = [
         ],
     ),
     ("a message", &MESSAGE, &MESSAGE),
-    ("entries in no order", &START, &START_IN_ORDER),
+    ("entries that are not in order", &START, &START_IN_ORDER),
 ];
 
 /// What was written, given again, gives itself.
 #[test]
 fn rows_are_canonical(rt: HostRuntime) -> Result<(), Fail> {
     for (row, read, written) in CANONICAL {
-        is_answered(rt.alloc(), row, read, Ok(()), written)?;
-        is_answered(rt.alloc(), row, written, Ok(()), written)?;
+        canonicalizes(rt.alloc(), row, read, Ok(()), written)?;
+        canonicalizes(rt.alloc(), row, written, Ok(()), written)?;
     }
     Ok(())
 }
@@ -205,7 +205,7 @@ const FAULTY: [(&str, &[u8], StreamError); 18] = [
 #[test]
 fn faults_are_named(rt: HostRuntime) -> Result<(), Fail> {
     for (row, read, error) in FAULTY {
-        is_answered(rt.alloc(), row, read, Err(error), &[])?;
+        canonicalizes(rt.alloc(), row, read, Err(error), &[])?;
     }
     Ok(())
 }
@@ -215,8 +215,8 @@ fn faults_are_named(rt: HostRuntime) -> Result<(), Fail> {
 fn frames_before_a_fault_are_written(rt: HostRuntime) -> Result<(), Fail> {
     let read = [8, 0, 0, 0, 0, 0, 1, 7, 206, 9];
     let unknown = Err(StreamError::UnknownFrameType);
-    is_answered(rt.alloc(), "no type", &read, unknown, &HEARTBEAT)?;
+    canonicalizes(rt.alloc(), "no type", &read, unknown, &HEARTBEAT)?;
     let read = [8, 0, 0, 0, 0, 0, 1, 7, 206, 1, 0, 1, 0, 0, 0, 2, 0, 99, 206];
     let unknown = Err(StreamError::UnknownClass);
-    is_answered(rt.alloc(), "no class", &read, unknown, &HEARTBEAT)
+    canonicalizes(rt.alloc(), "no class", &read, unknown, &HEARTBEAT)
 }

@@ -1,4 +1,4 @@
-//! Streams cut anyhow, a budget of reads, ends that fail, and what serves twice.
+//! A message in single bytes, a budget of reads, ends that fail, and a codec that serves twice.
 
 use crate::asking::{HEARTBEAT, LIMIT, MESSAGE, ONES, TWO_HEARTBEATS, ends};
 use amqp_frame::{AMQPFrameType, AMQPRawFrame};
@@ -8,8 +8,8 @@ use amqp_stream::{
 use amqp_vectors::asking::same;
 use std::test::Fail;
 
-/// A frame of the message as it is lent.
-const fn lent(frame_type: AMQPFrameType, payload: &'static [u8]) -> AMQPRawFrame<'static> {
+/// A frame of the message as a reader returns it.
+fn borrowed(frame_type: AMQPFrameType, payload: &'static [u8]) -> AMQPRawFrame<'static> {
     AMQPRawFrame {
         frame_type,
         channel_id: 1,
@@ -23,9 +23,9 @@ fn a_message_is_three_frames(rt: HostRuntime) -> Result<(), Fail> {
     let mut source = PieceSource::new(&MESSAGE, &ONES, &[]);
     let mut turns = 100;
     let frames = [
-        lent(AMQPFrameType::Method, &MESSAGE[7..21]),
-        lent(AMQPFrameType::Header, &MESSAGE[29..55]),
-        lent(AMQPFrameType::Body, b"hello"),
+        borrowed(AMQPFrameType::Method, &MESSAGE[7..21]),
+        borrowed(AMQPFrameType::Header, &MESSAGE[29..55]),
+        borrowed(AMQPFrameType::Body, b"hello"),
     ];
     for frame in frames {
         same(reader.next(&mut source, &mut turns), Ok(Some(frame)))?;
@@ -39,14 +39,14 @@ fn a_message_is_three_frames(rt: HostRuntime) -> Result<(), Fail> {
 fn reads_have_a_budget(rt: HostRuntime) -> Result<(), Fail> {
     let alloc = rt.alloc();
     let spent = Err(StreamError::TurnsSpent);
-    for (turns, answer) in [(8, spent), (9, Ok(()))] {
+    for (turns, outcome) in [(8, spent), (9, Ok(()))] {
         let mut source = PieceSource::new(&HEARTBEAT, &ONES, &[]);
-        ends(alloc, &mut source, turns, answer, &HEARTBEAT)?;
+        ends(alloc, &mut source, turns, outcome, &HEARTBEAT)?;
     }
     ends(alloc, &mut SliceSource::new(&HEARTBEAT), 0, spent, &[])?;
-    for (turns, answer) in [(1, spent), (2, Ok(()))] {
+    for (turns, outcome) in [(1, spent), (2, Ok(()))] {
         let mut source = SliceSource::new(&HEARTBEAT);
-        ends(alloc, &mut source, turns, answer, &HEARTBEAT)?;
+        ends(alloc, &mut source, turns, outcome, &HEARTBEAT)?;
     }
     Ok(())
 }
@@ -59,8 +59,8 @@ fn ends_may_fail(rt: HostRuntime) -> Result<(), Fail> {
     ends(alloc, &mut source, 17, read_fault, &HEARTBEAT)?;
     let mut source = SliceSource::new(&HEARTBEAT);
     let mut sink = ScriptSink::new(alloc, &[], &[0]);
-    let answer = canonicalize(alloc, &mut source, &mut sink, LIMIT, 9);
-    same(answer, Err(StreamError::WriteFault))?;
+    let outcome = canonicalize(alloc, &mut source, &mut sink, LIMIT, 9);
+    same(outcome, Err(StreamError::WriteFault))?;
     same(sink.bytes(), &[])
 }
 
@@ -76,8 +76,8 @@ fn a_codec_serves_twice(rt: HostRuntime) -> Result<(), Fail> {
         for _ in 0..2 {
             let mut source = SliceSource::new(read);
             let mut sink = VecSink::new(rt.alloc());
-            let answer = codec.canonicalize(rt.alloc(), &mut source, &mut sink, 100);
-            same(answer, Ok(()))?;
+            let outcome = codec.canonicalize(rt.alloc(), &mut source, &mut sink, 100);
+            same(outcome, Ok(()))?;
             same(sink.bytes(), written)?;
         }
     }

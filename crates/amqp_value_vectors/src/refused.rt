@@ -141,11 +141,12 @@ fn is_inserted(alloc: Global, table: &FieldTable) -> bool {
         let (Ok(name), Ok(copied)) = (key.copy(alloc), value.copy(alloc)) else {
             continue;
         };
-        let (wanted, len) = match inserted.insert(name, copied) {
-            Ok(()) => (Some(value), held + 1),
-            Err(NoMemory) => (None, held),
+        let wanted = match inserted.insert(name, copied) {
+            Ok(()) => Some(value),
+            Err(NoMemory) => None,
         };
-        if inserted.len() != len || inserted.get(key.as_str()) != wanted {
+        let has_grown = inserted.len() != held;
+        if inserted.get(key.as_str()) != wanted || has_grown != wanted.is_some() {
             return false;
         }
     }
