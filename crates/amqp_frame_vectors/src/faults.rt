@@ -6,10 +6,9 @@ use std::test::Fail;
 
 #[test]
 fn faults_are_named(rt: HostRuntime) -> Result<(), Fail> {
-    let rows: [(&[u8], ParserError); 9] = [
+    let rows: [(&[u8], ParserError); 8] = [
         (&[], ParserError::Incomplete),
         (&[3, 0, 1, 0, 0, 0, 1, 104], ParserError::Incomplete),
-        (&[3, 0, 1, 255, 255, 255, 255], ParserError::Incomplete),
         (&[9], ParserError::UnknownFrameType),
         (&[65, 77, 81, 81], ParserError::BadProtocolHeader),
         (&[65, 77], ParserError::Incomplete),

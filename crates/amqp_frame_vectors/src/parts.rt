@@ -1,9 +1,8 @@
 //! The parts that frames are read by.
 
-use crate::heartbeats::BAD_HEARTBEAT;
 use amqp_frame::{
-    AMQPChannel, AMQPFrame, AMQPFrameType, ProtocolVersion, parse_channel, parse_frame_type,
-    parse_payload, parse_protocol_header, parse_raw_frame,
+    AMQPChannel, AMQPFrameType, ProtocolVersion, parse_channel, parse_frame_type,
+    parse_protocol_header,
 };
 use amqp_vectors::asking::same;
 use std::test::Fail;
@@ -28,15 +27,5 @@ fn a_type_and_a_version_are_read() -> Result<(), Fail> {
     same(
         parse_protocol_header(&[77, 81, 80, 0, 1, 2, 3]),
         Ok((7, version)),
-    )
-}
-
-#[test]
-fn a_raw_frame_is_read(rt: HostRuntime) -> Result<(), Fail> {
-    let (used, raw) = parse_raw_frame(AMQPFrameType::Heartbeat, &BAD_HEARTBEAT[1..])?;
-    same(used, 7)?;
-    same(
-        parse_payload(rt.alloc(), raw),
-        Ok(AMQPFrame::InvalidHeartbeat(1)),
     )
 }

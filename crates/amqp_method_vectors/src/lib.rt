@@ -1,4 +1,5 @@
-//! Tests that cross crates: each method of the eight classes, and the properties, with their bytes.
+//! Tests that cross crates: each method of the eight classes, and the properties, with their bytes, and memory
+//! that is refused.
 #![tactic(auto)]
 
 #[cfg(test)]
@@ -19,6 +20,8 @@ mod made;
 mod properties;
 #[cfg(test)]
 mod queue;
+#[cfg(test)]
+mod refused;
 #[cfg(test)]
 mod rows;
 #[cfg(test)]

@@ -40,6 +40,6 @@ fn main(rt: HostRuntime) -> ExitCode {
 }
 
 #[cfg(test)]
-mod tests;
+mod hostile_tests;
 #[cfg(test)]
-mod wire_tests;
+mod tests;

@@ -1,12 +1,13 @@
+//! Commands on texts, bytes and words: what they print, and how they end.
+
 use super::*;
 use amqp_stream::{PieceSource, ScriptSink};
 use print_command::{HELP, VERSION};
 use std::alloc::Global;
 use std::test::Fail;
 
-const LIMIT: usize = 131_072;
-
-fn words_in(alloc: Global, words: &[&str]) -> Result<Vec<String>, Fail> {
+/// These words, in memory.
+pub fn words_in(alloc: Global, words: &[&str]) -> Result<Vec<String>, Fail> {
     let mut all = Vec::new(alloc);
     for word in words {
         all.push(String::from_str(alloc, word)?)?;
@@ -15,7 +16,7 @@ fn words_in(alloc: Global, words: &[&str]) -> Result<Vec<String>, Fail> {
 }
 
 /// The status of a run, and what it wrote.
-fn ran(
+pub fn ran(
     alloc: Global,
     words: &[&str],
     input: &[u8],
@@ -28,33 +29,57 @@ fn ran(
     Ok((status, Vec::from_slice(alloc, sink.bytes())?))
 }
 
+/// Texts for `hex`, what is printed for them, and the status. Each fault of bytes has its name and its status.
+const REPORTS: [(&str, &str, u8); 23] = [
+    ("414d515000000901", "414d515000000901\n", 0),
+    ("", "\n", 0),
+    ("\n", "\n", 0),
+    ("0800000000000107ce", "08000000000000ce\n", 0),
+    ("0800000000000107CE\n", "08000000000000ce\n", 0),
+    ("0300010000000168ce", "0300010000000168ce\n", 0),
+    (
+        "010001000000140032000a0000001f000000080161740001617407ce",
+        "010001000000100032000a0000001f0000000401617401ce\n",
+        0,
+    ),
+    ("0100010000000400 55000ace", "BadHex\n", 7),
+    ("4", "BadHex\n", 7),
+    ("01\n\n", "BadHex\n", 7),
+    (
+        "0800000000000107ce09",
+        "08000000000000ce\nUnknownFrameType\n",
+        10,
+    ),
+    ("414d5151", "\nBadProtocolHeader\n", 11),
+    ("03000000020001", "\nTooLarge\n", 12),
+    ("010001000000020063cd", "\nBadFrameEnd\n", 13),
+    ("010001000000020063ce", "\nUnknownClass\n", 14),
+    ("01000100000004003c0001ce", "\nUnknownMethod\n", 15),
+    ("010001000000040055000ace", "\nShortPayload\n", 16),
+    ("01000000000005000a003300ce", "\nTrailingBytes\n", 17),
+    ("01000000000006000a002901ffce", "\nNotUtf8\n", 18),
+    (
+        "0100010000000e0032000a0000000000000002005ace",
+        "\nUnknownTag\n",
+        19,
+    ),
+    ("01", "\nCutShort\n", 21),
+    ("03000000020000", "\nCutShort\n", 21),
+    (
+        "0300010000000168ce010001000000020063ce",
+        "0300010000000168ce\nUnknownClass\n",
+        14,
+    ),
+];
+
 #[test]
 fn hex_reports(rt: HostRuntime) -> Result<(), Fail> {
-    let rows: [(&str, &str, u8); 12] = [
-        ("414d515000000901", "414d515000000901\n", 0),
-        ("", "\n", 0),
-        ("\n", "\n", 0),
-        ("0800000000000107ce", "08000000000000ce\n", 0),
-        ("0800000000000107CE\n", "08000000000000ce\n", 0),
-        ("0300010000000168ce", "0300010000000168ce\n", 0),
-        ("01", "\nCutShort\n", 21),
-        (
-            "0800000000000107ce09",
-            "08000000000000ce\nUnknownFrameType\n",
-            10,
-        ),
-        ("0100010000000400 55000ace", "BadHex\n", 7),
-        ("010001000000040055000ace", "\nShortPayload\n", 16),
-        ("4", "BadHex\n", 7),
-        ("01\n\n", "BadHex\n", 7),
-    ];
-    for (text, printed, status) in rows {
-        let whole = ran(rt.alloc(), &["hex"], text.as_bytes(), &[])?;
-        assert_eq!(rt; whole.0, status);
-        assert_eq!(rt; whole.1.as_slice(), printed.as_bytes());
-        let by_ones = ran(rt.alloc(), &["hex"], text.as_bytes(), &[1; 30])?;
-        assert_eq!(rt; by_ones.0, status);
-        assert_eq!(rt; by_ones.1.as_slice(), printed.as_bytes());
+    for (text, printed, status) in REPORTS {
+        for pieces in [[].as_slice(), [1; 60].as_slice()] {
+            let found = ran(rt.alloc(), &["hex"], text.as_bytes(), pieces)?;
+            assert_eq!(rt; found.0, status, "{text}");
+            assert_eq!(rt; found.1.as_slice(), printed.as_bytes(), "{text}");
+        }
     }
     Ok(())
 }
@@ -86,18 +111,20 @@ fn raw_tells_by_the_status(rt: HostRuntime) -> Result<(), Fail> {
     Ok(())
 }
 
+/// A message that a client publishes: its method, its content header and its body.
+const MESSAGE: [u8; 69] = [
+    1, 0, 1, 0, 0, 0, 14, 0, 60, 0, 40, 0, 0, 0, 5, 104, 101, 108, 108, 111, 0, 206, 2, 0, 1, 0, 0,
+    0, 26, 0, 60, 0, 0, 0, 0, 0, 0, 0, 0, 0, 5, 144, 0, 10, 116, 101, 120, 116, 47, 112, 108, 97,
+    105, 110, 2, 206, 3, 0, 1, 0, 0, 0, 5, 104, 101, 108, 108, 111, 206,
+];
+
 #[test]
-fn the_limit_is_kept(rt: HostRuntime) -> Result<(), Fail> {
-    let mut body = vec![in rt.alloc(); 0u8; LIMIT + 8]?;
-    body.as_mut_slice()[..7].copy_from_slice(&[3, 0, 1, 0, 2, 0, 0]);
-    body.as_mut_slice()[LIMIT + 7] = 206;
-    let (status, written) = ran(rt.alloc(), &["raw"], body.as_slice(), &[])?;
-    assert_eq!(rt; status, 0);
-    assert!(rt; written.as_slice() == body.as_slice());
-    body.as_mut_slice()[6] = 1;
-    let (status, written) = ran(rt.alloc(), &["raw"], body.as_slice(), &[])?;
-    assert_eq!(rt; status, 12);
-    assert_eq!(rt; written.len(), 0);
+fn a_message_stays_as_it_is(rt: HostRuntime) -> Result<(), Fail> {
+    for pieces in [[].as_slice(), [1; 69].as_slice()] {
+        let (status, written) = ran(rt.alloc(), &["raw"], &MESSAGE, pieces)?;
+        assert_eq!(rt; status, 0);
+        assert_eq!(rt; written.as_slice(), MESSAGE.as_slice());
+    }
     Ok(())
 }
 
@@ -155,35 +182,8 @@ fn made_frames_are_counted(rt: HostRuntime) -> Result<(), Fail> {
     Ok(())
 }
 
-#[test]
-fn failed_ends_have_statuses(rt: HostRuntime) -> Result<(), Fail> {
-    for word in ["hex", "raw"] {
-        let words = words_in(rt.alloc(), &[word])?;
-        let input = if word == "hex" {
-            b"0800000000000107ce".as_slice()
-        } else {
-            [8, 0, 0, 0, 0, 0, 0, 206].as_slice()
-        };
-        let mut source = PieceSource::new(input, &[], &[0]);
-        let mut sink = ScriptSink::new(rt.alloc(), &[], &[]);
-        assert_eq!(rt;
-            run(rt.alloc(), words.as_slice(), &mut source, &mut sink),
-            4
-        );
-        assert_eq!(rt; sink.bytes(), b"".as_slice());
-        let mut source = PieceSource::new(input, &[], &[]);
-        let mut sink = ScriptSink::new(rt.alloc(), &[], &[0]);
-        assert_eq!(rt;
-            run(rt.alloc(), words.as_slice(), &mut source, &mut sink),
-            5
-        );
-        assert_eq!(rt; sink.bytes(), b"".as_slice());
-    }
-    Ok(())
-}
-
-/// For `rt try --test --fail-alloc N`: want of memory is status 3 with nothing written, and a sink
-/// that wants memory has a part of the text.
+/// For `rt try --test --fail-alloc N`: out of memory is status 3 with nothing written, and a sink
+/// that is out of memory has a part of the text.
 #[test]
 fn refused_memory_writes_nothing(rt: HostRuntime) {
     let mut words = Vec::new(rt.alloc());

@@ -32,6 +32,3 @@ pub use sink::{Sink, SinkFault};
 pub use sinks::{ScriptSink, StdSink, VecSink};
 pub use source::{Source, SourceFault};
 pub use sources::{PieceSource, SliceSource, StdSource};
-
-#[cfg(test)]
-mod tests;

@@ -1,9 +1,18 @@
-//! Tests that cross crates: fronts of frames; streams in pieces, with ends that fail, and at their limits.
+//! Tests of streams that cross crates: worked rows, hostile cases, ends that fail, the generated stream, names of
+//! faults, and memory that is refused.
 #![tactic(auto)]
 
 #[cfg(test)]
-mod fronts;
+mod asking;
 #[cfg(test)]
-mod limits;
+mod faults;
+#[cfg(test)]
+mod hostile;
+#[cfg(test)]
+mod made;
+#[cfg(test)]
+mod refused;
+#[cfg(test)]
+mod rows;
 #[cfg(test)]
 mod streams;

@@ -2,8 +2,9 @@
 
 use amqp_values::{
     AMQPValue, FieldArray, FieldTable, GenError, MakeError, NoMemory, ParserError, ShortString,
-    gen_field_table, parse_field_table, size_field_table,
+    gen_field_array, gen_field_table, parse_field_array, parse_field_table, size_field_table,
 };
+use std::alloc::Global;
 
 const KEYS: [&str; 16] = [
     "a", "b", "c", "d", "e", "f", "g", "h", "i", "j", "k", "l", "m", "n", "o", "p",
@@ -60,6 +61,120 @@ fn refused_memory_leaves_an_array(rt: HostRuntime) {
                 assert_eq!(rt; array.len(), held);
             }
         }
+    }
+}
+
+/// An array of one value of each of the 17 kinds.
+const ARRAY: [u8; 87] = [
+    0, 0, 0, 83, 116, 1, 98, 255, 66, 1, 115, 255, 254, 117, 0, 2, 73, 255, 255, 255, 252, 105, 0,
+    0, 0, 4, 108, 255, 255, 255, 255, 255, 255, 255, 248, 102, 63, 128, 0, 0, 100, 63, 240, 0, 0,
+    0, 0, 0, 0, 68, 1, 0, 0, 0, 15, 83, 0, 0, 0, 1, 97, 65, 0, 0, 0, 0, 84, 0, 0, 0, 0, 0, 0, 0, 8,
+    70, 0, 0, 0, 0, 120, 0, 0, 0, 1, 98, 86,
+];
+
+/// A table of the same, each under its tag as the key.
+const TABLE: [u8; 121] = [
+    0, 0, 0, 117, 1, 65, 65, 0, 0, 0, 0, 1, 66, 66, 1, 1, 68, 68, 1, 0, 0, 0, 15, 1, 70, 70, 0, 0,
+    0, 0, 1, 73, 73, 255, 255, 255, 252, 1, 83, 83, 0, 0, 0, 1, 97, 1, 84, 84, 0, 0, 0, 0, 0, 0, 0,
+    8, 1, 86, 86, 1, 98, 98, 255, 1, 100, 100, 63, 240, 0, 0, 0, 0, 0, 0, 1, 102, 102, 63, 128, 0,
+    0, 1, 105, 105, 0, 0, 0, 4, 1, 108, 108, 255, 255, 255, 255, 255, 255, 255, 248, 1, 115, 115,
+    255, 254, 1, 116, 116, 1, 1, 117, 117, 0, 2, 1, 120, 120, 0, 0, 0, 1, 98,
+];
+
+/// A vector that holds a 7 alone, and was refused to grow, or holds these bytes after it.
+fn is_appended(appended: Result<(), GenError>, out: &[u8], written: &[u8]) -> bool {
+    match appended {
+        Ok(()) => out.first() == Some(&7) && out.get(1..) == Some(written),
+        Err(error) => error == GenError::NoMemory && out == [7].as_slice(),
+    }
+}
+
+/// Whether each value is pushed, or memory is refused and the array stays.
+fn is_pushed(alloc: Global, array: &FieldArray) -> bool {
+    let mut pushed = FieldArray::new(alloc);
+    for value in array.as_slice() {
+        let held = pushed.len();
+        let Ok(copied) = value.copy(alloc) else {
+            continue;
+        };
+        let wanted = match pushed.push(copied) {
+            Ok(()) => Some(value),
+            Err(NoMemory) => None,
+        };
+        if pushed.as_slice().get(held) != wanted {
+            return false;
+        }
+    }
+    true
+}
+
+/// Whether the calls of an array answer, or memory is refused and all stays.
+fn array_stays(alloc: Global, array: &FieldArray) -> bool {
+    let mut out = Vec::new(alloc);
+    if out.push(7).is_err() {
+        return true;
+    }
+    let appended = gen_field_array(alloc, &mut out, array);
+    let is_copied = match array.copy(alloc) {
+        Ok(copied) => copied == *array,
+        Err(NoMemory) => true,
+    };
+    is_appended(appended, &out, &ARRAY) && is_copied && is_pushed(alloc, array)
+}
+
+#[test]
+fn refused_memory_leaves_an_array_of_each_kind(rt: HostRuntime) {
+    match parse_field_array(rt.alloc(), &ARRAY) {
+        Ok((used, array)) => {
+            assert_eq!(rt; used, 87);
+            assert!(rt; array_stays(rt.alloc(), &array));
+        }
+        Err(error) => assert_eq!(rt; error, ParserError::NoMemory),
+    }
+}
+
+/// Whether each entry is inserted, or memory is refused and the table stays.
+fn is_inserted(alloc: Global, table: &FieldTable) -> bool {
+    let mut inserted = FieldTable::new(alloc);
+    for (key, value) in table.iter() {
+        let held = inserted.len();
+        let (Ok(name), Ok(copied)) = (key.copy(alloc), value.copy(alloc)) else {
+            continue;
+        };
+        let wanted = match inserted.insert(name, copied) {
+            Ok(()) => Some(value),
+            Err(NoMemory) => None,
+        };
+        let has_grown = inserted.len() != held;
+        if inserted.get(key.as_str()) != wanted || has_grown != wanted.is_some() {
+            return false;
+        }
+    }
+    true
+}
+
+/// Whether the calls of a table answer, or memory is refused and all stays.
+fn table_stays(alloc: Global, table: &FieldTable) -> bool {
+    let mut out = Vec::new(alloc);
+    if out.push(7).is_err() {
+        return true;
+    }
+    let appended = gen_field_table(alloc, &mut out, table);
+    let is_copied = match table.copy(alloc) {
+        Ok(copied) => copied == *table,
+        Err(NoMemory) => true,
+    };
+    is_appended(appended, &out, &TABLE) && is_copied && is_inserted(alloc, table)
+}
+
+#[test]
+fn refused_memory_leaves_a_table_of_each_kind(rt: HostRuntime) {
+    match parse_field_table(rt.alloc(), &TABLE) {
+        Ok((used, table)) => {
+            assert_eq!(rt; used, 121);
+            assert!(rt; table_stays(rt.alloc(), &table));
+        }
+        Err(error) => assert_eq!(rt; error, ParserError::NoMemory),
     }
 }
 

@@ -14,6 +14,14 @@ pub fn same<T: PartialEq + Debug + Drop>(found: T, wanted: T) -> Result<(), Fail
     Err(Fail::new(format_args!("{found:?} is not {wanted:?}")))
 }
 
+/// Fails, with the name of the row, unless the two are equal.
+pub fn same_in<T: PartialEq + Debug + Drop>(row: &str, found: T, wanted: T) -> Result<(), Fail> {
+    if found == wanted {
+        return Ok(());
+    }
+    Err(Fail::new(format_args!("{row}: {found:?} is not {wanted:?}")))
+}
+
 /// Fails unless the call answered with an equal value.
 pub fn answers<T: PartialEq + Debug + Drop, E: Debug + Drop>(
     found: Result<T, E>,

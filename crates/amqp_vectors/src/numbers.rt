@@ -66,17 +66,18 @@ fn agrees<N: PartialEq + Debug + Drop>(
     same(out.as_slice(), bytes)?;
     out.clear();
     same(size, Ok(bytes.len() as u64))?;
-    same(end, bytes.len() + 1)?;
-    same(buf.get(1..end), Some(bytes))?;
+    same(end, bytes.len())?;
+    same(buf, bytes)?;
     same(read, Ok((bytes.len(), value)))
 }
 
-/// Calls the calls of a number. It is put at the second place of a slice.
+/// Calls the calls of a number. It is put from place 0 into a slice of just its size.
 macro_rules! agree {
     ($alloc:ident, $out:ident, $value:expr, $bytes:expr; $gen:ident, $size:ident, $put:ident, $parse:ident) => {{
         let appended = $gen($alloc, $out, $value);
-        let mut buf = [0; 9];
-        let end = $put(&mut buf, 1, &$value);
+        let mut buf = *$bytes;
+        buf.fill(9);
+        let end = $put(&mut buf, 0, &$value);
         agrees(appended, $out, $size(&$value), end, &buf, $parse($bytes), $value, $bytes)
     }};
 }

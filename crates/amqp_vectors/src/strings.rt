@@ -53,41 +53,61 @@ fn equal_short_strings_hash_alike(rt: HostRuntime) -> Result<(), Fail> {
     Ok(())
 }
 
-/// The short string `a`, a long string of two bytes and a byte array of one.
-const WRITTEN: [u8; 13] = [1, 97, 0, 0, 0, 2, 98, 255, 0, 0, 0, 1, 99];
-
-fn short_string_agrees(alloc: Global, out: &mut Vec<u8>, string: &ShortString) -> Result<(), Fail> {
-    gen_short_string(alloc, out, string)?;
-    reads(parse_short_string(alloc, &WRITTEN), 2, string)?;
-    reads(parse_short_str(&WRITTEN), 2, &"a")?;
+/// A short string is written in these bytes, put as them into a slice of just their size, and read from
+/// them.
+fn short_string_agrees(alloc: Global, string: &ShortString, bytes: &[u8]) -> Result<(), Fail> {
+    let mut out = Vec::new(alloc);
+    gen_short_string(alloc, &mut out, string)?;
+    same(out.as_slice(), bytes)?;
+    let mut buf = vec![in alloc; 9; out.len()]?;
+    same(put_short_string(&mut buf, 0, string), bytes.len())?;
+    same(buf, out)?;
+    same(size_short_string(string), Ok(bytes.len() as u64))?;
+    reads(parse_short_string(alloc, bytes), bytes.len(), string)?;
+    reads(parse_short_str(bytes), bytes.len(), &string.as_str())?;
     answers(string.copy(alloc), string)
 }
 
-fn long_string_agrees(alloc: Global, out: &mut Vec<u8>, string: &LongString) -> Result<(), Fail> {
-    gen_long_string(alloc, out, string.as_bytes())?;
-    same(string.len(), 2)?;
-    reads(parse_long_string(alloc, &WRITTEN[2..]), 6, string)?;
-    reads(parse_long_bytes(&WRITTEN[2..]), 6, &string.as_bytes())?;
-    reads(parse_table_bytes(&WRITTEN[2..]), 6, &string.as_bytes())?;
+/// The same of a long string.
+fn long_string_agrees(alloc: Global, string: &LongString, bytes: &[u8]) -> Result<(), Fail> {
+    let mut out = Vec::new(alloc);
+    gen_long_string(alloc, &mut out, string.as_bytes())?;
+    same(out.as_slice(), bytes)?;
+    let mut buf = vec![in alloc; 9; out.len()]?;
+    same(put_long_string(&mut buf, 0, string.as_bytes()), bytes.len())?;
+    same(buf, out)?;
+    same(size_long_string(string.as_bytes()), Ok(bytes.len() as u64))?;
+    reads(parse_long_string(alloc, bytes), bytes.len(), string)?;
+    reads(parse_long_bytes(bytes), bytes.len(), &string.as_bytes())?;
+    reads(parse_table_bytes(bytes), bytes.len(), &string.as_bytes())?;
     answers(string.copy(alloc), string)
 }
 
-fn byte_array_agrees(alloc: Global, out: &mut Vec<u8>, array: &ByteArray) -> Result<(), Fail> {
-    gen_byte_array(alloc, out, array)?;
-    same(array.as_slice(), &[99])?;
-    reads(parse_byte_array(alloc, &WRITTEN[8..]), 5, array)?;
+/// The same of a byte array.
+fn byte_array_agrees(alloc: Global, array: &ByteArray, bytes: &[u8]) -> Result<(), Fail> {
+    let mut out = Vec::new(alloc);
+    gen_byte_array(alloc, &mut out, array)?;
+    same(out.as_slice(), bytes)?;
+    let mut buf = vec![in alloc; 9; out.len()]?;
+    same(put_byte_array(&mut buf, 0, array), bytes.len())?;
+    same(buf, out)?;
+    same(size_byte_array(array), Ok(bytes.len() as u64))?;
+    reads(parse_byte_array(alloc, bytes), bytes.len(), array)?;
     answers(array.copy(alloc), array)
 }
 
 #[test]
 fn strings_are_read_as_written(rt: HostRuntime) -> Result<(), Fail> {
     let alloc = rt.alloc();
-    let mut out = Vec::new(alloc);
-    short_string_agrees(alloc, &mut out, &ShortString::new(alloc, "a")?)?;
-    long_string_agrees(alloc, &mut out, &LongString::new(alloc, &[98, 255])?)?;
-    byte_array_agrees(alloc, &mut out, &ByteArray::new(alloc, &[99])?)?;
-    same(out.as_slice(), WRITTEN.as_slice())?;
-    same(ByteArray::from_vec(out).len(), 13)
+    short_string_agrees(alloc, &ShortString::new(alloc, "a")?, &[1, 97])?;
+    let bytes = LongString::new(alloc, &[98, 255])?;
+    same(bytes.len(), 2)?;
+    long_string_agrees(alloc, &bytes, &[0, 0, 0, 2, 98, 255])?;
+    let array = ByteArray::new(alloc, &[99])?;
+    same(array.as_slice(), &[99])?;
+    byte_array_agrees(alloc, &array, &[0, 0, 0, 1, 99])?;
+    let taken = vec![in alloc; 1, 97]?;
+    same(ByteArray::from_vec(taken).len(), 2)
 }
 
 #[test]
@@ -97,20 +117,17 @@ fn empty_strings_hold_no_bytes(rt: HostRuntime) -> Result<(), Fail> {
     same(ByteArray::empty(rt.alloc()).len(), 0)
 }
 
+/// Strings are put one after another, and the rest of the slice stays.
 #[test]
-fn strings_are_put_into_slices(rt: HostRuntime) -> Result<(), Fail> {
+fn strings_are_put_at_a_place(rt: HostRuntime) -> Result<(), Fail> {
     let alloc = rt.alloc();
     let mut buf = [9; 13];
     let short = ShortString::new(alloc, "a")?;
     let bytes = ByteArray::new(alloc, &[99])?;
-    assert_eq!(rt; size_short_string(&short)?, 2);
-    assert_eq!(rt; size_long_string(&[98])?, 5);
-    assert_eq!(rt; size_byte_array(&bytes)?, 5);
     let at = put_short_string(&mut buf, 0, &short);
     let at = put_long_string(&mut buf, at, &[98]);
-    assert_eq!(rt; put_byte_array(&mut buf, at, &bytes), 12);
-    assert_eq!(rt; buf, [1, 97, 0, 0, 0, 1, 98, 0, 0, 0, 1, 99, 9]);
-    Ok(())
+    same(put_byte_array(&mut buf, at, &bytes), 12)?;
+    same(buf, [1, 97, 0, 0, 0, 1, 98, 0, 0, 0, 1, 99, 9])
 }
 
 #[test]
@@ -151,9 +168,9 @@ fn the_first_flag_is_the_lowest_bit(rt: HostRuntime) -> Result<(), Fail> {
     assert_eq!(rt; out.as_slice(), [1].as_slice());
     assert_eq!(rt; parse_flags(&[253], 2)?, (1, flags.clone()?));
     assert_eq!(rt; size_flags(&flags)?, 1);
-    let mut buf = [9, 9];
+    let mut buf = [9];
     assert_eq!(rt; put_flags(&mut buf, 0, &flags), 1);
-    assert_eq!(rt; buf, [1, 9]);
+    assert_eq!(rt; buf, [1]);
     Ok(())
 }
 
