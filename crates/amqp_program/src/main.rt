@@ -43,3 +43,5 @@ fn main(rt: HostRuntime) -> ExitCode {
 mod hostile_tests;
 #[cfg(test)]
 mod tests;
+#[cfg(test)]
+mod tidy_tests;

@@ -16,3 +16,5 @@ mod refused;
 mod rows;
 #[cfg(test)]
 mod streams;
+#[cfg(test)]
+mod tidy;
