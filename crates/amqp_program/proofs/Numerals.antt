@@ -120,12 +120,13 @@ named_few word k e =
     let n = digits_value 10 word in
     few_by (bytes_eq word (decimal n)) (nat_le n most_frames) n k e (at_most n)
 
-one_word : (hex raw help version : Bool) (n : ℕ) → (if hex then Some commands.Hex else (if raw then Some commands.Raw else (if help then Some commands.Help else (if version then Some commands.Version else None)))) ≡ Some (commands.Make n) → ⊥
-one_word true raw help version n e = cc
-one_word false true help version n e = cc
-one_word false false true version n e = cc
-one_word false false false true n e = cc
-one_word false false false false n e = cc
+one_word : (hex raw tidy help version : Bool) (n : ℕ) → (if hex then Some commands.Hex else (if raw then Some commands.Raw else (if tidy then Some commands.Tidy else (if help then Some commands.Help else (if version then Some commands.Version else None))))) ≡ Some (commands.Make n) → ⊥
+one_word true raw tidy help version n e = cc
+one_word false true tidy help version n e = cc
+one_word false false true help version n e = cc
+one_word false false false true version n e = cc
+one_word false false false false true n e = cc
+one_word false false false false false n e = cc
 
 two_words : (make : Bool) (named : Option ℕ) (n : ℕ) → (if make then option_map commands.Make named else None) ≡ Some (commands.Make n) → named ≡ Some n
 two_words true (Some k) n e = cc
@@ -134,6 +135,6 @@ two_words false named n e = absurd cc
 
 pub make_few : (words : List (List ℕ)) (n : ℕ) → command_of words ≡ Some (commands.Make n) → n ≤ most_frames
 make_few [] n e = absurd cc
-make_few (word ∷ []) n e = absurd (one_word (bytes_eq word (codes "hex")) (bytes_eq word (codes "raw")) (bytes_eq word (codes "--help")) (bytes_eq word (codes "--version")) n e)
+make_few (word ∷ []) n e = absurd (one_word (bytes_eq word (codes "hex")) (bytes_eq word (codes "raw")) (bytes_eq word (codes "tidy")) (bytes_eq word (codes "--help")) (bytes_eq word (codes "--version")) n e)
 make_few (word ∷ number ∷ []) n e = named_few number n (two_words (bytes_eq word (codes "make")) (frames_named number) n e)
 make_few (word ∷ number ∷ other ∷ more) n e = absurd cc
