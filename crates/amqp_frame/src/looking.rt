@@ -40,6 +40,7 @@ pub enum Look {
 }
 
 /// Looks at the front of some bytes for a frame, with a limit in bytes on its payload.
+#[inline(always)]
 #[tactic(auto, using(crate::proofs::Looked::looked_behind_one), unfolding(crate::specs::Outer::outer, crate::specs::Outer::behind_type))]
 pub fn look_at(max_payload: Option<u32>, bytes: &[u8]) -> Look
     ensures value { outer max_payload bytes.now ≡ looked result bytes.now }

@@ -40,7 +40,7 @@ fn reordered_slot(alloc: Global, out: &mut Vec<u8>, shape: Shape, i: &[u8]) -> O
     if shape == Shape::Table {
         return reordered_table(alloc, out, i);
     }
-    let n = strict_slot(shape, i)?;
+    let n = strict_slot(&shape, i)?;
     append(out, &i[..n])?;
     Some(n)
 }

@@ -35,6 +35,37 @@ fn put_read(
     Ok(end)
 }
 
+/// Puts the canonical bytes of a frame that does not come in them. This stands apart so that the way
+/// of most frames is short.
+#[inline(never)]
+#[tactic(auto, using(crate::proofs::Sizes::framed_length))]
+fn put_rewritten(
+    alloc: Global,
+    buf: &mut [u8],
+    at: usize,
+    raw: AMQPRawFrame<'_>,
+) -> Result<usize, ParserError>
+    requires few { length raw.payload.now < 2 ^ 32 }
+    requires room { at + length raw.payload.now + 8 ≤ length buf.old }
+    ensures whole { Rewrites buf.old buf.new at (whole (raw_of raw.entry)) result }
+    ensures within { IfOk result (λ end. end ≤ at + length raw.entry.payload.now + 8) }
+    ensures inside { IfErr result IsPayloadError }
+    ensures memory { result ≡ Err ParserError.NoMemory → OwnsMemory raw.entry.frame_type }
+{
+    let (channel_id, payload) = (raw.channel_id, raw.payload);
+    match raw.frame_type {
+        AMQPFrameType::Method => match reordered_method(alloc, payload) {
+            Some(written) => Ok(put_framed(buf, at, 1, channel_id, &written)),
+            None => put_read(alloc, buf, at, raw),
+        },
+        AMQPFrameType::Header => match reordered_content_header(alloc, payload) {
+            Some(written) => Ok(put_framed(buf, at, 2, channel_id, &written)),
+            None => put_read(alloc, buf, at, raw),
+        },
+        _ => put_read(alloc, buf, at, raw),
+    }
+}
+
 /// Puts the canonical bytes of the frame that a whole payload is at a place of a slice, and answers
 /// the place behind them. Only methods and content headers that come otherwise spelled take memory.
 #[tactic(auto, using(crate::proofs::Sizes::framed_length))]
@@ -61,15 +92,7 @@ pub fn put_canonical(
         AMQPFrameType::Header if is_strict_content_header(payload) => {
             Ok(put_framed(buf, at, 2, channel_id, payload))
         }
-        AMQPFrameType::Method => match reordered_method(alloc, payload) {
-            Some(written) => Ok(put_framed(buf, at, 1, channel_id, &written)),
-            None => put_read(alloc, buf, at, raw),
-        },
-        AMQPFrameType::Header => match reordered_content_header(alloc, payload) {
-            Some(written) => Ok(put_framed(buf, at, 2, channel_id, &written)),
-            None => put_read(alloc, buf, at, raw),
-        },
         AMQPFrameType::Body => Ok(put_framed(buf, at, 3, channel_id, payload)),
-        _ => put_read(alloc, buf, at, raw),
+        _ => put_rewritten(alloc, buf, at, raw),
     }
 }

@@ -97,10 +97,11 @@ fn reserved_long(constant: u32, i: &[u8]) -> Option<usize>
 }
 
 /// How many bytes a slot takes at the front, where it stands there as it is written.
-pub(crate) fn strict_slot(shape: Shape, i: &[u8]) -> Option<usize>
-    ensures { IfSome result (λ n. StrictFront (SpellsSlot strict (slot_of shape)) i.now n) }
+#[inline(always)]
+pub(crate) fn strict_slot(shape: &Shape, i: &[u8]) -> Option<usize>
+    ensures { IfSome result (λ n. StrictFront (SpellsSlot strict (slot_of shape.now)) i.now n) }
 {
-    match shape {
+    match *shape {
         Shape::Octet => some_bytes(1, i),
         Shape::Short => some_bytes(2, i),
         Shape::Long => some_bytes(4, i),
@@ -123,7 +124,7 @@ fn strict_slots(shapes: &[Shape], i: &[u8]) -> Option<usize>
 {
     let mut at = 0;
     for shape in shapes {
-        at += strict_slot(*shape, &i[at..])?;
+        at += strict_slot(shape, &i[at..])?;
     }
     Some(at)
 }
@@ -155,7 +156,7 @@ fn strict_optional(mask: u16, bit: u16, shape: Shape, i: &[u8], at: usize) -> Op
     if (mask >> bit) & 1 == 0 {
         return Some(at);
     }
-    let n = strict_slot(shape, &i[at..])?;
+    let n = strict_slot(&shape, &i[at..])?;
     Some(at + n)
 }
 

@@ -68,7 +68,7 @@ impl FrameReader {
 
     /// Where the frame at the front of the held bytes lies in them; `None` where more bytes are
     /// needed. Nothing is read.
-    #[inline]
+    #[inline(always)]
     pub fn buffered(&self) -> Result<Option<FrameLayout>, ReadError>
         ensures finds { Finds self.now.limit self.now.held result }
         ensures room { length self.now.held ≤ self.now.limit + 8 }
@@ -87,7 +87,7 @@ impl FrameReader {
     }
 
     /// The frame at the front of the held bytes, whose payload is borrowed out of them.
-    #[inline]
+    #[inline(always)]
     pub fn frame(&self, layout: FrameLayout) -> AMQPRawFrame<'_>
         requires { Lies self.now.limit self.now.held layout }
         ensures frame { raw_of result ≡ laid_out layout self.now.held }
@@ -102,7 +102,7 @@ impl FrameReader {
     }
 
     /// Drops the frame at the front of the held bytes.
-    #[inline]
+    #[inline(always)]
     pub fn consume(&mut self, layout: FrameLayout)
         requires { Lies self.old.limit self.old.held layout }
         ensures limit { self.new.limit ≡ self.old.limit }
