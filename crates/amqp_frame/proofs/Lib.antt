@@ -6,6 +6,7 @@ pub mod Typed
 pub mod Spelled
 pub mod Made
 pub mod Outlined
+pub mod Tidied
 pub mod Rows
 pub mod Strictness
 pub mod ReadingBack

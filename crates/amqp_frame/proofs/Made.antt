@@ -20,19 +20,12 @@ use Rattle.amqp_frame.specs.Frames.{Frame, Proto, Meth, Head, Body, Beat, BadBea
 use Rattle.amqp_frame.specs.Outer.{type_of, begins_as, is_above, payload_length, judge_version, version_at, ended_payload, judge_raw, behind_type, outer}
 use Rattle.amqp_frame.specs.Canonical.{payload_of}
 use Rattle.amqp_frame.specs.Verdicts.{all_of, whole_as, is_tidy_as, is_written_for, is_at, judged, judged_frame, verdict}
-use Rattle.amqp_frame.specs.Spelling.{head, framed, proto, IsBeatPayload, IsFramed, IsBeat, Spells, IsWithin}
+use Rattle.amqp_frame.specs.Spelling.{head, framed, proto, byte_of, IsBeatPayload, IsFramed, IsBeat, Spells, IsWithin}
 use Rattle.amqp_frame.proofs.OuterLook.{mark, typed, outer-typed, outer-none, behind_byte-took}
 use Rattle.amqp_frame.proofs.Typed.{method_at, method_spells, header_at, header_spells}
 use Rattle.amqp_frame.proofs.Spelled.{raw_as, framed-length}
 
 -- ---- type bytes
-
-abbrev pub byte_of : AMQPFrameType → ℕ
-byte_of kinds.ProtocolHeader = 65
-byte_of kinds.Method = 1
-byte_of kinds.Header = 2
-byte_of kinds.Body = 3
-byte_of kinds.Heartbeat = 8
 
 abbrev no_kind : Option AMQPFrameType
 no_kind = None
@@ -167,7 +160,7 @@ at_beat strict channel payload f w none e =
     (bytes_eq-Decides payload (payload_of f)).0 same ∙ none
 
 -- the frame that a payload was read as, by what was read of it
-read_as : {A : Type 0} (make : A → Frame) (read : Result A Fault) (f : Frame) → read_map make read ≡ Ok f → (x : A) × (read ≡ Ok x) × (make x ≡ f)
+pub read_as : {A : Type 0} (make : A → Frame) (read : Result A Fault) (f : Frame) → read_map make read ≡ Ok f → (x : A) × (read ≡ Ok x) × (make x ≡ f)
 read_as make (Ok x) f h = (x, refl, cc)
 read_as make (Err bad) f h = absurd cc
 
@@ -207,7 +200,7 @@ spells_as level bytes kinds.Heartbeat channel payload f fits is_framed is_whole 
 
 -- ---- the verdict
 
-judged_frame-is : (at_level : Bool) (r : Result Frame Fault) (n : ℕ) (f : Frame) (k : ℕ) → judged_frame at_level r n ≡ took f k → (at_level ≡ true) × (r ≡ Ok f) × (n ≡ k)
+pub judged_frame-is : (at_level : Bool) (r : Result Frame Fault) (n : ℕ) (f : Frame) (k : ℕ) → judged_frame at_level r n ≡ took f k → (at_level ≡ true) × (r ≡ Ok f) × (n ≡ k)
 judged_frame-is true (Ok g) n f k e = (refl, cc, cc)
 judged_frame-is false (Ok g) n f k e = absurd cc
 judged_frame-is true (Err bad) n f k e = absurd cc

@@ -78,10 +78,10 @@ beat_is_raw : (m : Option ℕ) (rest : List ℕ) → behind_type m kinds.Heartbe
 unfolding behind_type
 beat_is_raw m rest = refl
 
-outer-method : (m : Option ℕ) (bytes : List ℕ) (channel : ℕ) (payload : List ℕ) → IsFramed bytes 1 channel payload → IsWithin m bytes → outer m bytes ≡ took (raw_as kinds.Method channel payload) (length bytes)
+pub outer-method : (m : Option ℕ) (bytes : List ℕ) (channel : ℕ) (payload : List ℕ) → IsFramed bytes 1 channel payload → IsWithin m bytes → outer m bytes ≡ took (raw_as kinds.Method channel payload) (length bytes)
 outer-method m bytes channel payload f within = outer-spelled m kinds.Method 1 channel bytes payload refl (method_is_raw m) f within
 
-outer-header : (m : Option ℕ) (bytes : List ℕ) (channel : ℕ) (payload : List ℕ) → IsFramed bytes 2 channel payload → IsWithin m bytes → outer m bytes ≡ took (raw_as kinds.Header channel payload) (length bytes)
+pub outer-header : (m : Option ℕ) (bytes : List ℕ) (channel : ℕ) (payload : List ℕ) → IsFramed bytes 2 channel payload → IsWithin m bytes → outer m bytes ≡ took (raw_as kinds.Header channel payload) (length bytes)
 outer-header m bytes channel payload f within = outer-spelled m kinds.Header 2 channel bytes payload refl (header_is_raw m) f within
 
 pub outer-body : (m : Option ℕ) (bytes : List ℕ) (channel : ℕ) (payload : List ℕ) → IsFramed bytes 3 channel payload → IsWithin m bytes → outer m bytes ≡ took (raw_as kinds.Body channel payload) (length bytes)

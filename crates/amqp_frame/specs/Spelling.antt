@@ -4,7 +4,9 @@ use Rattle.amqp_types.specs.Levels.{Level, plain, tidy, strict}
 use Rattle.amqp_types.specs.Numbers.{bytes2, bytes4, number_bytes}
 use Rattle.amqp_types.specs.MethodSpelling.{SpellsPayload}
 use Rattle.amqp_types.specs.ContentHeaders.{SpellsContentHeader}
-use Rattle.amqp_frame.specs.Frames.{Frame, Proto, Meth, Head, Body, Beat, BadBeat}
+use Rattle.amqp_frame.specs.declared.frame_type.AMQPFrameType.{AMQPFrameType}
+use Rattle.amqp_frame.specs.declared.frame_type.AMQPFrameType.TheVariants as kinds
+use Rattle.amqp_frame.specs.Frames.{Frame, Proto, Meth, Head, Body, Beat, BadBeat, Raw}
 
 -- what stands in front of n bytes of payload
 abbrev pub head : ℕ → ℕ → ℕ → List ℕ
@@ -17,6 +19,26 @@ framed type channel payload = head type channel (length payload) ++ (payload ++ 
 -- a protocol header: `AMQP`, 0 and the version
 abbrev pub proto : ℕ → ℕ → ℕ → List ℕ
 proto major minor revision = 65 ∷ 77 ∷ 81 ∷ 80 ∷ 0 ∷ major ∷ minor ∷ revision ∷ []
+
+-- the first byte of a frame
+abbrev pub byte_of : AMQPFrameType → ℕ
+byte_of kinds.ProtocolHeader = 65
+byte_of kinds.Method = 1
+byte_of kinds.Header = 2
+byte_of kinds.Body = 3
+byte_of kinds.Heartbeat = 8
+
+-- the bytes of a frame of this type with this payload, which of a protocol header is the version
+abbrev pub bytes_as : AMQPFrameType → ℕ → List ℕ → List ℕ
+bytes_as kinds.ProtocolHeader channel payload = 65 ∷ 77 ∷ 81 ∷ 80 ∷ 0 ∷ payload
+bytes_as kinds.Method channel payload = framed (byte_of kinds.Method) channel payload
+bytes_as kinds.Header channel payload = framed (byte_of kinds.Header) channel payload
+bytes_as kinds.Body channel payload = framed (byte_of kinds.Body) channel payload
+bytes_as kinds.Heartbeat channel payload = framed (byte_of kinds.Heartbeat) channel payload
+
+-- all bytes of a lent frame
+abbrev pub raw_bytes : Raw → List ℕ
+raw_bytes raw = bytes_as raw.kind raw.channel raw.payload
 
 -- these bytes are a frame of this type, with this payload
 pub record IsFramed (bytes : List ℕ) (type channel : ℕ) (payload : List ℕ) : Type 0 where

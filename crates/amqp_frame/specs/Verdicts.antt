@@ -15,6 +15,12 @@ use Rattle.amqp_frame.specs.Frames.{Frame, Proto, Meth, Head, Body, Raw, beat_on
 use Rattle.amqp_frame.specs.Canonical.{payload_of}
 use Rattle.amqp_frame.specs.Outer.{outer}
 
+-- something was taken
+abbrev pub IsTaken : {A : Type 0} → Judged A → Type 0
+IsTaken (took x n) = Unit {0}
+IsTaken past = ⊥
+IsTaken (fault bad) = ⊥
+
 -- What is read of a payload of n bytes that are all there: what would want more is short, and bytes behind what was taken trail.
 abbrev pub filling : {A : Type 0} → ℕ → Judged A → Result A Fault
 filling n past = Err short_payload

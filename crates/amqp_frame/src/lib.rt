@@ -18,6 +18,7 @@ mod rewriting;
 mod shapes;
 mod strict;
 mod strict_tables;
+mod tidiness;
 mod version;
 
 pub use amqp_types::{GenError, ParserError};
@@ -41,4 +42,5 @@ pub use parsing::{
 };
 pub use raw_frame::AMQPRawFrame;
 pub use rewriting::put_canonical;
+pub use tidiness::is_tidy;
 pub use version::ProtocolVersion;

@@ -4,7 +4,7 @@ ghost use Rattle.std.specs.Prelude.{◌≡◌, ◌≤◌, length, IsOk};
 ghost use Rattle.amqp_types.specs.Tidiness.{short_at};
 ghost use Rattle.amqp_frame.specs.Frames.{Frame, frame_of, raw_of};
 ghost use Rattle.amqp_frame.specs.Outlines.{IsEnough, long_long_at, outline_at, outline_channel, outline_of};
-ghost use Rattle.amqp_frame.specs.Verdicts.{whole};
+ghost use Rattle.amqp_frame.specs.Verdicts.{whole, whole_as};
 
 use crate::frame::AMQPFrame;
 use crate::frame_type::AMQPFrameType;
@@ -38,7 +38,9 @@ pub enum FrameOutline {
     },
 
     /// A heartbeat, also one on a channel where none belongs.
-    Heartbeat { channel_id: ChannelId },
+    Heartbeat {
+        channel_id: ChannelId,
+    },
 }
 
 impl FrameOutline {
@@ -106,18 +108,20 @@ fn header_outline(channel_id: ChannelId, payload: &[u8]) -> FrameOutline
         channel_id,
         class_id: u16::from_be_bytes([payload[0], payload[1]]),
         body_size: u64::from_be_bytes([
-            payload[4], payload[5], payload[6], payload[7], payload[8], payload[9], payload[10],
+            payload[4],
+            payload[5],
+            payload[6],
+            payload[7],
+            payload[8],
+            payload[9],
+            payload[10],
             payload[11],
         ]),
     }
 }
 
 /// The outline of a frame of this type, out of the front of its payload.
-fn outline_at(
-    frame_type: AMQPFrameType,
-    channel_id: ChannelId,
-    payload: &[u8],
-) -> FrameOutline
+fn outline_at(frame_type: AMQPFrameType, channel_id: ChannelId, payload: &[u8]) -> FrameOutline
     requires { IsEnough frame_type payload.now }
     ensures { result ≡ outline_at frame_type channel_id payload.now }
 {
@@ -133,11 +137,19 @@ fn outline_at(
     }
 }
 
+/// The outline of the frame that a whole payload of this type is.
+fn outline_whole(frame_type: AMQPFrameType, channel_id: ChannelId, payload: &[u8]) -> FrameOutline
+    requires { IsOk (whole_as frame_type channel_id payload.now) }
+    ensures { (frame : Frame) → whole_as frame_type channel_id payload.now ≡ Ok frame → result ≡ outline_of frame }
+{
+    outline_at(frame_type, channel_id, payload)
+}
+
 /// The outline of the frame that a whole payload is. Only ids and sizes are read of the payload,
 /// and no memory is taken.
 pub fn outline_raw(raw: AMQPRawFrame<'_>) -> FrameOutline
     requires whole { IsOk (whole (raw_of raw)) }
     ensures { (frame : Frame) → whole (raw_of raw.entry) ≡ Ok frame → result ≡ outline_of frame }
 {
-    outline_at(raw.frame_type, raw.channel_id, raw.payload)
+    outline_whole(raw.frame_type, raw.channel_id, raw.payload)
 }

@@ -1,6 +1,6 @@
 //! Tests that tell, without taking memory, that a payload stands as it is written.
 
-ghost use Rattle.std.specs.Prelude.{◌≡◌, ◌≤◌, ◌<◌, ◌∷◌, [], ℕ, length, take, drop, IfSome, IsTrue};
+ghost use Rattle.std.specs.Prelude.{◌≡◌, ◌≤◌, ◌<◌, ◌∷◌, [], ℕ, length, take, drop, nat_lt, if◌then◌else◌, IfSome, IsTrue};
 ghost use Rattle.amqp_types.specs.Levels.{strict};
 ghost use Rattle.amqp_types.specs.Numbers.{bytes2, bytes4};
 ghost use Rattle.amqp_types.specs.Flags.{flag_at};
@@ -19,8 +19,9 @@ use crate::strict_tables::strict_table;
 use amqp_types::{parse_long_bytes, parse_long_uint, parse_short_str, parse_short_uint};
 
 /// So many bytes, where they are there.
-fn some_bytes(count: usize, i: &[u8]) -> Option<usize>
-    ensures { IfSome result (λ n. (n ≡ count) × (n ≤ length i.now)) }
+pub(crate) fn some_bytes(count: usize, i: &[u8]) -> Option<usize>
+    ensures value { result ≡ (if nat_lt (length i.now) count then None else Some count) }
+    ensures there { IfSome result (λ n. (n ≡ count) × (n ≤ length i.now)) }
 {
     if i.len() < count { None } else { Some(count) }
 }

@@ -24,3 +24,5 @@ mod refused;
 mod rewriting;
 #[cfg(test)]
 mod texts;
+#[cfg(test)]
+mod tidiness;

@@ -1,10 +1,7 @@
 //! Frames without their fields, from what was read and from what is lent.
 
-use amqp_frame::{
-    AMQPFrame,
-    AMQPFrameType::{self, Body, Header, Heartbeat, Method, ProtocolHeader},
-    AMQPRawFrame, FrameOutline, outline_raw, parse_payload, release,
-};
+use amqp_frame::AMQPFrameType::{self, Body, Header, Heartbeat, Method, ProtocolHeader};
+use amqp_frame::{AMQPFrame, AMQPRawFrame, FrameOutline, outline_raw, parse_payload, release};
 use amqp_vectors::asking::same;
 use std::alloc::Global;
 use std::test::Fail;
@@ -43,11 +40,7 @@ const ROWS: [Row; 5] = [
             length: 5,
         },
     ),
-    (
-        Heartbeat,
-        &[7],
-        FrameOutline::Heartbeat { channel_id: 258 },
-    ),
+    (Heartbeat, &[7], FrameOutline::Heartbeat { channel_id: 258 }),
 ];
 
 /// The outline of a frame, which is let go.

@@ -18,16 +18,16 @@ some_constant : (form : Form) (constant : List Item) (i : List ℕ) (r : Option 
 some_constant form constant i r least h = IfSome_then r h (λ n found. constant_front form constant i n least found.1 found.0)
 
 pub returns-in-Octet : goal.returns-in-Octet
-returns-in-Octet c = rw c.in-Octet.is (some_number bytes1 c.args.i.now c.some_bytes.result (λ i. omega (arith, c.type_inv.i i)) c.some_bytes.ensures)
+returns-in-Octet c = rw c.in-Octet.is (some_number bytes1 c.args.i.now c.some_bytes.result (λ i. omega (arith, c.type_inv.i i)) c.some_bytes.ensures.there)
 
 pub returns-in-Short : goal.returns-in-Short
-returns-in-Short c = rw c.in-Short.is (some_number bytes2 c.args.i.now c.some_bytes-in-Short.result (λ i. omega (arith, c.type_inv.i i)) c.some_bytes-in-Short.ensures)
+returns-in-Short c = rw c.in-Short.is (some_number bytes2 c.args.i.now c.some_bytes-in-Short.result (λ i. omega (arith, c.type_inv.i i)) c.some_bytes-in-Short.ensures.there)
 
 pub returns-in-Long : goal.returns-in-Long
-returns-in-Long c = rw c.in-Long.is (some_number bytes4 c.args.i.now c.some_bytes-in-Long.result (λ i. omega (arith, c.type_inv.i i)) c.some_bytes-in-Long.ensures)
+returns-in-Long c = rw c.in-Long.is (some_number bytes4 c.args.i.now c.some_bytes-in-Long.result (λ i. omega (arith, c.type_inv.i i)) c.some_bytes-in-Long.ensures.there)
 
 pub returns-in-LongLong : goal.returns-in-LongLong
-returns-in-LongLong c = rw c.in-LongLong.is (some_number bytes8 c.args.i.now c.some_bytes-in-LongLong.result (λ i. omega (arith, c.type_inv.i i)) c.some_bytes-in-LongLong.ensures)
+returns-in-LongLong c = rw c.in-LongLong.is (some_number bytes8 c.args.i.now c.some_bytes-in-LongLong.result (λ i. omega (arith, c.type_inv.i i)) c.some_bytes-in-LongLong.ensures.there)
 
 pub returns-in-ReservedFlag : goal.returns-in-ReservedFlag
 unfolding form_bytes

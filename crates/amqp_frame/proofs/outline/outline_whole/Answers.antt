@@ -1,0 +1,12 @@
+use Rattle.std.proofs.Common.{refl, ◌∙◌, arith}
+use Rattle.amqp_frame.specs.Verdicts.{whole_as}
+use Rattle.amqp_frame.proofs.Outlined.{enough_whole, outlined}
+use Rattle.amqp_frame.proofs.outline.outline_whole.Goals as goal
+
+pub outline_at-requires : goal.outline_at-requires
+outline_at-requires c =
+    let read = whole_as c.args.frame_type c.args.channel_id c.args.payload.now in
+    enough_whole c.args.frame_type c.args.channel_id c.args.payload.now read (λ i. omega (arith, c.type_inv.payload i)) refl c.requires
+
+pub returns : goal.returns
+returns c = λ frame h. c.outline_at.ensures ∙ (outlined c.args.frame_type c.args.channel_id c.args.payload.now frame (λ i. omega (arith, c.type_inv.payload i)) h).outline_is

@@ -1,0 +1,96 @@
+//! Which whole payloads are tidy.
+
+use amqp_frame::AMQPFrameType::{self, Body, Header, Heartbeat, Method, ProtocolHeader};
+use amqp_frame::{AMQPRawFrame, is_tidy, parse_payload, release};
+use amqp_vectors::asking::same;
+use std::alloc::Global;
+use std::test::Fail;
+
+/// A type, a payload, and whether it is tidy.
+type Row = (AMQPFrameType, &'static [u8], bool);
+
+/// Frames that are no methods.
+const FRAMES: [Row; 9] = [
+    (ProtocolHeader, &[0, 9, 1], true),
+    (Body, &[104, 101, 108, 108, 111], true),
+    (Heartbeat, &[], true),
+    (Heartbeat, &[7], false),
+    // A content header with the property `delivery_mode`.
+    (
+        Header,
+        &[0, 60, 0, 0, 0, 0, 0, 0, 0, 0, 0, 5, 16, 0, 2],
+        true,
+    ),
+    // A weight, and both unused bits of the mask; then each by itself.
+    (Header, &[0, 60, 0, 7, 0, 0, 0, 0, 0, 0, 0, 5, 0, 3], false),
+    (Header, &[0, 60, 1, 0, 0, 0, 0, 0, 0, 0, 0, 5, 0, 0], false),
+    (Header, &[0, 60, 0, 0, 0, 0, 0, 0, 0, 0, 0, 5, 0, 1], false),
+    (Header, &[0, 60, 0, 0, 0, 0, 0, 0, 0, 0, 0, 5, 0, 2], false),
+];
+
+/// Methods, with reserved slots of each form.
+const METHODS: [Row; 12] = [
+    // `queue.declare` of `some_queue`.
+    (
+        Method,
+        &[
+            0, 50, 0, 10, 0, 0, 10, 115, 111, 109, 101, 95, 113, 117, 101, 117, 101, 31, 0, 0, 0, 0,
+        ],
+        true,
+    ),
+    // A key twice, and a true value that is spelled 7.
+    (
+        Method,
+        &[
+            0, 50, 0, 10, 0, 0, 0, 31, 0, 0, 0, 8, 1, 97, 116, 0, 1, 97, 116, 7,
+        ],
+        true,
+    ),
+    // A reserved number of 2 bytes.
+    (Method, &[0, 30, 0, 11, 0, 1], true),
+    (Method, &[0, 30, 0, 11, 0, 9], false),
+    // A reserved number of 4 bytes.
+    (Method, &[0, 60, 0, 10, 0, 0, 0, 0, 0, 7, 1], true),
+    (Method, &[0, 60, 0, 10, 0, 0, 0, 1, 0, 7, 1], false),
+    // Spare bits beside one flag.
+    (Method, &[0, 85, 0, 10, 255], false),
+    // Reserved strings, short and long.
+    (Method, &[0, 20, 0, 10, 1, 120], false),
+    (Method, &[0, 20, 0, 11, 0, 0, 0, 0], true),
+    (Method, &[0, 20, 0, 11, 0, 0, 0, 1, 120], false),
+    // A reserved flag, and a reserved string in front of it.
+    (Method, &[0, 10, 0, 40, 1, 47, 0, 1], false),
+    (Method, &[0, 10, 0, 40, 1, 47, 1, 120, 1], false),
+];
+
+/// Whether the frame that a short payload is on channel 1 is tidy.
+fn told(alloc: Global, frame_type: AMQPFrameType, payload: &[u8]) -> Result<bool, Fail> {
+    if payload.len() > 64 {
+        return Err(Fail::new("a row is long"));
+    }
+    let raw = AMQPRawFrame {
+        frame_type,
+        channel_id: 1,
+        payload,
+    };
+    release(parse_payload(alloc, raw)?);
+    Ok(is_tidy(raw))
+}
+
+/// Fails unless each row is told as it says.
+fn are_told(alloc: Global, rows: &[Row]) -> Result<(), Fail> {
+    for (frame_type, payload, tidy) in rows {
+        same(told(alloc, *frame_type, payload)?, *tidy)?;
+    }
+    Ok(())
+}
+
+#[test]
+fn tidy_frames_are_told(rt: HostRuntime) -> Result<(), Fail> {
+    are_told(rt.alloc(), &FRAMES)
+}
+
+#[test]
+fn tidy_methods_are_told(rt: HostRuntime) -> Result<(), Fail> {
+    are_told(rt.alloc(), &METHODS)
+}
