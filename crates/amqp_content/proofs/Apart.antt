@@ -121,23 +121,23 @@ stands_at max frames frame before after false e old stays more others = λ chann
     subst (λ (k : Option Kept). AssemblerStands max (of_channel outline_of channel (frames ++ frame ∷ [])) k) (ap (λ cs. kept_at cs channel) (sym (stays refl)))
     (subst (λ (fs : List Frame). AssemblerStands max fs (kept_at before channel)) (sym (of_channel-out channel frames frame (of_none channel frame e))) (old channel))
 stands_at max frames frame before after true e old stays more others = λ channel. elim (cases_eq channel (channel_id_of frame)) [
-    | inl same ↦
-        subst (λ (c : ℕ). AssemblerStands max (of_channel outline_of c (frames ++ frame ∷ [])) (kept_at after c)) (sym same)
-        (subst (λ (fs : List Frame). AssemblerStands max fs (kept_at after (channel_id_of frame))) (sym (of_channel-in (channel_id_of frame) frames frame (of_own frame e)))
-        (more refl (of_channel outline_of (channel_id_of frame) frames) (old (channel_id_of frame))))
-    | inr apart ↦
-        subst (λ (k : Option Kept). AssemblerStands max (of_channel outline_of channel (frames ++ frame ∷ [])) k) (sym (others channel apart))
-        (subst (λ (fs : List Frame). AssemblerStands max fs (kept_at before channel)) (sym (of_channel-out channel frames frame (of_other channel frame apart))) (old channel))
-  ]
+  | inl same ↦
+      subst (λ (c : ℕ). AssemblerStands max (of_channel outline_of c (frames ++ frame ∷ [])) (kept_at after c)) (sym same)
+      (subst (λ (fs : List Frame). AssemblerStands max fs (kept_at after (channel_id_of frame))) (sym (of_channel-in (channel_id_of frame) frames frame (of_own frame e)))
+      (more refl (of_channel outline_of (channel_id_of frame) frames) (old (channel_id_of frame))))
+  | inr apart ↦
+      subst (λ (k : Option Kept). AssemblerStands max (of_channel outline_of channel (frames ++ frame ∷ [])) k) (sym (others channel apart))
+      (subst (λ (fs : List Frame). AssemblerStands max fs (kept_at before channel)) (sym (of_channel-out channel frames frame (of_other channel frame apart))) (old channel))
+]
 
 pub stands-push : (max : ℕ) (frames : List Frame) (frame : Frame) (before after : List (ℕ × Kept)) → AllStand max frames before → (is_content (outline_of frame) ≡ false → after ≡ before) → (is_content (outline_of frame) ≡ true → (fs : List Frame) → AssemblerStands max fs (kept_at before (channel_id_of frame)) → AssemblerStands max (fs ++ frame ∷ []) (kept_at after (channel_id_of frame))) → ((other : ℕ) → other ≢ channel_id_of frame → kept_at after other ≡ kept_at before other) → AllStand max (frames ++ frame ∷ []) after
 stands-push max frames frame before after old stays more others = stands_at max frames frame before after (is_content (outline_of frame)) refl old stays more others
 
 pub is_given : (max : ℕ) (frames : List Frame) (frame : Frame) (before : List (ℕ × Kept)) (outcome : Told) → AllStand max frames before → (is_content (outline_of frame) ≡ false → outcome ≡ passed frame) → (is_content (outline_of frame) ≡ true → (fs : List Frame) → AssemblerStands max fs (kept_at before (channel_id_of frame)) → IsTold max (fs ++ frame ∷ []) outcome) → IsGiven max frames frame outcome
 is_given max frames frame before outcome old outside inside = record {
-    outside = outside;
-    inside = λ e. subst (λ (fs : List Frame). IsTold max fs outcome) (sym (of_channel-in (channel_id_of frame) frames frame (of_own frame e))) (inside e (of_channel outline_of (channel_id_of frame) frames) (old (channel_id_of frame)));
-  }
+  outside = outside;
+  inside = λ e. subst (λ (fs : List Frame). IsTold max fs outcome) (sym (of_channel-in (channel_id_of frame) frames frame (of_own frame e))) (inside e (of_channel outline_of (channel_id_of frame) frames) (old (channel_id_of frame)));
+}
 
 -- ---- the loop of `assemble`
 

@@ -28,9 +28,9 @@ pub record Updated (old new : List (ℕ × Kept)) (channel : ℕ) (kept : Option
 
 pub updates_kept : (m n : BTreeMap ℕ Pending) (channel : ℕ) (w : Option Pending) → Updates nat_cmp m n channel w → Updated (map entry_kept m.entries) (map entry_kept n.entries) channel (option_map pending_kept w)
 updates_kept m n channel w h = record {
-    here = kept_at-map n.entries channel ∙ ap (option_map pending_kept) h.1;
-    others = λ other ne. kept_at-map n.entries other ∙ ap (option_map pending_kept) (h.2 other (apart channel other ne)) ∙ sym (kept_at-map m.entries other);
-  }
+  here = kept_at-map n.entries channel ∙ ap (option_map pending_kept) h.1;
+  others = λ other ne. kept_at-map n.entries other ∙ ap (option_map pending_kept) (h.2 other (apart channel other ne)) ∙ sym (kept_at-map m.entries other);
+}
 
 -- the same where the value is written in place
 pub writes_kept : (m n : BTreeMap ℕ Pending) (channel : ℕ) (v w : Pending) → kept_at m.entries channel ≡ Some v → WritesThrough nat_cmp (nat_cmp channel) m w n → Updated (map entry_kept m.entries) (map entry_kept n.entries) channel (Some (pending_kept w))

@@ -72,6 +72,7 @@ pieces-taken f m n done rest piece left h some is piece_is left_is =
     short_take xs m =
         let same : min (length xs) m ≡ min m (length xs) = omega arith in
         ap (λ k. take k xs) same ∙ take_min m xs
+
     short_drop : (xs : List ℕ) (m : ℕ) → drop (min (length xs) m) xs ≡ drop m xs
     short_drop xs m =
         let same : min (length xs) m ≡ min m (length xs) = omega arith in

@@ -32,9 +32,9 @@ module _ {X : Type 0} (outline : X → FrameOutline) (max : ℕ) where
 
   pub runs_append : {a b c : State X} {xs ys : List X} {rs ts : List (Answer X)} → Runs a xs rs b → Runs b ys ts c → Runs a (xs ++ ys) (rs ++ ts) c
   runs_append {a = a} {b = b} {c = c} {xs = xs} {ys = ys} {rs = rs} {ts = ts} h g = record {
-      answers_are = run_answers-append a xs ys ∙ ap (λ r. r ++ run_answers outline max (run_state outline max a xs) ys) h.answers_are ∙ ap (λ s. rs ++ run_answers outline max s ys) h.state_is ∙ ap (λ t. rs ++ t) g.answers_are;
-      state_is = run_state-append a xs ys ∙ ap (λ s. run_state outline max s ys) h.state_is ∙ g.state_is;
-    }
+    answers_are = run_answers-append a xs ys ∙ ap (λ r. r ++ run_answers outline max (run_state outline max a xs) ys) h.answers_are ∙ ap (λ s. rs ++ run_answers outline max s ys) h.state_is ∙ ap (λ t. rs ++ t) g.answers_are;
+    state_is = run_state-append a xs ys ∙ ap (λ s. run_state outline max s ys) h.state_is ∙ g.state_is;
+  }
 
   runs_step : (a : State X) (x : X) {b : State X} {r : Answer X} → step outline max a x ≡ (r, b) → Runs a (x ∷ []) (r ∷ []) b
   runs_step a x e = record { answers_are = ap (λ (p : Answer X × State X). p.0 ∷ []) e; state_is = ap (λ (p : Answer X × State X). p.1) e }
@@ -225,14 +225,14 @@ module _ {X : Type 0} (outline : X → FrameOutline) (max : ℕ) where
 
   reading_none : Reading outline max []
   reading_none = record {
-      units = [];
-      begun = Nothing;
-      rest = [];
-      finished = tt;
-      is_begun = tt;
-      are = refl;
-      longest = λ front back parts turn. omega (arith, ap length parts, length-append front back);
-    }
+    units = [];
+    begun = Nothing;
+    rest = [];
+    finished = tt;
+    is_begun = tt;
+    are = refl;
+    longest = λ front back parts turn. omega (arith, ap length parts, length-append front back);
+  }
 
   -- a reading of frames goes on to one more
   read_more : (xs : List X) (reading : Reading outline max xs) (x : X) (rest : List X) → reading.rest ≡ rest → Reading outline max (xs ++ x ∷ [])

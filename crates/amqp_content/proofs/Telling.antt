@@ -7,6 +7,7 @@ use Rattle.amqp_types.specs.ContentHeaders.{ContentHeader}
 use Rattle.amqp_frame.specs.Frames.{Frame, Proto, Meth, Head, Body, Beat, BadBeat, channel_id_of}
 use Rattle.amqp_frame.specs.Outlines.{outline_of}
 use Rattle.amqp_content.specs.declared.fault.ContentFault.{ContentFault}
+use Rattle.amqp_content.specs.declared.fault.ContentFault.TheVariants as faults
 use Rattle.amqp_content.specs.declared.mark.Mark.{Mark}
 use Rattle.amqp_content.specs.declared.mark.Mark.TheVariants as marks
 use Rattle.amqp_content.specs.declared.progress.Progress.{Progress}
@@ -18,7 +19,7 @@ use Rattle.amqp_content.specs.Stands.{State, At, Lost, Stands}
 use Rattle.amqp_content.specs.Marks.{progress_of}
 use Rattle.amqp_content.specs.Steps.{mark_after, step}
 use Rattle.amqp_content.specs.Messages.{method_in, header_in, bytes_of, joined}
-use Rattle.amqp_content.specs.Outcomes.{Told, told_of, Kept, message, fault, kept_of, kept_progress, told_marked, kept_marked, mark_kept, AssemblerStands, IsTold, Pushes, Takes, told}
+use Rattle.amqp_content.specs.Outcomes.{Told, told_of, Kept, message, fault, kept_of, kept_progress, told_marked, kept_marked, mark_kept, AssemblerStands, IsTold, Pushes, Takes, told, IsMessage, IsHeadedThere, with_header}
 use Rattle.amqp_content.proofs.Running.{advance}
 
 pub joined-push : (frames : List Frame) (frame : Frame) → joined (frames ++ frame ∷ []) ≡ joined frames ++ bytes_of frame
@@ -110,24 +111,47 @@ step_told max Lost frame h = told_lost max frame h
 -- an assembler that gives and keeps so keeps its promise
 pub pushes_step : (max : ℕ) (before after : Option Kept) (frame : Frame) (outcome : Told) → is_content (outline_of frame) ≡ true → outcome ≡ told_marked before frame (mark_kept max before frame) → after ≡ kept_marked before frame (mark_kept max before frame) → Pushes max before after frame outcome
 pushes_step max before after frame outcome content gives keeps = record {
-    gives = λ frames h.
-        let step = step_told max h.state frame content in
-        let mark = ap (λ p. mark_after max p (outline_of frame)) (same_progress h.state) in
-        record {
-          answer = _;
-          last = (advance outline_of max frames h.state frame h.stands).last;
-          is = gives ∙ ap (λ k. told_marked k frame (mark_kept max k frame)) h.is ∙ ap (told_marked (kept_of h.state) frame) mark ∙ sym step.told_is;
-        };
-    stands = λ frames h.
-        let step = step_told max h.state frame content in
-        let mark = ap (λ p. mark_after max p (outline_of frame)) (same_progress h.state) in
-        record {
-          state = _;
-          stands = (advance outline_of max frames h.state frame h.stands).stands;
-          is = keeps ∙ ap (λ k. kept_marked k frame (mark_kept max k frame)) h.is ∙ ap (kept_marked (kept_of h.state) frame) mark ∙ sym step.kept_is;
-        };
-  }
+  gives = λ frames h.
+      let step = step_told max h.state frame content in
+      let mark = ap (λ p. mark_after max p (outline_of frame)) (same_progress h.state) in
+      record {
+        answer = _;
+        last = (advance outline_of max frames h.state frame h.stands).last;
+        is = gives ∙ ap (λ k. told_marked k frame (mark_kept max k frame)) h.is ∙ ap (told_marked (kept_of h.state) frame) mark ∙ sym step.told_is;
+      };
+  stands = λ frames h.
+      let step = step_told max h.state frame content in
+      let mark = ap (λ p. mark_after max p (outline_of frame)) (same_progress h.state) in
+      record {
+        state = _;
+        stands = (advance outline_of max frames h.state frame h.stands).stands;
+        is = keeps ∙ ap (λ k. kept_marked k frame (mark_kept max k frame)) h.is ∙ ap (kept_marked (kept_of h.state) frame) mark ∙ sym step.kept_is;
+      };
+}
 
 pub pushes_if : {E : Type 0} (max : ℕ) (before after : Option Kept) (frame : Frame) (result : Result Outcome E) → is_content (outline_of frame) ≡ true → IfOk result (λ outcome. Takes before after frame (mark_kept max before frame) (told outcome)) → IfOk result (λ outcome. Pushes max before after frame (told outcome))
 pushes_if max before after frame (Ok outcome) content h = pushes_step max before after frame (told outcome) content h.gives h.keeps
 pushes_if max before after frame (Err error) content h = tt
+
+-- ---- content headers in an assembler
+
+pub headed_there : (kept : Option Kept) (header : ContentHeader) → IsMessage kept → IsHeadedThere (with_header kept header)
+headed_there None header h = absurd h
+headed_there (Some (message opening before body)) header h = tt
+headed_there (Some fault) header h = absurd h
+
+-- the mark of a content header is no fault only after an opening
+pub record IsHeaderTaken (max : ℕ) (kept : Option Kept) (channel : ℕ) (header : ContentHeader) : Type 0 where
+  pub mark_is : mark_kept max kept (Head channel header) ≡ marks.Header
+  pub begun : IsMessage kept
+
+after_opening : (max : ℕ) (opening : Method) (body : List ℕ) (channel : ℕ) (header : ContentHeader) (basic fits : Bool) → eqb header.class_id 60 ≡ basic → leb header.body_size max ≡ fits → ((bad : ContentFault) → mark_kept max (Some (message opening None body)) (Head channel header) ≡ marks.Fault bad → ⊥) → IsHeaderTaken max (Some (message opening None body)) channel header
+after_opening max opening body channel header false fits e f none = absurd (none faults.WrongClass (rw e refl))
+after_opening max opening body channel header true false e f none = absurd (none faults.BodyTooLarge (rw e (rw f refl)))
+after_opening max opening body channel header true true e f none = record { mark_is = rw e (rw f refl); begun = tt }
+
+pub header_taken : (max : ℕ) (kept : Option Kept) (channel : ℕ) (header : ContentHeader) → ((bad : ContentFault) → mark_kept max kept (Head channel header) ≡ marks.Fault bad → ⊥) → IsHeaderTaken max kept channel header
+header_taken max None channel header none = absurd (none faults.UnexpectedHeader refl)
+header_taken max (Some (message opening None body)) channel header none = after_opening max opening body channel header (eqb header.class_id 60) (leb header.body_size max) refl refl none
+header_taken max (Some (message opening (Some before) body)) channel header none = absurd (none faults.UnexpectedHeader refl)
+header_taken max (Some fault) channel header none = absurd (none faults.Faulted refl)

@@ -7,11 +7,11 @@ use Rattle.amqp_content.specs.declared.progress.Progress.{Progress}
 use Rattle.amqp_content.specs.declared.progress.Progress.TheVariants as kept
 use Rattle.amqp_content.specs.Units.{is_content, is_opening_id, size_in, count_in, bytes_in, Begun, Nothing, Opened, Headed}
 use Rattle.amqp_content.specs.Answers.{Answer, IsLastAnswer}
-use Rattle.amqp_content.specs.Stands.{State, At, Lost, Stands}
+use Rattle.amqp_content.specs.Stands.{State, At, Lost, Stands, kept_at}
 use Rattle.amqp_content.specs.Marks.{itself, begun_progress, progress_of, mark_of, TrackerStands, IsMarked, Tracks}
 use Rattle.amqp_content.specs.Steps.{mark_after, progress_marked, progress_after, begun_with, step}
 use Rattle.amqp_content.proofs.Moving.{bytes_in-push}
-use Rattle.amqp_content.proofs.Running.{advance}
+use Rattle.amqp_content.proofs.Running.{advance, stands_nothing}
 
 module _ {X : Type 0} (outline : X → FrameOutline) (max : ℕ) where
   -- the mark of a step, and what is kept after it
@@ -68,19 +68,22 @@ module _ {X : Type 0} (outline : X → FrameOutline) (max : ℕ) where
 -- a tracker that marks and keeps so keeps its promise
 pub tracks_step : (max : ℕ) (before after : Option Progress) (outline : FrameOutline) (mark : Mark) → is_content outline ≡ true → mark ≡ mark_after max before outline → after ≡ progress_marked before outline mark → Tracks max before after outline mark
 tracks_step max before after outline mark content is kept = record {
-    marked = λ outlines h.
-        let step = step_marked_is itself max h.state outline content in
-        record {
-          answer = _;
-          last = (advance itself max outlines h.state outline h.stands).last;
-          is = is ∙ ap (λ p. mark_after max p outline) h.is ∙ sym step.mark_is;
-        };
-    stands = λ outlines h.
-        let step = step_marked_is itself max h.state outline content in
-        record {
-          state = _;
-          stands = (advance itself max outlines h.state outline h.stands).stands;
-          is = kept ∙ ap (progress_marked before outline) is ∙ ap (λ p. progress_after max p outline) h.is ∙ sym step.progress_is;
-        };
-  }
+  marked = λ outlines h.
+      let step = step_marked_is itself max h.state outline content in
+      record {
+        answer = _;
+        last = (advance itself max outlines h.state outline h.stands).last;
+        is = is ∙ ap (λ p. mark_after max p outline) h.is ∙ sym step.mark_is;
+      };
+  stands = λ outlines h.
+      let step = step_marked_is itself max h.state outline content in
+      record {
+        state = _;
+        stands = (advance itself max outlines h.state outline h.stands).stands;
+        is = kept ∙ ap (progress_marked before outline) is ∙ ap (λ p. progress_after max p outline) h.is ∙ sym step.progress_is;
+      };
+}
 
+-- nothing is kept before the first outline
+pub none_tracked : (max : ℕ) (channels : List (ℕ × Progress)) → channels ≡ [] → (channel : ℕ) → TrackerStands max [] (kept_at channels channel)
+none_tracked max channels none channel = record { state = At Nothing; stands = stands_nothing itself max; is = ap (λ cs. kept_at cs channel) none }

@@ -2,6 +2,7 @@
 use Rattle.std.specs.Prelude.{◌≡◌, ◌≢◌, ℕ, ◌+◌, List, Option, Some, None, ◌++◌, [], ◌∷◌, Bool, true, false}
 use Rattle.amqp_frame.specs.declared.outline.FrameOutline.{FrameOutline}
 use Rattle.amqp_frame.specs.declared.outline.FrameOutline.TheVariants as outlines
+use Rattle.amqp_frame.specs.Outlines.{outline_channel}
 use Rattle.amqp_content.specs.declared.mark.Mark.{Mark}
 use Rattle.amqp_content.specs.declared.mark.Mark.TheVariants as marks
 use Rattle.amqp_content.specs.declared.progress.Progress.{Progress}
@@ -70,6 +71,10 @@ pub record IsMarked (max : ℕ) (outlines : List FrameOutline) (mark : Mark) : T
 pub record Tracks (max : ℕ) (before after : Option Progress) (outline : FrameOutline) (mark : Mark) : Type 0 where
   pub marked : (outlines : List FrameOutline) → TrackerStands max outlines before → IsMarked max (outlines ++ outline ∷ []) mark
   pub stands : (outlines : List FrameOutline) → TrackerStands max outlines before → TrackerStands max (outlines ++ outline ∷ []) after
+
+-- the same of the channel of an outline
+abbrev pub TracksIn : Tracked → Tracked → FrameOutline → Mark → Type 0
+TracksIn old new outline mark = Tracks old.max_body (kept_at old.channels (outline_channel outline)) (kept_at new.channels (outline_channel outline)) outline mark
 
 -- a begun unit, and not a fault
 abbrev pub is_begun : Progress → Bool

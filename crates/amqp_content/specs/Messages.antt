@@ -35,11 +35,11 @@ pub record Content : Type 0 where
 
 abbrev pub content_of : Parts → Content
 content_of message = record {
-    channel = message.channel;
-    opening = opening_method message.opening;
-    properties = options message.properties;
-    body = message.body;
-  }
+  channel = message.channel;
+  opening = opening_method message.opening;
+  properties = options message.properties;
+  body = message.body;
+}
 
 -- ---- what a frame gives to its message
 
@@ -79,8 +79,8 @@ abbrev pub content_with : Begun Frame → Frame → Content
 content_with Nothing frame = record { channel = channel_id_of frame; opening = method_in frame; properties = []; body = [] }
 content_with (Opened opening) frame = record { channel = channel_id_of frame; opening = method_in opening; properties = (header_in frame).options; body = [] }
 content_with (Headed opening header bodies) frame = record {
-    channel = channel_id_of frame;
-    opening = method_in opening;
-    properties = (header_in header).options;
-    body = joined (bodies ++ frame ∷ []);
-  }
+  channel = channel_id_of frame;
+  opening = method_in opening;
+  properties = (header_in header).options;
+  body = joined (bodies ++ frame ∷ []);
+}

@@ -79,6 +79,10 @@ pub record Assembling : Type 0 where
   pub max_body : ℕ
   pub channels : List (ℕ × Kept)
 
+-- the same of the channel of a frame
+abbrev pub PushesIn : Assembling → Assembling → Frame → Told → Type 0
+PushesIn old new frame outcome = Pushes old.max_body (kept_at old.channels (channel_id_of frame)) (kept_at new.channels (channel_id_of frame)) frame outcome
+
 -- ---- the step of an assembler
 
 abbrev pub pending_kept : Pending → Kept
@@ -155,3 +159,10 @@ abbrev pub IsMessage : Option Kept → Type 0
 IsMessage (Some (message opening header body)) = Unit {0}
 IsMessage (Some fault) = ⊥
 IsMessage None = ⊥
+
+-- the same of the channel of a frame, with a mark, and with the mark that the frame has
+abbrev pub TakesIn : Assembling → Assembling → Frame → Mark → Told → Type 0
+TakesIn old new frame mark outcome = Takes (kept_at old.channels (channel_id_of frame)) (kept_at new.channels (channel_id_of frame)) frame mark outcome
+
+abbrev pub TakesMarked : Assembling → Assembling → Frame → Told → Type 0
+TakesMarked old new frame outcome = TakesIn old new frame (mark_kept old.max_body (kept_at old.channels (channel_id_of frame)) frame) outcome

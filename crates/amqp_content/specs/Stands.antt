@@ -1,5 +1,5 @@
 -- What is kept of a channel after some frames.
-use Rattle.std.specs.Prelude.{◌≡◌, ℕ, List, [], ◌∷◌, ◌++◌, Option, Some, None}
+use Rattle.std.specs.Prelude.{◌≡◌, ◌≢◌, ℕ, List, [], ◌∷◌, ◌++◌, Option, Some, None}
 use Rattle.std.specs.Map.{lookup}
 use Rattle.std.specs.Ordering.{nat_cmp}
 use Rattle.std.specs.BTreeMap.{is_at}
@@ -23,3 +23,7 @@ pub record Stands {X : Type 0} (outline : X → FrameOutline) (max : ℕ) (xs : 
 -- what is kept of a channel, by entries of channels and what is kept of them
 abbrev pub kept_at : {K : Type 0} → List (ℕ × K) → ℕ → Option K
 kept_at entries channel = lookup (is_at (nat_cmp channel)) entries
+
+-- of all channels but one is kept what was
+abbrev pub OthersStay : {K : Type 0} → ℕ → List (ℕ × K) → List (ℕ × K) → Type 0
+OthersStay channel before after = (other : ℕ) → other ≢ channel → kept_at after other ≡ kept_at before other

@@ -1,12 +1,12 @@
 //! Messages out of the frames of many channels.
 
-ghost use Rattle.std.specs.Prelude.{◌≡◌, ◌≢◌, ℕ, [], Ok, Some, None, IfOk, OnOk, OnErr, IsTrue, false};
+ghost use Rattle.std.specs.Prelude.{◌≡◌, ℕ, [], Ok, Some, None, IfOk, OnOk, OnErr, IsTrue, false};
 ghost use Rattle.amqp_protocol.specs.Classes.{method_of};
 ghost use Rattle.amqp_frame.specs.Frames.{Meth, Head, Body, frame_of, header_of, channel_id_of};
 ghost use Rattle.amqp_frame.specs.Outlines.{outline_of};
 ghost use Rattle.amqp_content.specs.Units.{is_content};
-ghost use Rattle.amqp_content.specs.Stands.{kept_at};
-ghost use Rattle.amqp_content.specs.Outcomes.{Pushes, Takes, IsHeadedThere, IsMessage, mark_kept, told, wrong, fault, pending_kept, kept_progress, with_header, with_bytes, whole_kept};
+ghost use Rattle.amqp_content.specs.Stands.{kept_at, OthersStay};
+ghost use Rattle.amqp_content.specs.Outcomes.{AssemblerStands, PushesIn, TakesIn, TakesMarked, IsHeadedThere, IsMessage, told, wrong, fault, pending_kept, kept_progress, with_header, with_bytes, whole_kept};
 ghost use Rattle.amqp_content.specs.Steps.{mark_after, method_mark};
 
 use crate::fault::ContentFault;
@@ -33,9 +33,13 @@ pub struct Assembler {
 
 impl Model for Assembler {
     ghost use Rattle.std.specs.Prelude.{map};
+    ghost use Rattle.std.specs.Coded.{codes};
+    ghost use Rattle.amqp_types.specs.ValueCodes.{value_code};
     ghost use Rattle.amqp_content.specs.Outcomes.{Assembling, entry_kept};
 
     ghost Value = { Assembling };
+
+    ghost coded = { Prim.hlevel (codes, value_code) };
 
     ghost view = { λ assembler. record { max_body = assembler.max_body; channels = map entry_kept assembler.channels.entries } };
 }
@@ -46,6 +50,7 @@ impl Assembler {
     pub fn open(alloc: Global, max_body: u64) -> Assembler
         ensures max_body { result.max_body ≡ max_body }
         ensures channels { result.channels ≡ [] }
+        ensures stands { (channel : ℕ) → AssemblerStands max_body [] (kept_at result.channels channel) }
     {
         Assembler {
             alloc,
@@ -74,7 +79,7 @@ impl Assembler {
     /// Keeps this of a channel. Where memory runs out, all stays.
     fn keep(&mut self, channel_id: ChannelId, pending: Pending) -> Result<(), NoMemory>
         ensures kept { OnOk result (kept_at self.new.channels channel_id ≡ Some (pending_kept pending)) }
-        ensures others { (other : ℕ) → other ≢ channel_id → kept_at self.new.channels other ≡ kept_at self.old.channels other }
+        ensures others { OthersStay channel_id self.old.channels self.new.channels }
         ensures max_body { self.new.max_body ≡ self.old.max_body }
         ensures err { OnErr result (self.new ≡ self.old) }
     {
@@ -85,7 +90,7 @@ impl Assembler {
     /// Keeps a content header with the opening before it.
     fn set_header(&mut self, channel_id: ChannelId, header: AMQPContentHeader)
         ensures kept { kept_at self.new.channels channel_id ≡ with_header (kept_at self.old.channels channel_id) (header_of header) }
-        ensures others { (other : ℕ) → other ≢ channel_id → kept_at self.new.channels other ≡ kept_at self.old.channels other }
+        ensures others { OthersStay channel_id self.old.channels self.new.channels }
         ensures max_body { self.new.max_body ≡ self.old.max_body }
     {
         let Some(pending) = self.channels.get_mut(&channel_id) else {
@@ -97,7 +102,7 @@ impl Assembler {
     /// Keeps more body bytes. Where memory runs out, all stays.
     fn append(&mut self, channel_id: ChannelId, bytes: &[u8]) -> Result<(), NoMemory>
         ensures kept { OnOk result (kept_at self.new.channels channel_id ≡ with_bytes (kept_at self.old.channels channel_id) bytes.now) }
-        ensures others { (other : ℕ) → other ≢ channel_id → kept_at self.new.channels other ≡ kept_at self.old.channels other }
+        ensures others { OthersStay channel_id self.old.channels self.new.channels }
         ensures max_body { self.new.max_body ≡ self.old.max_body }
         ensures err { OnErr result (self.new ≡ self.old) }
     {
@@ -113,7 +118,7 @@ impl Assembler {
         requires { IsHeadedThere (kept_at self.old.channels channel_id) }
         ensures told { told result ≡ whole_kept channel_id (kept_at self.old.channels channel_id) }
         ensures kept { kept_at self.new.channels channel_id ≡ None }
-        ensures others { (other : ℕ) → other ≢ channel_id → kept_at self.new.channels other ≡ kept_at self.old.channels other }
+        ensures others { OthersStay channel_id self.old.channels self.new.channels }
         ensures max_body { self.new.max_body ≡ self.old.max_body }
     {
         let Some(pending) = self.channels.remove(&channel_id) else {
@@ -126,7 +131,7 @@ impl Assembler {
     fn fail(&mut self, channel_id: ChannelId, bad: ContentFault) -> Result<Outcome, NoMemory>
         ensures told { IfOk result (λ outcome. told outcome ≡ wrong bad) }
         ensures kept { OnOk result (kept_at self.new.channels channel_id ≡ Some fault) }
-        ensures others { (other : ℕ) → other ≢ channel_id → kept_at self.new.channels other ≡ kept_at self.old.channels other }
+        ensures others { OthersStay channel_id self.old.channels self.new.channels }
         ensures max_body { self.new.max_body ≡ self.old.max_body }
         ensures err { OnErr result (self.new ≡ self.old) }
     {
@@ -136,8 +141,8 @@ impl Assembler {
 
     /// Takes a method between messages: an opening is kept, any other comes back.
     fn take_method(&mut self, channel_id: ChannelId, class: AMQPClass) -> Result<Outcome, NoMemory>
-        ensures takes { IfOk result (λ outcome. Takes (kept_at self.old.channels channel_id) (kept_at self.new.channels channel_id) (Meth channel_id (method_of class)) (method_mark (method_of class).class (method_of class).id) (told outcome)) }
-        ensures others { (other : ℕ) → other ≢ channel_id → kept_at self.new.channels other ≡ kept_at self.old.channels other }
+        ensures takes { IfOk result (λ outcome. TakesIn self.old self.new (Meth channel_id (method_of class)) (method_mark (method_of class).class (method_of class).id) (told outcome)) }
+        ensures others { OthersStay channel_id self.old.channels self.new.channels }
         ensures max_body { self.new.max_body ≡ self.old.max_body }
         ensures err { OnErr result (self.new ≡ self.old) }
     {
@@ -159,8 +164,8 @@ impl Assembler {
     /// Takes a content header after an opening.
     fn take_header(&mut self, channel_id: ChannelId, header: AMQPContentHeader) -> Outcome
         requires { IsMessage (kept_at self.old.channels channel_id) }
-        ensures takes { Takes (kept_at self.old.channels channel_id) (kept_at self.new.channels channel_id) (Head channel_id (header_of header)) Mark.Header (told result) }
-        ensures others { (other : ℕ) → other ≢ channel_id → kept_at self.new.channels other ≡ kept_at self.old.channels other }
+        ensures takes { TakesIn self.old self.new (Head channel_id (header_of header)) Mark.Header (told result) }
+        ensures others { OthersStay channel_id self.old.channels self.new.channels }
         ensures max_body { self.new.max_body ≡ self.old.max_body }
     {
         let size = header.body_size;
@@ -182,8 +187,8 @@ impl Assembler {
         size: u64,
     ) -> Result<Outcome, NoMemory>
         requires { IsHeadedThere (kept_at self.old.channels channel_id) }
-        ensures takes { IfOk result (λ outcome. Takes (kept_at self.old.channels channel_id) (kept_at self.new.channels channel_id) (Body channel_id bytes) (Mark.Body before after size) (told outcome)) }
-        ensures others { (other : ℕ) → other ≢ channel_id → kept_at self.new.channels other ≡ kept_at self.old.channels other }
+        ensures takes { IfOk result (λ outcome. TakesIn self.old self.new (Body channel_id bytes) (Mark.Body before after size) (told outcome)) }
+        ensures others { OthersStay channel_id self.old.channels self.new.channels }
         ensures max_body { self.new.max_body ≡ self.old.max_body }
         ensures err { OnErr result (self.new ≡ self.old) }
     {
@@ -197,8 +202,8 @@ impl Assembler {
 
     /// Takes a method.
     fn push_method(&mut self, channel_id: ChannelId, class: AMQPClass) -> Result<Outcome, NoMemory>
-        ensures takes { IfOk result (λ outcome. Takes (kept_at self.old.channels channel_id) (kept_at self.new.channels channel_id) (Meth channel_id (method_of class)) (mark_kept self.old.max_body (kept_at self.old.channels channel_id) (Meth channel_id (method_of class))) (told outcome)) }
-        ensures others { (other : ℕ) → other ≢ channel_id → kept_at self.new.channels other ≡ kept_at self.old.channels other }
+        ensures takes { IfOk result (λ outcome. TakesMarked self.old self.new (Meth channel_id (method_of class)) (told outcome)) }
+        ensures others { OthersStay channel_id self.old.channels self.new.channels }
         ensures max_body { self.new.max_body ≡ self.old.max_body }
         ensures err { OnErr result (self.new ≡ self.old) }
     {
@@ -219,8 +224,8 @@ impl Assembler {
         channel_id: ChannelId,
         header: AMQPContentHeader,
     ) -> Result<Outcome, NoMemory>
-        ensures takes { IfOk result (λ outcome. Takes (kept_at self.old.channels channel_id) (kept_at self.new.channels channel_id) (Head channel_id (header_of header)) (mark_kept self.old.max_body (kept_at self.old.channels channel_id) (Head channel_id (header_of header))) (told outcome)) }
-        ensures others { (other : ℕ) → other ≢ channel_id → kept_at self.new.channels other ≡ kept_at self.old.channels other }
+        ensures takes { IfOk result (λ outcome. TakesMarked self.old self.new (Head channel_id (header_of header)) (told outcome)) }
+        ensures others { OthersStay channel_id self.old.channels self.new.channels }
         ensures max_body { self.new.max_body ≡ self.old.max_body }
         ensures err { OnErr result (self.new ≡ self.old) }
     {
@@ -237,8 +242,8 @@ impl Assembler {
 
     /// Takes a body.
     fn push_body(&mut self, channel_id: ChannelId, bytes: ByteArray) -> Result<Outcome, NoMemory>
-        ensures takes { IfOk result (λ outcome. Takes (kept_at self.old.channels channel_id) (kept_at self.new.channels channel_id) (Body channel_id bytes) (mark_kept self.old.max_body (kept_at self.old.channels channel_id) (Body channel_id bytes)) (told outcome)) }
-        ensures others { (other : ℕ) → other ≢ channel_id → kept_at self.new.channels other ≡ kept_at self.old.channels other }
+        ensures takes { IfOk result (λ outcome. TakesMarked self.old self.new (Body channel_id bytes) (told outcome)) }
+        ensures others { OthersStay channel_id self.old.channels self.new.channels }
         ensures max_body { self.new.max_body ≡ self.old.max_body }
         ensures err { OnErr result (self.new ≡ self.old) }
     {
@@ -261,8 +266,8 @@ impl Assembler {
     /// and the frame is dropped.
     pub fn push(&mut self, frame: AMQPFrame) -> Result<Outcome, NoMemory>
         ensures outside { is_content (outline_of (frame_of frame)) ≡ false → (result ≡ Ok (Outcome.Passed frame)) × (self.new ≡ self.old) }
-        ensures pushes { IsTrue (is_content (outline_of (frame_of frame))) → IfOk result (λ outcome. Pushes self.old.max_body (kept_at self.old.channels (channel_id_of (frame_of frame))) (kept_at self.new.channels (channel_id_of (frame_of frame))) (frame_of frame) (told outcome)) }
-        ensures others { (other : ℕ) → other ≢ channel_id_of (frame_of frame) → kept_at self.new.channels other ≡ kept_at self.old.channels other }
+        ensures pushes { IsTrue (is_content (outline_of (frame_of frame))) → IfOk result (λ outcome. PushesIn self.old self.new (frame_of frame) (told outcome)) }
+        ensures others { OthersStay (channel_id_of (frame_of frame)) self.old.channels self.new.channels }
         ensures max_body { self.new.max_body ≡ self.old.max_body }
         ensures err { OnErr result (self.new ≡ self.old) }
     {

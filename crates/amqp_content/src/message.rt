@@ -18,9 +18,13 @@ pub struct Message {
 }
 
 impl Model for Message {
+    ghost use Rattle.std.specs.Coded.{codes};
+    ghost use Rattle.amqp_types.specs.ValueCodes.{value_code};
     ghost use Rattle.amqp_content.specs.Messages.{Parts};
 
     ghost Value = { Parts };
+
+    ghost coded = { Prim.hlevel (codes, value_code) };
 
     ghost view = { λ message. record { channel = message.channel; opening = message.opening; properties = message.properties; body = message.body } };
 

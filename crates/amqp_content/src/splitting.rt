@@ -23,10 +23,7 @@ fn push_pieces(
     let mut rest = bytes;
     while !rest.is_empty() {
         let n = rest.len().min(max_payload);
-        frames.push(AMQPFrame::Body(
-            channel_id,
-            ByteArray::new(alloc, &rest[..n])?,
-        ))?;
+        frames.push(AMQPFrame::Body(channel_id, ByteArray::new(alloc, &rest[..n])?))?;
         rest = &rest[n..];
     }
     Ok(())
@@ -34,11 +31,7 @@ fn push_pieces(
 
 /// The frames of a message: its opening, its content header, and bodies of at most `max_payload`
 /// bytes. The only error is want of memory.
-pub fn split(
-    alloc: Global,
-    message: Message,
-    max_payload: u32,
-) -> Result<Vec<AMQPFrame>, NoMemory>
+pub fn split(alloc: Global, message: Message, max_payload: u32) -> Result<Vec<AMQPFrame>, NoMemory>
     requires { 1 ≤ max_payload }
     ensures { IfOk result (λ frames. map frame_of frames.items ≡ split_of max_payload message) }
 {

@@ -4,10 +4,10 @@ use crate::{
     Assembler, ContentFault, Mark, Message, Opening, Outcome, Tracker, answers_are_steps, assemble,
     channels_are_answered, channels_are_apart, split, splits_are_whole,
 };
-use amqp_frame::{AMQPContentHeader, AMQPFrame, FrameOutline};
+use amqp_frame::{AMQPContentHeader, AMQPFrame, FrameOutline, gen_frame, parse_frame};
 use amqp_properties::AMQPProperties;
 use amqp_protocol::{AMQPClass, basic};
-use amqp_types::{ByteArray, NoMemory};
+use amqp_types::{ByteArray, NoMemory, ParserError};
 use std::alloc::Global;
 use std::process::Abort;
 use std::test::Fail;
@@ -26,15 +26,23 @@ use Step::{Ack, Body, Header, Heartbeat, Publish};
 
 /// Outcomes by number: a fault has its own.
 const PASSED: u8 = 100;
+
 const HELD: u8 = 101;
+
 const DONE: u8 = 102;
 
 const UNEXPECTED_METHOD: u8 = 1;
+
 const UNEXPECTED_HEADER: u8 = 2;
+
 const UNEXPECTED_BODY: u8 = 3;
+
 const WRONG_CLASS: u8 = 4;
+
 const BODY_TOO_LARGE: u8 = 5;
+
 const BODY_OVERRUN: u8 = 6;
+
 const FAULTED: u8 = 7;
 
 static HELLO: [u8; 5] = [104, 101, 108, 108, 111];
@@ -110,19 +118,50 @@ fn rows(rt: HostRuntime) -> Result<(), Fail> {
         &rt,
         alloc,
         5,
-        &[Publish(1), Body(2, 5), Header(1, 60, 1), Publish(2), Body(1, 1)],
+        &[
+            Publish(1),
+            Body(2, 5),
+            Header(1, 60, 1),
+            Publish(2),
+            Body(1, 1),
+        ],
         &[HELD, UNEXPECTED_BODY, HELD, FAULTED, DONE],
     )?;
-    row(&rt, alloc, 5, &[Publish(1), Header(1, 60, 0)], &[HELD, DONE])?;
     row(
         &rt,
         alloc,
         5,
-        &[Publish(1), Header(1, 60, 2), Body(1, 0), Body(1, 1), Body(1, 0), Body(1, 1)],
+        &[Publish(1), Header(1, 60, 0)],
+        &[HELD, DONE],
+    )?;
+    row(
+        &rt,
+        alloc,
+        5,
+        &[
+            Publish(1),
+            Header(1, 60, 2),
+            Body(1, 0),
+            Body(1, 1),
+            Body(1, 0),
+            Body(1, 1),
+        ],
         &[HELD, HELD, HELD, HELD, HELD, DONE],
     )?;
-    row(&rt, alloc, 5, &[Publish(1), Header(1, 10, 1)], &[HELD, WRONG_CLASS])?;
-    row(&rt, alloc, 5, &[Header(1, 60, 1), Ack(1)], &[UNEXPECTED_HEADER, FAULTED])?;
+    row(
+        &rt,
+        alloc,
+        5,
+        &[Publish(1), Header(1, 10, 1)],
+        &[HELD, WRONG_CLASS],
+    )?;
+    row(
+        &rt,
+        alloc,
+        5,
+        &[Header(1, 60, 1), Ack(1)],
+        &[UNEXPECTED_HEADER, FAULTED],
+    )?;
     row(
         &rt,
         alloc,
@@ -154,7 +193,10 @@ fn pushes_and_tracks(rt: HostRuntime) -> Result<(), Fail> {
     let mut tracker = Tracker::open(alloc, 5);
     assert_eq!(rt; tracker.track(&frame(alloc, Publish(1))?)?, Mark::Opening);
     assert_eq!(rt; tracker.unfinished(), 1);
-    assert_eq!(rt; tracker.track(&frame(alloc, Header(1, 60, 5))?)?, Mark::Header);
+    assert_eq!(rt;
+        tracker.track(&frame(alloc, Header(1, 60, 5))?)?,
+        Mark::Header
+    );
     let outline = FrameOutline::Body {
         channel_id: 1,
         length: 5,
@@ -165,16 +207,25 @@ fn pushes_and_tracks(rt: HostRuntime) -> Result<(), Fail> {
         size: 5,
     };
     assert_eq!(rt; tracker.track_outline(outline)?, body);
-    assert_eq!(rt; tracker.track(&frame(alloc, Body(2, 1))?)?, Mark::Fault(ContentFault::UnexpectedBody));
+    assert_eq!(rt;
+        tracker.track(&frame(alloc, Body(2, 1))?)?,
+        Mark::Fault(ContentFault::UnexpectedBody)
+    );
     assert_eq!(rt; tracker.track(&frame(alloc, Ack(3))?)?, Mark::Passed);
     assert_eq!(rt; tracker.unfinished(), 0);
     assert_eq!(rt; number(&assembler.push(frame(alloc, Publish(1))?)?), HELD);
-    assert_eq!(rt; number(&assembler.push(frame(alloc, Header(1, 60, 5))?)?), HELD);
+    assert_eq!(rt;
+        number(&assembler.push(frame(alloc, Header(1, 60, 5))?)?),
+        HELD
+    );
     let Outcome::Done(message) = assembler.push(frame(alloc, Body(1, 5))?)? else {
         return Err("no message".into());
     };
     assert_eq!(rt; message.channel(), 1);
-    assert_eq!(rt; message.opening(), &Opening::Publish(basic::Publish::empty(alloc)));
+    assert_eq!(rt;
+        message.opening(),
+        &Opening::Publish(basic::Publish::empty(alloc))
+    );
     assert_eq!(rt; message.properties(), &AMQPProperties::default());
     assert_eq!(rt; message.body().as_slice(), HELLO.as_slice());
     assert_eq!(rt; message.copy(alloc)?, message);
@@ -194,9 +245,18 @@ fn splits(rt: HostRuntime) -> Result<(), Fail> {
     assert_eq!(rt; frames.len(), 5);
     assert_eq!(rt; frames[0], frame(alloc, Publish(1))?);
     assert_eq!(rt; frames[1], frame(alloc, Header(1, 60, 5))?);
-    assert_eq!(rt; frames[2], AMQPFrame::Body(1, ByteArray::new(alloc, &HELLO[..2])?));
-    assert_eq!(rt; frames[3], AMQPFrame::Body(1, ByteArray::new(alloc, &HELLO[2..4])?));
-    assert_eq!(rt; frames[4], AMQPFrame::Body(1, ByteArray::new(alloc, &HELLO[4..])?));
+    assert_eq!(rt;
+        frames[2],
+        AMQPFrame::Body(1, ByteArray::new(alloc, &HELLO[..2])?)
+    );
+    assert_eq!(rt;
+        frames[3],
+        AMQPFrame::Body(1, ByteArray::new(alloc, &HELLO[2..4])?)
+    );
+    assert_eq!(rt;
+        frames[4],
+        AMQPFrame::Body(1, ByteArray::new(alloc, &HELLO[4..])?)
+    );
     Ok(())
 }
 
@@ -206,16 +266,28 @@ fn many_channels(rt: HostRuntime) -> Result<(), Fail> {
     let alloc = rt.alloc();
     let mut assembler = Assembler::open(alloc, 5);
     for channel in 0..1000u16 {
-        assert_eq!(rt; number(&assembler.push(frame(alloc, Publish(channel))?)?), HELD);
+        assert_eq!(rt;
+            number(&assembler.push(frame(alloc, Publish(channel))?)?),
+            HELD
+        );
     }
     for channel in 0..1000u16 {
-        assert_eq!(rt; number(&assembler.push(frame(alloc, Header(channel, 60, 2))?)?), HELD);
+        assert_eq!(rt;
+            number(&assembler.push(frame(alloc, Header(channel, 60, 2))?)?),
+            HELD
+        );
     }
     for channel in 0..1000u16 {
-        assert_eq!(rt; number(&assembler.push(frame(alloc, Body(channel, 1))?)?), HELD);
+        assert_eq!(rt;
+            number(&assembler.push(frame(alloc, Body(channel, 1))?)?),
+            HELD
+        );
     }
     for channel in 0..1000u16 {
-        assert_eq!(rt; number(&assembler.push(frame(alloc, Body(channel, 1))?)?), DONE);
+        assert_eq!(rt;
+            number(&assembler.push(frame(alloc, Body(channel, 1))?)?),
+            DONE
+        );
     }
     Ok(())
 }
@@ -229,4 +301,38 @@ fn names(rt: HostRuntime) {
     splits_are_whole();
     channels_are_answered();
     channels_are_apart();
+}
+
+/// The messages in some bytes of frames, as a client reads them: parse a frame, push it, and take the
+/// message that it completes.
+fn messages(alloc: Global, bytes: &[u8]) -> Result<Vec<Message>, ParserError> {
+    let mut assembler = Assembler::open(alloc, 1_048_576);
+    let mut messages = Vec::new(alloc);
+    let mut rest = bytes;
+    for _ in 0..bytes.len() {
+        if rest.is_empty() {
+            break;
+        }
+        let (used, frame) = parse_frame(alloc, rest)?;
+        rest = &rest[used..];
+        if let Outcome::Done(message) = assembler.push(frame)? {
+            let Ok(()) = messages.push(message) else {
+                return Err(ParserError::NoMemory);
+            };
+        }
+    }
+    Ok(messages)
+}
+
+#[test]
+fn bytes_to_messages(rt: HostRuntime) -> Result<(), Fail> {
+    let alloc = rt.alloc();
+    let mut bytes = Vec::new(alloc);
+    for step in MESSAGE.iter() {
+        gen_frame(alloc, &mut bytes, &frame(alloc, *step)?)?;
+    }
+    let got = messages(alloc, bytes.as_slice())?;
+    assert_eq!(rt; got.len(), 1);
+    assert_eq!(rt; got[0].body().as_slice(), HELLO.as_slice());
+    Ok(())
 }

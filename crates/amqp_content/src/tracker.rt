@@ -1,14 +1,14 @@
 //! Marks on frames of many channels, by numbers alone: no body is kept.
 
-ghost use Rattle.std.specs.Prelude.{◌≡◌, ◌≢◌, ℕ, [], Ok, IfOk, OnOk, OnErr, IsTrue, count_by, false};
+ghost use Rattle.std.specs.Prelude.{◌≡◌, ℕ, [], Ok, IfOk, OnOk, OnErr, IsTrue, count_by, false};
 ghost use Rattle.std.specs.Ordering.{nat_cmp};
 ghost use Rattle.std.specs.Map.{keys_of, values_of};
 ghost use Rattle.std.specs.List.Sorted.{IsStrictlySortedBy};
 ghost use Rattle.amqp_frame.specs.Frames.{frame_of, channel_id_of};
 ghost use Rattle.amqp_frame.specs.Outlines.{outline_of, outline_channel};
 ghost use Rattle.amqp_content.specs.Units.{is_content};
-ghost use Rattle.amqp_content.specs.Stands.{kept_at};
-ghost use Rattle.amqp_content.specs.Marks.{Tracks, is_begun};
+ghost use Rattle.amqp_content.specs.Stands.{kept_at, OthersStay};
+ghost use Rattle.amqp_content.specs.Marks.{TrackerStands, TracksIn, is_begun};
 ghost use Rattle.amqp_content.specs.Steps.{mark_after, progress_marked};
 
 use crate::mark::Mark;
@@ -40,6 +40,7 @@ impl Tracker {
     pub fn open(alloc: Global, max_body: u64) -> Tracker
         ensures max_body { result.max_body ≡ max_body }
         ensures channels { result.channels ≡ [] }
+        ensures stands { (channel : ℕ) → TrackerStands max_body [] (kept_at result.channels channel) }
     {
         Tracker {
             max_body,
@@ -57,7 +58,7 @@ impl Tracker {
     /// Keeps this of a channel. Where memory runs out, all stays.
     fn keep(&mut self, channel_id: ChannelId, progress: Option<Progress>) -> Result<(), NoMemory>
         ensures kept { OnOk result (kept_at self.new.channels channel_id ≡ progress) }
-        ensures others { (other : ℕ) → other ≢ channel_id → kept_at self.new.channels other ≡ kept_at self.old.channels other }
+        ensures others { OthersStay channel_id self.old.channels self.new.channels }
         ensures max_body { self.new.max_body ≡ self.old.max_body }
         ensures err { OnErr result (self.new ≡ self.old) }
     {
@@ -77,8 +78,8 @@ impl Tracker {
     /// out, all channels are as before.
     pub fn track_outline(&mut self, outline: FrameOutline) -> Result<Mark, NoMemory>
         ensures outside { is_content outline ≡ false → (result ≡ Ok Mark.Passed) × (self.new ≡ self.old) }
-        ensures tracks { IsTrue (is_content outline) → IfOk result (Tracks self.old.max_body (kept_at self.old.channels (outline_channel outline)) (kept_at self.new.channels (outline_channel outline)) outline) }
-        ensures others { (other : ℕ) → other ≢ outline_channel outline → kept_at self.new.channels other ≡ kept_at self.old.channels other }
+        ensures tracks { IsTrue (is_content outline) → IfOk result (TracksIn self.old self.new outline) }
+        ensures others { OthersStay (outline_channel outline) self.old.channels self.new.channels }
         ensures max_body { self.new.max_body ≡ self.old.max_body }
         ensures err { OnErr result (self.new ≡ self.old) }
     {
@@ -95,8 +96,8 @@ impl Tracker {
     /// are as before.
     pub fn track(&mut self, frame: &AMQPFrame) -> Result<Mark, NoMemory>
         ensures outside { is_content (outline_of (frame_of frame.now)) ≡ false → (result ≡ Ok Mark.Passed) × (self.new ≡ self.old) }
-        ensures tracks { IsTrue (is_content (outline_of (frame_of frame.now))) → IfOk result (Tracks self.old.max_body (kept_at self.old.channels (channel_id_of (frame_of frame.now))) (kept_at self.new.channels (channel_id_of (frame_of frame.now))) (outline_of (frame_of frame.now))) }
-        ensures others { (other : ℕ) → other ≢ channel_id_of (frame_of frame.now) → kept_at self.new.channels other ≡ kept_at self.old.channels other }
+        ensures tracks { IsTrue (is_content (outline_of (frame_of frame.now))) → IfOk result (TracksIn self.old self.new (outline_of (frame_of frame.now))) }
+        ensures others { OthersStay (channel_id_of (frame_of frame.now)) self.old.channels self.new.channels }
         ensures max_body { self.new.max_body ≡ self.old.max_body }
         ensures err { OnErr result (self.new ≡ self.old) }
     {

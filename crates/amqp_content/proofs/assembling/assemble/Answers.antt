@@ -9,10 +9,10 @@ use Rattle.amqp_content.proofs.assembling.assemble.Goals as goal
 
 pub loop-frame-init : goal.loop-frame-init
 loop-frame-init c = record {
-    max = c.open-assembler.ensures.max_body;
-    stand = none_stand c.args.max_body c.open-assembler.result.channels c.open-assembler.ensures.channels;
-    given = none_given c.args.max_body c.new-outcomes.result.items c.new-outcomes.ensures.items;
-  }
+  max = c.open-assembler.ensures.max_body;
+  stand = none_stand c.args.max_body c.open-assembler.result.channels c.open-assembler.ensures.channels;
+  given = none_given c.args.max_body c.new-outcomes.result.items c.new-outcomes.ensures.items;
+}
 
 pub loop-frame-preserved : goal.loop-frame-preserved
 loop-frame-preserved c =

@@ -7,7 +7,7 @@ use Rattle.amqp_content.proofs.assembling.assemble.Given as goal
 
 abbrev pub invariant-loop-frame : goal.invariant-loop-frame
 invariant-loop-frame l = record {
-    max : l.assembler.max_body ≡ l.max_body;
-    stand : AllStand l.max_body (map frame_of l.yielded) l.assembler.channels;
-    given : AreGiven l.max_body [] (map frame_of l.yielded) (map told l.outcomes.items);
-  }
+  max : l.assembler.max_body ≡ l.max_body;
+  stand : AllStand l.max_body (map frame_of l.yielded) l.assembler.channels;
+  given : AreGiven l.max_body [] (map frame_of l.yielded) (map told l.outcomes.items);
+}

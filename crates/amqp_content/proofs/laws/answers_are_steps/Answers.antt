@@ -5,16 +5,16 @@ use Rattle.amqp_content.proofs.laws.answers_are_steps.Goals as goal
 
 pub returns-clause-frames : goal.returns-clause-frames
 returns-clause-frames c = record {
-    steps = run_is_answers outline_of;
-    only = answers_run outline_of;
-    stands = run_stands outline_of;
-    one_stands = stands_run outline_of;
-  }
+  steps = run_is_answers outline_of;
+  only = answers_run outline_of;
+  stands = run_stands outline_of;
+  one_stands = stands_run outline_of;
+}
 
 pub returns-clause-outlines : goal.returns-clause-outlines
 returns-clause-outlines c = record {
-    steps = run_is_answers itself;
-    only = answers_run itself;
-    stands = run_stands itself;
-    one_stands = stands_run itself;
-  }
+  steps = run_is_answers itself;
+  only = answers_run itself;
+  stands = run_stands itself;
+  one_stands = stands_run itself;
+}
