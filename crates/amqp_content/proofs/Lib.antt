@@ -1,0 +1,8 @@
+pub mod Moving
+pub mod Running
+pub mod Tracking
+pub mod Telling
+pub mod Pieces
+pub mod Whole
+pub mod Apart
+pub mod Entries

@@ -1,0 +1,26 @@
+use Rattle.std.proofs.Common.{◌≡◌, sym, ap, ◌∙◌, subst, map, List, [], ◌∷◌, ◌++◌, refl}
+use Rattle.std.proofs.lemmas.List.{map_push}
+use Rattle.amqp_frame.specs.Frames.{Frame, frame_of}
+use Rattle.amqp_content.specs.declared.outcome.Outcome.{Outcome}
+use Rattle.amqp_content.specs.Outcomes.{Told, told, Pushes}
+use Rattle.amqp_content.specs.Sequences.{AreGiven}
+use Rattle.amqp_content.proofs.Apart.{AllStand, none_stand, none_given, assembled_step}
+use Rattle.amqp_content.proofs.assembling.assemble.Goals as goal
+
+pub loop-frame-init : goal.loop-frame-init
+loop-frame-init c = record {
+  max = c.open-assembler.ensures.max_body;
+  stand = none_stand c.args.max_body c.open-assembler.result.channels c.open-assembler.ensures.channels;
+  given = none_given c.args.max_body c.new-outcomes.result.items c.new-outcomes.ensures.items;
+}
+
+pub loop-frame-preserved : goal.loop-frame-preserved
+loop-frame-preserved c =
+    let h = c.loop-frame.invariant in
+    let e = c.in_ok-push.ensures in
+    let next = assembled_step c.args.max_body c.loop-frame.assembler c.push.new.self c.loop-frame.yielded c.loop-frame.outcomes.items c.in-Some.frame c.in_ok-push.field-0 h.max h.stand h.given e.outside e.pushes e.others in
+    record {
+      max = e.max_body ∙ h.max;
+      stand = next.stand;
+      given = subst (λ (os : List Outcome). AreGiven c.args.max_body [] (map frame_of (c.loop-frame.yielded ++ c.in-Some.frame ∷ [])) (map told os)) (sym c.in_ok-push-2.ensures.items) next.given;
+    }

@@ -1,0 +1,5 @@
+use Rattle.amqp_content.proofs.Whole.{splits_whole}
+use Rattle.amqp_content.proofs.laws.splits_are_whole.Goals as goal
+
+pub returns : goal.returns
+returns c = splits_whole

@@ -1,0 +1,11 @@
+pub mod Faults
+pub mod Units
+pub mod Answers
+pub mod Stands
+pub mod Marks
+pub mod Steps
+pub mod Messages
+pub mod Outcomes
+pub mod Sequences
+pub mod Splits
+pub mod Laws

@@ -1,0 +1,168 @@
+-- What an assembler gives for frames, and what it keeps of a channel.
+use Rattle.std.specs.Prelude.{◌≡◌, ◌≢◌, ℕ, ◌==◌, List, [], ◌∷◌, ◌++◌, map, length, Option, Some, None, if◌then◌else◌}
+use Rattle.amqp_types.specs.Methods.{Method}
+use Rattle.amqp_types.specs.ContentHeaders.{ContentHeader}
+use Rattle.amqp_frame.specs.declared.frame.AMQPFrame.{AMQPFrame}
+use Rattle.amqp_frame.specs.Frames.{Frame, frame_of, channel_id_of, header_of}
+use Rattle.amqp_frame.specs.Outlines.{outline_of}
+use Rattle.amqp_content.specs.declared.fault.ContentFault.{ContentFault}
+use Rattle.amqp_content.specs.declared.mark.Mark.{Mark}
+use Rattle.amqp_content.specs.declared.mark.Mark.TheVariants as marks
+use Rattle.amqp_content.specs.declared.progress.Progress.{Progress}
+use Rattle.amqp_content.specs.declared.progress.Progress.TheVariants as progresses
+use Rattle.amqp_content.specs.declared.outcome.Outcome.{Outcome}
+use Rattle.amqp_content.specs.declared.outcome.Outcome.TheVariants as outcomes
+use Rattle.amqp_content.specs.declared.pending.Pending.{Pending}
+use Rattle.amqp_content.specs.declared.pending.Pending.TheVariants as pendings
+use Rattle.amqp_content.specs.Units.{Begun, Nothing, Opened, Headed}
+use Rattle.amqp_content.specs.Answers.{Answer, Alone, Within, Ends, Wrong, IsLastAnswer}
+use Rattle.amqp_content.specs.Stands.{State, At, Lost, Stands, kept_at}
+use Rattle.amqp_content.specs.Messages.{Content, content_of, opening_method, method_in, header_in, bytes_of, joined, content_with}
+use Rattle.amqp_content.specs.Steps.{mark_after}
+
+-- ---- outcomes
+
+pub data Told : Type 0 where
+  passed : (frame : Frame) → Told
+  held : Told
+  done : (content : Content) → Told
+  wrong : (fault : ContentFault) → Told
+
+abbrev pub told : Outcome → Told
+told (outcomes.Passed frame) = passed (frame_of frame)
+told outcomes.Held = held
+told (outcomes.Done message) = done (content_of message)
+told (outcomes.Fault fault) = wrong fault
+
+-- A method that stands alone is passed, the last frame of a message gives the message, and each other one is held.
+abbrev pub told_of : Answer Frame → Told
+told_of (Alone frame) = passed frame
+told_of (Within begun frame) = held
+told_of (Ends begun frame) = done (content_with begun frame)
+told_of (Wrong fault) = wrong fault
+
+-- ---- what is kept of a channel
+
+-- an opening, its content header if it has come, and the joined bytes of its bodies; or that a fault has come
+pub data Kept : Type 0 where
+  message : (opening : Method) (header : Option ContentHeader) (body : List ℕ) → Kept
+  fault : Kept
+
+abbrev pub begun_kept : Begun Frame → Option Kept
+begun_kept Nothing = None
+begun_kept (Opened opening) = Some (message (method_in opening) None [])
+begun_kept (Headed opening header bodies) = Some (message (method_in opening) (Some (header_in header)) (joined bodies))
+
+abbrev pub kept_of : State Frame → Option Kept
+kept_of (At begun) = begun_kept begun
+kept_of Lost = Some fault
+
+-- what is kept stands for these frames of one channel
+pub record AssemblerStands (max : ℕ) (frames : List Frame) (kept : Option Kept) : Type 0 where
+  pub state : State Frame
+  pub stands : Stands outline_of max frames state
+  pub is : kept ≡ kept_of state
+
+-- the last of these frames of one channel gives this
+pub record IsTold (max : ℕ) (frames : List Frame) (outcome : Told) : Type 0 where
+  pub answer : Answer Frame
+  pub last : IsLastAnswer outline_of max frames answer
+  pub is : outcome ≡ told_of answer
+
+-- what is kept of a channel before and after one more frame, and what the frame gives
+pub record Pushes (max : ℕ) (before after : Option Kept) (frame : Frame) (outcome : Told) : Type 0 where
+  pub gives : (frames : List Frame) → AssemblerStands max frames before → IsTold max (frames ++ frame ∷ []) outcome
+  pub stands : (frames : List Frame) → AssemblerStands max frames before → AssemblerStands max (frames ++ frame ∷ []) after
+
+-- an assembler as callers see it: the greatest size of a body, and what is kept of each channel of which something is
+pub record Assembling : Type 0 where
+  pub max_body : ℕ
+  pub channels : List (ℕ × Kept)
+
+-- the same of the channel of a frame
+abbrev pub PushesIn : Assembling → Assembling → Frame → Told → Type 0
+PushesIn old new frame outcome = Pushes old.max_body (kept_at old.channels (channel_id_of frame)) (kept_at new.channels (channel_id_of frame)) frame outcome
+
+-- ---- the step of an assembler
+
+abbrev pub pending_kept : Pending → Kept
+pending_kept (pendings.Message opening None body) = message (opening_method opening) None body.items
+pending_kept (pendings.Message opening (Some header) body) = message (opening_method opening) (Some (header_of header)) body.items
+pending_kept pendings.Faulted = fault
+
+abbrev pub entry_kept : ℕ × Pending → ℕ × Kept
+entry_kept entry = (entry.0, pending_kept entry.1)
+
+-- how far what is kept has come
+abbrev pub progress_kept : Kept → Progress
+progress_kept (message opening None body) = progresses.Opened
+progress_kept (message opening (Some header) body) = progresses.Headed header.body_size (length body)
+progress_kept fault = progresses.Faulted
+
+abbrev pub kept_progress : Option Kept → Option Progress
+kept_progress None = None
+kept_progress (Some kept) = Some (progress_kept kept)
+
+-- what is kept with a content header, and with more body bytes
+abbrev pub with_header : Option Kept → ContentHeader → Option Kept
+with_header None header = None
+with_header (Some (message opening before body)) header = Some (message opening (Some header) body)
+with_header (Some fault) header = Some fault
+
+abbrev pub with_bytes : Option Kept → List ℕ → Option Kept
+with_bytes None bytes = None
+with_bytes (Some (message opening header body)) bytes = Some (message opening header (body ++ bytes))
+with_bytes (Some fault) bytes = Some fault
+
+-- a message whose content header has come
+abbrev pub IsHeaded : Kept → Type 0
+IsHeaded (message opening (Some header) body) = Unit {0}
+IsHeaded (message opening None body) = ⊥
+IsHeaded fault = ⊥
+
+abbrev pub IsHeadedThere : Option Kept → Type 0
+IsHeadedThere (Some kept) = IsHeaded kept
+IsHeadedThere None = ⊥
+
+-- the whole message that is kept of a channel
+abbrev pub whole_kept : ℕ → Option Kept → Told
+whole_kept channel (Some (message opening (Some header) body)) = done (record { channel = channel; opening = opening; properties = header.options; body = body })
+whole_kept channel (Some (message opening None body)) = held
+whole_kept channel (Some fault) = held
+whole_kept channel None = held
+
+-- what a frame gives, and what is kept after it, by its mark and what was kept
+abbrev pub told_marked : Option Kept → Frame → Mark → Told
+told_marked kept frame marks.Passed = passed frame
+told_marked kept frame marks.Opening = held
+told_marked kept frame marks.Header = if 0 == (header_in frame).body_size then whole_kept (channel_id_of frame) (with_header kept (header_in frame)) else held
+told_marked kept frame (marks.Body before after size) = if after == size then whole_kept (channel_id_of frame) (with_bytes kept (bytes_of frame)) else held
+told_marked kept frame (marks.Fault bad) = wrong bad
+
+abbrev pub kept_marked : Option Kept → Frame → Mark → Option Kept
+kept_marked kept frame marks.Passed = kept
+kept_marked kept frame marks.Opening = Some (message (method_in frame) None [])
+kept_marked kept frame marks.Header = if 0 == (header_in frame).body_size then None else with_header kept (header_in frame)
+kept_marked kept frame (marks.Body before after size) = if after == size then None else with_bytes kept (bytes_of frame)
+kept_marked kept frame (marks.Fault bad) = Some fault
+
+abbrev pub mark_kept : ℕ → Option Kept → Frame → Mark
+mark_kept max kept frame = mark_after max (kept_progress kept) (outline_of frame)
+
+-- what a frame of content gives, and what is kept after it, where it has this mark
+pub record Takes (before after : Option Kept) (frame : Frame) (mark : Mark) (outcome : Told) : Type 0 where
+  pub gives : outcome ≡ told_marked before frame mark
+  pub keeps : after ≡ kept_marked before frame mark
+
+-- a message has begun
+abbrev pub IsMessage : Option Kept → Type 0
+IsMessage (Some (message opening header body)) = Unit {0}
+IsMessage (Some fault) = ⊥
+IsMessage None = ⊥
+
+-- the same of the channel of a frame, with a mark, and with the mark that the frame has
+abbrev pub TakesIn : Assembling → Assembling → Frame → Mark → Told → Type 0
+TakesIn old new frame mark outcome = Takes (kept_at old.channels (channel_id_of frame)) (kept_at new.channels (channel_id_of frame)) frame mark outcome
+
+abbrev pub TakesMarked : Assembling → Assembling → Frame → Told → Type 0
+TakesMarked old new frame outcome = TakesIn old new frame (mark_kept old.max_body (kept_at old.channels (channel_id_of frame)) frame) outcome

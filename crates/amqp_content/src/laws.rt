@@ -1,0 +1,26 @@
+//! Laws of content, each the contract of a function that does nothing.
+
+ghost use Rattle.amqp_frame.specs.Outlines.{outline_of};
+ghost use Rattle.amqp_content.specs.Marks.{itself};
+ghost use Rattle.amqp_content.specs.Laws.{AnswersAreSteps, SplitsAreWhole, ChannelsAreAnswered, ChannelsAreApart};
+
+/// The answers to the frames of a channel are those of one step after another.
+pub fn answers_are_steps()
+    ensures frames { AnswersAreSteps outline_of }
+    ensures outlines { AnswersAreSteps itself }
+{}
+
+/// Messages that are split into frames come back whole and in order, and no frame is a fault.
+pub fn splits_are_whole()
+    ensures { SplitsAreWhole }
+{}
+
+/// What an assembler gives for the frames of a channel are the answers to these frames.
+pub fn channels_are_answered()
+    ensures { ChannelsAreAnswered }
+{}
+
+/// What comes on other channels changes nothing.
+pub fn channels_are_apart()
+    ensures { ChannelsAreApart }
+{}

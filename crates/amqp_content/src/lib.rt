@@ -1,0 +1,29 @@
+//! Messages of AMQP 0-9-1, put together out of the frames of many channels, and split into frames.
+#![tactic(auto)]
+
+mod assembler;
+mod assembling;
+mod fault;
+mod laws;
+mod mark;
+mod message;
+mod opening;
+mod outcome;
+mod pending;
+mod progress;
+mod splitting;
+#[cfg(test)]
+mod tests;
+mod tracker;
+
+pub use amqp_types::NoMemory;
+pub use assembler::Assembler;
+pub use assembling::assemble;
+pub use fault::ContentFault;
+pub use laws::{answers_are_steps, channels_are_answered, channels_are_apart, splits_are_whole};
+pub use mark::Mark;
+pub use message::Message;
+pub use opening::Opening;
+pub use outcome::Outcome;
+pub use splitting::split;
+pub use tracker::Tracker;
