@@ -1,0 +1,13 @@
+pub mod Refusing
+pub mod Children
+pub mod AfterTag
+pub mod Whole
+pub mod Strict
+pub mod Placed
+pub mod ReadParts
+pub mod Sizes
+pub mod InOrder
+pub mod Marking
+pub mod NextKey
+pub mod Putting
+pub mod Written
