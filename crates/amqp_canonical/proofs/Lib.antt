@@ -11,3 +11,4 @@ pub mod Marking
 pub mod NextKey
 pub mod Putting
 pub mod Written
+pub mod PutParts

@@ -67,6 +67,13 @@ value_here room content start size old mid at end bytes more sized fits h =
           record { done = h.done ++ one.thing ∷ []; left = subst P place one.left; put = put_next array_content tagged_bytes each_value all h.done rest one.thing old mid at end fits first new place_after (subst R value put) };
     }
 
+-- the same before its size is known
+pub value_fits_here : (room : ℕ) (content : List ℕ) (start : ℕ) (old mid : List ℕ) (at end : ℕ) → IsBytes content → start < length content → at + length (array_content (values_from room content 0)) ≤ length old → ValuesPut room content start old mid at end
+    → IsRead (judge_value room (drop start content)) × (end + length (canonical_of tagged_bytes (judge_value room (drop start content))) ≤ length mid)
+value_fits_here room content start old mid at end bytes more fits h =
+    let here = value_here room content start (used_of (judge_value room (drop start content))) old mid at end bytes more (λ read. refl) fits h in
+    (here.read, here.fits)
+
 pub values_end : (room : ℕ) (content : List ℕ) (start : ℕ) (old new : List ℕ) (at end : ℕ) → length content ≤ start → ValuesPut room content start old new at end → Puts old new at (array_content (values_from room content 0)) end
 values_end room content start old new at end long h =
     let Q : List FieldValue → Type 0 = λ vs. PutTo array_content (values_from room content 0) h.done vs old new at end in

@@ -4,7 +4,7 @@ ghost use Rattle.std.specs.Prelude.{◌≡◌, ◌≤◌, ◌<◌, ◌+◌, ℕ,
 ghost use Rattle.std.specs.List.Sorted.{IsPermutation};
 ghost use Rattle.amqp_canonical.specs.Marks.{AreEntries, AreInOrder, AreMarks, AreOfTable, AreRead, Follows, blank, marked_entry, ties};
 
-use crate::spans::{entry_size, split_key};
+use crate::spans::{bytes_from, entry_size, split_key};
 use std::cmp::Ordering;
 
 /// What an entry of a table is sorted by, and where it stands. For n bytes the calls that write want n / 2 of them,
@@ -36,10 +36,7 @@ fn leading_bytes(key: &[u8]) -> u64 {
 pub(crate) fn marked(content: &[u8], mark: Mark) -> &[u8]
     ensures { result.now ≡ drop mark.place content.now }
 {
-    match content.get(mark.place as usize..) {
-        Some(rest) => rest,
-        None => &[],
-    }
+    bytes_from(content, mark.place as usize)
 }
 
 /// Marks the entries that fill a table, as they stand, and returns how many there are. None where there are more than

@@ -1,6 +1,6 @@
 //! Where the parts of values and entries lie, told by tags and lengths alone.
 
-ghost use Rattle.std.specs.Prelude.{◌≡◌, ◌≤◌, ◌<◌, ◌+◌, ℕ, length};
+ghost use Rattle.std.specs.Prelude.{◌≡◌, ◌≤◌, ◌<◌, ◌+◌, ℕ, length, drop};
 ghost use Rattle.amqp_types.specs.Judging.{Judge};
 ghost use Rattle.amqp_types.specs.Strings.{judge_long_string};
 ghost use Rattle.amqp_types.specs.ValueJudging.{judge_entry, judge_behind, judge_value, nested};
@@ -45,6 +45,16 @@ pub(crate) fn content_of(i: &[u8]) -> &[u8]
     match parse_long_bytes(i) {
         Ok((_, content)) => content,
         Err(_) => &[],
+    }
+}
+
+/// The bytes from a place on.
+pub(crate) fn bytes_from(bytes: &[u8], place: usize) -> &[u8]
+    ensures { result.now ≡ drop place bytes.now }
+{
+    match bytes.get(place..) {
+        Some(rest) => rest,
+        None => &[],
     }
 }
 

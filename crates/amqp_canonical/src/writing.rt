@@ -10,7 +10,7 @@ ghost use Rattle.amqp_canonical.specs.Marks.{AreEntries, entries_in, entry_at, l
 
 use crate::marks::{Mark, is_tied, mark_in_order, marked};
 use crate::selection::next_entry;
-use crate::spans::{content_of, size_after_tag, split_key, value_size};
+use crate::spans::{bytes_from, content_of, size_after_tag, split_key, value_size};
 use crate::values::{Layout, layout_of};
 use amqp_types::{FieldTag, put_boolean, put_bytes, put_long_uint};
 
@@ -169,7 +169,7 @@ fn put_selected(
     let mut end = at;
     let mut next = next_entry(content, None);
     while let Some((place, key)) = next {
-        end = put_entry(buf, end, scratch, &content[place..], room);
+        end = put_entry(buf, end, scratch, bytes_from(content, place), room);
         next = next_entry(content, Some(key));
     }
     end
