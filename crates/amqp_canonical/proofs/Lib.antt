@@ -1,0 +1,5 @@
+pub mod Refusing
+pub mod Children
+pub mod AfterTag
+pub mod Whole
+pub mod Strict

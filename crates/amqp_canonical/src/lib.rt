@@ -1,0 +1,9 @@
+//! Payloads, tables and values of AMQP 0-9-1 judged where they stand, without taking memory: how many bytes
+//! they use, which fault they have, and whether they stand in their canonical bytes.
+#![tactic(auto)]
+
+mod laws;
+mod values;
+
+pub use laws::canonical_is_strict;
+pub use values::{ValueJudgement, judge_array, judge_table, judge_value};
