@@ -3,3 +3,6 @@ pub mod Children
 pub mod AfterTag
 pub mod Whole
 pub mod Strict
+pub mod Joining
+pub mod Forms
+pub mod OneSlot

@@ -1,2 +1,4 @@
+pub mod Shapes
 pub mod Judgements
+pub mod SlotJudgements
 pub mod CanonicalLaws

@@ -3,7 +3,11 @@
 #![tactic(auto)]
 
 mod laws;
+mod shapes;
+mod slots;
 mod values;
 
 pub use laws::canonical_is_strict;
+pub use shapes::{Shape, header_shapes, property_shapes, shapes_of};
+pub use slots::{Judgement, judge_slots};
 pub use values::{ValueJudgement, judge_array, judge_table, judge_value};
