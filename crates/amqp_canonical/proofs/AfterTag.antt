@@ -66,10 +66,10 @@ tag_behind nest tag.Void bytes v n h = ap tag_of (sym (value_took void_value v 0
 abbrev pub IsTaken : List ℕ → ℕ → Judged FieldValue → Type 0
 IsTaken bytes n judged = (v : FieldValue) × (judged ≡ took v n) × (take n bytes ≡ value_bytes v)
 
-number_past : (width : NumberWidth) (bytes : List ℕ) → length bytes < byte_count width → judge_number width bytes ≡ past
+pub number_past : (width : NumberWidth) (bytes : List ℕ) → length bytes < byte_count width → judge_number width bytes ≡ past
 number_past width bytes short = rw (lt-ltb (length bytes) (byte_count width) short) refl
 
-number_took : (width : NumberWidth) (bytes : List ℕ) → byte_count width ≤ length bytes → judge_number width bytes ≡ took (from_be_bytes (width_of width) (take (byte_count width) bytes)) (byte_count width)
+pub number_took : (width : NumberWidth) (bytes : List ℕ) → byte_count width ≤ length bytes → judge_number width bytes ≡ took (from_be_bytes (width_of width) (take (byte_count width) bytes)) (byte_count width)
 number_took width bytes long = rw (le-ltb (length bytes) (byte_count width) long) refl
 
 signed_past : (kind : SignedKind) (bytes : List ℕ) (n : ℕ) → byte_count (signed_width kind) ≡ n → length bytes < n → judge_signed_kind kind bytes ≡ past

@@ -3,6 +3,9 @@ pub mod Children
 pub mod AfterTag
 pub mod Whole
 pub mod Strict
+pub mod Forms
+pub mod Joining
+pub mod OneSlot
 pub mod Placed
 pub mod ReadParts
 pub mod Sizes
@@ -12,3 +15,4 @@ pub mod NextKey
 pub mod Putting
 pub mod Written
 pub mod PutParts
+pub mod SlotParts

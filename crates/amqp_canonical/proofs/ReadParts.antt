@@ -108,7 +108,7 @@ pub record EntryParts (room : ℕ) (bytes : List ℕ) : Type 0 where
   pub front : take (1 + length (key_in bytes)) bytes ≡ short_string_bytes (key_in bytes)
 
 -- what a short string was read of
-text_parts : (bytes text : List ℕ) (n : ℕ) → judge_short_string bytes ≡ took text n → (text ≡ key_in bytes) × (n ≡ 1 + length (key_in bytes)) × (drop n bytes ≡ after_key bytes) × (1 + length (key_in bytes) ≤ length bytes) × (take (1 + length (key_in bytes)) bytes ≡ short_string_bytes (key_in bytes))
+pub text_parts : (bytes text : List ℕ) (n : ℕ) → judge_short_string bytes ≡ took text n → (text ≡ key_in bytes) × (n ≡ 1 + length (key_in bytes)) × (drop n bytes ≡ after_key bytes) × (1 + length (key_in bytes) ≤ length bytes) × (take (1 + length (key_in bytes)) bytes ≡ short_string_bytes (key_in bytes))
 unfolding judge_short_string
 text_parts [] text n h = absurd cc
 text_parts (k ∷ bytes) text n h =

@@ -70,7 +70,7 @@ array_length : (value : Judge FieldValue) (bytes : List ℕ) → IsRead (judge_a
 unfolding judge_array
 array_length value bytes h = whole_length (λ c. filled value 0 c) (judge_long_string bytes) h
 
-table_length : (value : Judge FieldValue) (bytes : List ℕ) → IsRead (judge_table value bytes) → IsRead (judge_long_string bytes) × (used_of (judge_long_string bytes) ≡ used_of (judge_table value bytes))
+pub table_length : (value : Judge FieldValue) (bytes : List ℕ) → IsRead (judge_table value bytes) → IsRead (judge_long_string bytes) × (used_of (judge_long_string bytes) ≡ used_of (judge_table value bytes))
 unfolding judge_table
 table_length value bytes h = whole_length (λ c. read_map settled (filled (judge_entry value) 0 c)) (judge_long_string bytes) h
 

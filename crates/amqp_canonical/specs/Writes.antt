@@ -2,6 +2,8 @@
 use Rattle.std.specs.Prelude.{ℕ, List, [], ◌∷◌, ◌++◌, take, drop, Result, Ok, Err}
 use Rattle.amqp_types.specs.Judging.{Judged, Judge, Fault, took, past, fault}
 use Rattle.amqp_types.specs.Strings.{short_string_bytes}
+use Rattle.amqp_types.specs.Slots.{Item, Slot, kept_slot, reserved_slot}
+use Rattle.amqp_types.specs.SlotBytes.{form_bytes}
 use Rattle.amqp_types.specs.Values.{FieldValue, Entry, values_of, entries_of}
 use Rattle.amqp_types.specs.ValueBytes.{values_bytes, entries_bytes, tagged_bytes}
 
@@ -42,6 +44,11 @@ array_content vs = values_bytes (values_of vs)
 
 abbrev pub table_content : List Entry → List ℕ
 table_content es = entries_bytes (entries_of es)
+
+-- the canonical bytes of a slot that gives these items
+abbrev pub slot_bytes : Slot → List Item → List ℕ
+slot_bytes (kept_slot form) items = form_bytes form items
+slot_bytes (reserved_slot form constant) items = form_bytes form constant
 
 -- ---- what stands at the front of an entry
 

@@ -9,6 +9,17 @@ ghost use Rattle.amqp_canonical.specs.Writes.{IsRead, canonical_of, used_of, key
 use crate::values::{Layout, layout_of};
 use amqp_types::{FieldTag, parse_long_bytes};
 
+/// How many bytes a length and what it covers take at the front, where both were read there.
+pub(crate) fn long_size(i: &[u8]) -> usize
+    ensures used { IsRead (judge_long_string i.now) → result ≡ used_of (judge_long_string i.now) }
+    ensures bound { result ≤ length i.now }
+{
+    match parse_long_bytes(i) {
+        Ok((n, _)) => n,
+        Err(_) => 0,
+    }
+}
+
 /// How many bytes stand at the front after a tag, where a value of this kind was read there.
 pub(crate) fn size_after_tag(tag: FieldTag, i: &[u8]) -> usize
     ensures used { (room : ℕ) → IsRead (judge_behind (nested room) tag i.now) → result ≡ used_of (judge_behind (nested room) tag i.now) }
@@ -17,10 +28,7 @@ pub(crate) fn size_after_tag(tag: FieldTag, i: &[u8]) -> usize
     match layout_of(tag) {
         Layout::Fixed(n) => n,
         Layout::OneBoolean => 1,
-        Layout::Counted | Layout::Values | Layout::Entries => match parse_long_bytes(i) {
-            Ok((n, _)) => n,
-            Err(_) => 0,
-        },
+        Layout::Counted | Layout::Values | Layout::Entries => long_size(i),
     }
 }
 
