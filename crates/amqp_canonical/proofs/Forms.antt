@@ -33,7 +33,7 @@ use Rattle.amqp_canonical.proofs.Joining.{IsRead, law_read, both_read, both_judg
 pub form_read : (form : Form) → IsRead (judge_form form) (λ level. SpellsForm level form)
 form_read form = law_read (judge_form form) (λ level. SpellsForm level form) (form_bytes form) (forms_lawful form)
 
-form_is_plain : (level : Level) (form : Form) (bytes : List ℕ) (items : List Item) → SpellsForm level form bytes items → SpellsForm plain form bytes items
+pub form_is_plain : (level : Level) (form : Form) (bytes : List ℕ) (items : List Item) → SpellsForm level form bytes items → SpellsForm plain form bytes items
 form_is_plain level form = is_plain (λ l. SpellsForm l form) (forms_lawful form).strict_is_tidy (forms_lawful form).tidy_is_plain level
 
 reserved_read : (form : Form) (constant : List Item) → IsRead (judge_dropped form) (λ level. SpellsReserved level form constant)
@@ -130,6 +130,21 @@ canonical_of_levels judge Spells canonical law bytes (Ok j) fits h =
       tidy = h.tidy;
     }
 canonical_of_levels judge Spells canonical law bytes (Err e) fits h = h
+
+pub levels_of_canonical : {A : Type 0} (judge : Judge A) (Spells : Level → List ℕ → A → Type 0) (canonical : A → List ℕ) → IsLawful judge Spells canonical → (bytes : List ℕ) (r : Result Judgement ParserError) → IsBytes bytes
+    → JudgesTidily (λ bs x. bs ≡ canonical x) (Spells tidy) bytes r (judge bytes) → JudgesLevels Spells bytes r (judge bytes)
+levels_of_canonical judge Spells canonical law bytes (Ok j) fits h =
+    let front = take j.used bytes in
+    let x = h.thing in
+    let one = law.exact.spelled bytes x j.used fits h.is in
+    let P : List ℕ → Type 0 = λ bs. Spells strict bs x in
+    record {
+      thing = x;
+      is = h.is;
+      canonical = told_as j.canonical _ _ h.canonical (λ e. subst P (sym e) (law.canonical_is_strict front x one.0)) (λ s. law.strict_is_canonical front x s);
+      tidy = h.tidy;
+    }
+levels_of_canonical judge Spells canonical law bytes (Err e) fits h = h
 
 pub canonical_slots : (shapes : List Shape) (bytes : List ℕ) (r : Result Judgement ParserError) → IsBytes bytes → are_least (slots_of shapes) ≡ true → JudgesLevels (AllSlots shapes) bytes r (all_slots shapes bytes)
     → JudgesTidily (AreCanonicalSlots (slots_of shapes)) (SpellsSlots tidy (slots_of shapes)) bytes r (judge_slots (slots_of shapes) bytes)

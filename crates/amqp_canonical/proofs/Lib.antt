@@ -6,3 +6,5 @@ pub mod Strict
 pub mod Joining
 pub mod Forms
 pub mod OneSlot
+pub mod MethodWalk
+pub mod Properties

@@ -2,12 +2,16 @@
 //! they use, which fault they have, and whether they stand in their canonical bytes.
 #![tactic(auto)]
 
+mod headers;
 mod laws;
+mod payloads;
 mod shapes;
 mod slots;
 mod values;
 
+pub use headers::judge_content_header;
 pub use laws::canonical_is_strict;
+pub use payloads::judge_payload;
 pub use shapes::{Shape, header_shapes, property_shapes, shapes_of};
 pub use slots::{Judgement, judge_slots};
 pub use values::{ValueJudgement, judge_array, judge_table, judge_value};
