@@ -26,6 +26,7 @@ use Rattle.amqp_canonical.specs.Shapes.{form_of, slot_of, slots_of}
 use Rattle.amqp_canonical.specs.SlotJudgements.{TakesTidily, JudgesTidily, JudgesLevels, after_others, AreCanonicalSlots}
 use Rattle.amqp_canonical.proofs.Refusing.{Fails, fully, fails_next}
 use Rattle.amqp_canonical.proofs.Children.{told_as}
+use Rattle.amqp_canonical.proofs.Strict.{lawful_strict}
 use Rattle.amqp_canonical.proofs.Joining.{IsRead, law_read, both_read, both_judged, told, IsReached, reached_none, reached_more, reached_fails, reached_all}
 
 -- ---- what is spelled is judged
@@ -116,35 +117,18 @@ least_all shapes k end before = before (ap (λ xs. are_least (slots_of xs)) (dro
 
 -- ---- canonical bytes are the strict spelling
 
-pub canonical_of_levels : {A : Type 0} (judge : Judge A) (Spells : Level → List ℕ → A → Type 0) (canonical : A → List ℕ) → IsLawful judge Spells canonical → (bytes : List ℕ) (r : Result Judgement ParserError) → IsBytes bytes
-    → JudgesLevels Spells bytes r (judge bytes) → JudgesTidily (λ bs x. bs ≡ canonical x) (Spells tidy) bytes r (judge bytes)
-canonical_of_levels judge Spells canonical law bytes (Ok j) fits h =
-    let front = take j.used bytes in
-    let x = h.thing in
-    let one = law.exact.spelled bytes x j.used fits h.is in
-    let P : List ℕ → Type 0 = λ bs. Spells strict bs x in
-    record {
-      thing = x;
-      is = h.is;
-      canonical = told_as j.canonical _ _ h.canonical (λ s. law.strict_is_canonical front x s) (λ e. subst P (sym e) (law.canonical_is_strict front x one.0));
-      tidy = h.tidy;
-    }
-canonical_of_levels judge Spells canonical law bytes (Err e) fits h = h
+module _ {A : Type 0} (judge : Judge A) (Spells : Level → List ℕ → A → Type 0) (canonical : A → List ℕ) (law : IsLawful judge Spells canonical) where
+  pub canonical_of_levels : (bytes : List ℕ) (r : Result Judgement ParserError) → IsBytes bytes → JudgesLevels Spells bytes r (judge bytes) → JudgesTidily (λ bs x. bs ≡ canonical x) (Spells tidy) bytes r (judge bytes)
+  canonical_of_levels bytes (Ok j) fits h =
+      let same = lawful_strict judge Spells canonical law bytes h.thing j.used fits h.is in
+      record { thing = h.thing; is = h.is; canonical = told_as j.canonical _ _ h.canonical same.1 same.0; tidy = h.tidy }
+  canonical_of_levels bytes (Err e) fits h = h
 
-pub levels_of_canonical : {A : Type 0} (judge : Judge A) (Spells : Level → List ℕ → A → Type 0) (canonical : A → List ℕ) → IsLawful judge Spells canonical → (bytes : List ℕ) (r : Result Judgement ParserError) → IsBytes bytes
-    → JudgesTidily (λ bs x. bs ≡ canonical x) (Spells tidy) bytes r (judge bytes) → JudgesLevels Spells bytes r (judge bytes)
-levels_of_canonical judge Spells canonical law bytes (Ok j) fits h =
-    let front = take j.used bytes in
-    let x = h.thing in
-    let one = law.exact.spelled bytes x j.used fits h.is in
-    let P : List ℕ → Type 0 = λ bs. Spells strict bs x in
-    record {
-      thing = x;
-      is = h.is;
-      canonical = told_as j.canonical _ _ h.canonical (λ e. subst P (sym e) (law.canonical_is_strict front x one.0)) (λ s. law.strict_is_canonical front x s);
-      tidy = h.tidy;
-    }
-levels_of_canonical judge Spells canonical law bytes (Err e) fits h = h
+  pub levels_of_canonical : (bytes : List ℕ) (r : Result Judgement ParserError) → IsBytes bytes → JudgesTidily (λ bs x. bs ≡ canonical x) (Spells tidy) bytes r (judge bytes) → JudgesLevels Spells bytes r (judge bytes)
+  levels_of_canonical bytes (Ok j) fits h =
+      let same = lawful_strict judge Spells canonical law bytes h.thing j.used fits h.is in
+      record { thing = h.thing; is = h.is; canonical = told_as j.canonical _ _ h.canonical same.0 same.1; tidy = h.tidy }
+  levels_of_canonical bytes (Err e) fits h = h
 
 pub canonical_slots : (shapes : List Shape) (bytes : List ℕ) (r : Result Judgement ParserError) → IsBytes bytes → are_least (slots_of shapes) ≡ true → JudgesLevels (AllSlots shapes) bytes r (all_slots shapes bytes)
     → JudgesTidily (AreCanonicalSlots (slots_of shapes)) (SpellsSlots tidy (slots_of shapes)) bytes r (judge_slots (slots_of shapes) bytes)

@@ -37,7 +37,7 @@ use Rattle.amqp_canonical.specs.SlotJudgements.{TakesTidily, JudgesTidily, Judge
 use Rattle.amqp_canonical.proofs.Refusing.{Fails, fully, fails_next}
 use Rattle.amqp_canonical.proofs.Children.{told_as}
 use Rattle.amqp_canonical.proofs.AfterTag.{number_past, number_took}
-use Rattle.amqp_canonical.proofs.Strict.{canonical_strict}
+use Rattle.amqp_canonical.proofs.Strict.{table_strict}
 
 -- an error that `?` passes on
 pub err_passed : {A : Type 0} (IsCanonical IsTidy : List ℕ → A → Type 0) (bytes : List ℕ) (r : Result Judgement ParserError) (e : ParserError) (j : Judged A) → IsErrAnd r (λ x. x ≡ e) → Fails e j → JudgesTidily IsCanonical IsTidy bytes r j
@@ -139,7 +139,7 @@ pub table_form_took : (bytes : List ℕ) (w : ValueJudgement) → IsBytes bytes 
 unfolding judge_form
 table_form_took bytes w fits h =
     let is = ap (λ j. j >>= λ x. took (entries_item x.0 ∷ []) x.1) h.is in
-    let told = canonical_strict.table 63 bytes h.thing w.used fits h.is in
+    let told = table_strict 63 bytes h.thing w.used fits h.is in
     let Q : List Entry → Type 0 = λ es. SpellsTable strict (SpellsValue strict 63) (take w.used bytes) es in
     let one = (forms_lawful table_form).exact.spelled bytes (entries_item h.thing ∷ []) w.used fits is in
     record {
