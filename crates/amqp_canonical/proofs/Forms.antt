@@ -1,13 +1,9 @@
 -- What a slot holds, judged at every level.
-use Rattle.std.proofs.Common.{◌≡◌, ◌≢◌, ◌&&◌, get_or, drop, ℕ, ◌+◌, ◌<◌, ◌≤◌, ◌↔◌, ◌^◌, Bool, true, false, IsTrue, List, [], ◌∷◌, ◌++◌, length, take, map, Result, Ok, Err, refl, sym, ap, ap₂, subst, ◌∙◌, arith}
+use Rattle.std.proofs.Common.{◌≡◌, ◌&&◌, get_or, drop, ℕ, ◌+◌, ◌<◌, ◌≤◌, Bool, true, List, [], ◌∷◌, ◌++◌, length, Result, Ok, Err, refl, sym, ap, ap₂, ◌∙◌}
 use Rattle.std.proofs.lemmas.List.{at_drop_more, drop_all}
 use Rattle.amqp_types.specs.Levels.{Level, plain, tidy, strict}
-use Rattle.amqp_types.specs.Judging.{Judged, Judge, took, past, IsBytes, ◌>>=◌}
-use Rattle.amqp_types.specs.Sequences.{judge_map, judge_both, SpellsMade, SpellsBoth}
-use Rattle.amqp_types.specs.Answers.{AnswersFully}
-use Rattle.amqp_types.specs.Numbers.{NumberWidth, byte_count}
-use Rattle.amqp_types.specs.Strings.{judge_short_string, judge_long_string}
-use Rattle.amqp_types.specs.Slots.{Item, number_item, flag_item, text_item, bytes_item, entries_item, Form, number_form, flags_form, short_string_form, long_string_form, table_form, Slot, kept_slot, reserved_slot}
+use Rattle.amqp_types.specs.Judging.{Judge, took, IsBytes}
+use Rattle.amqp_types.specs.Slots.{Item, Form, Slot, kept_slot, reserved_slot}
 use Rattle.amqp_types.specs.SlotJudging.{judge_form, judge_dropped, judge_slot, judge_slots}
 use Rattle.amqp_types.specs.SlotBytes.{form_bytes, slots_bytes}
 use Rattle.amqp_types.specs.SlotSpelling.{SpellsForm, SpellsReserved, SpellsSlot, SpellsSlots}
@@ -16,15 +12,13 @@ use Rattle.amqp_types.specs.SlotLaws.{is_least, are_least}
 use Rattle.amqp_types.specs.declared.errors.ParserError.{ParserError}
 use Rattle.amqp_types.proofs.Sequences.{map_taken}
 use Rattle.amqp_types.proofs.FormLaws.{is_plain}
-use Rattle.amqp_types.proofs.Numbers.{number_exact}
-use Rattle.amqp_types.proofs.Texts.{short_string_exact, long_string_exact}
 use Rattle.amqp_values.proofs.SlotForms.{forms_lawful}
 use Rattle.amqp_values.proofs.SlotLaws.{both_true, slots_lawful}
 use Rattle.amqp_canonical.specs.declared.shapes.Shape.{Shape}
 use Rattle.amqp_canonical.specs.declared.slots.Judgement.{Judgement}
-use Rattle.amqp_canonical.specs.Shapes.{form_of, slot_of, slots_of}
+use Rattle.amqp_canonical.specs.Shapes.{slot_of, slots_of}
 use Rattle.amqp_canonical.specs.SlotJudgements.{TakesTidily, JudgesTidily, JudgesLevels, after_others, AreCanonicalSlots}
-use Rattle.amqp_canonical.proofs.Refusing.{Fails, fully, fails_next}
+use Rattle.amqp_canonical.proofs.Refusing.{Fails, fails_next}
 use Rattle.amqp_canonical.proofs.Children.{told_as}
 use Rattle.amqp_canonical.proofs.Strict.{lawful_strict}
 use Rattle.amqp_canonical.proofs.Joining.{IsRead, law_read, both_read, both_judged, told, IsReached, reached_none, reached_more, reached_fails, reached_all}

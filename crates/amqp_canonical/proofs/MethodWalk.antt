@@ -1,13 +1,12 @@
 -- Methods in payloads, judged by the slots of the table.
-use Rattle.std.proofs.Common.{◌≡◌, ℕ, ◌+◌, ◌≤◌, ◌↔◌, Bool, true, false, IsTrue, List, ◌++◌, length, take, drop, Option, Some, None, Result, Ok, Err, refl, sym, ap, ap₂, subst, ◌∙◌, arith, add_assoc}
-use Rattle.std.proofs.lemmas.List.{drop_at, take_at, length-append, length-take-le}
+use Rattle.std.proofs.Common.{◌≡◌, ℕ, ◌+◌, ◌≤◌, true, false, List, ◌++◌, length, take, drop, Option, Some, None, Ok, Err, refl, sym, ap, subst, ◌∙◌}
+use Rattle.std.proofs.lemmas.List.{drop_at, length-take-le}
 use Rattle.std.proofs.Math.Seq.{take-add}
 use Rattle.std.specs.Option.{is_some}
-use Rattle.amqp_types.specs.Levels.{Level, plain, tidy, strict}
-use Rattle.amqp_types.specs.Judging.{Judged, Judge, took, past, fault, unknown_class, unknown_method, IsBytes, ◌>>=◌}
+use Rattle.amqp_types.specs.Levels.{Level, tidy, strict}
+use Rattle.amqp_types.specs.Judging.{Judged, took, fault, unknown_class, unknown_method, IsBytes, ◌>>=◌}
 use Rattle.amqp_types.specs.Answers.{AnswersFully}
-use Rattle.amqp_types.specs.FormLaws.{IsLawful}
-use Rattle.amqp_types.specs.Numbers.{bytes2, number_bytes, judge_number, SpellsNumber}
+use Rattle.amqp_types.specs.Numbers.{bytes2, judge_number, SpellsNumber}
 use Rattle.amqp_types.specs.Slots.{Item, Slot}
 use Rattle.amqp_types.specs.SlotJudging.{judge_slots}
 use Rattle.amqp_types.specs.SlotSpelling.{SpellsSlots}
@@ -18,11 +17,9 @@ use Rattle.amqp_types.specs.MethodSpelling.{SpellsPayload}
 use Rattle.amqp_types.specs.declared.errors.ParserError.{ParserError}
 use Rattle.amqp_types.proofs.Bytes.{IsBytes-drop}
 use Rattle.amqp_types.proofs.FormLaws.{numbers_lawful}
-use Rattle.amqp_types.proofs.Numbers.{number_bytes-length}
-use Rattle.amqp_values.proofs.SlotLaws.{slots_lawful}
 use Rattle.amqp_values.proofs.MethodLaws.{in_table, rows_lawful, payloads_lawful}
 use Rattle.amqp_canonical.specs.declared.slots.Judgement.{Judgement}
-use Rattle.amqp_canonical.specs.SlotJudgements.{TakesTidily, JudgesTidily, JudgesLevels, AreCanonicalSlots, IsCanonicalPayload}
+use Rattle.amqp_canonical.specs.SlotJudgements.{TakesTidily, AreCanonicalSlots, IsCanonicalPayload}
 use Rattle.amqp_canonical.proofs.Refusing.{Fails, fully, fails_next}
 use Rattle.amqp_canonical.proofs.Children.{told_as}
 use Rattle.amqp_canonical.proofs.Joining.{told}

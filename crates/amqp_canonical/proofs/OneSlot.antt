@@ -1,14 +1,13 @@
 -- What one slot holds, judged at every level.
-use Rattle.std.proofs.Common.{◌≡◌, ℕ, suc, ◌+◌, ◌*◌, ◌/◌, ◌^◌, ◌<◌, ◌≤◌, ◌↔◌, nat_eq, leb, Bool, true, false, true≢false, IsTrue, List, [], ◌∷◌, ◌++◌, length, get_or, take, drop, map, Result, Ok, Err, refl, sym, ap, subst, ◌∙◌, arith}
+use Rattle.std.proofs.Common.{◌≡◌, ℕ, ◌/◌, ◌^◌, ◌<◌, ◌≤◌, ◌↔◌, nat_eq, Bool, true, false, true≢false, IsTrue, List, [], ◌∷◌, length, get_or, take, map, Result, Ok, Err, refl, sym, ap, subst, ◌∙◌, arith}
 use Rattle.std.proofs.lemmas.Bool.Decides.{nat_tests}
 use Rattle.std.proofs.lemmas.Nat.{pow_pos}
-use Rattle.std.proofs.Math.Nat.{pow-le-pow_right, div-eq_of_lt, div-lt_iff_lt-mul}
+use Rattle.std.proofs.Math.Nat.{pow-le-pow_right, div-lt_iff_lt-mul}
 use Rattle.std.specs.Cmp.Lexicographic.{pointwise, told_text}
 use Rattle.std.specs.Int.{from_be_bytes}
 use Rattle.std.specs.Result.{IsErrAnd}
 use Rattle.amqp_types.specs.Levels.{Level, plain, tidy, strict}
-use Rattle.amqp_types.specs.Judging.{Judged, Judge, took, past, IsBytes, ◌>>=◌}
-use Rattle.amqp_types.specs.Sequences.{SpellsMade}
+use Rattle.amqp_types.specs.Judging.{Judged, took, past, IsBytes, ◌>>=◌}
 use Rattle.amqp_types.specs.Answers.{AnswersFully}
 use Rattle.amqp_types.specs.Numbers.{NumberWidth, width_of, byte_count, number_limit, number_bytes, judge_number}
 use Rattle.amqp_types.specs.Flags.{flags_from, judge_flags}
@@ -211,8 +210,8 @@ pub reserved_arm : (shape other : Shape) (constant : List Item) (written bytes :
     → JudgesLevels (λ level. SpellsSlot level (slot_of shape)) bytes r (judge_slot (slot_of shape) bytes)
 reserved_arm shape other constant written bytes r same slot least is h =
     let P : Shape → Type 0 = λ s.
-        ((items : List Item) → is_least (form_of s) items ≡ true → written ≡ form_bytes (form_of s) items → JudgesLevels (λ level. SpellsReserved level (form_of s) items) bytes r (judge_dropped (form_of s) bytes))
-        → JudgesLevels (λ level. SpellsSlot level (slot_of s)) bytes r (judge_slot (slot_of s) bytes)
-        in
+    ((items : List Item) → is_least (form_of s) items ≡ true → written ≡ form_bytes (form_of s) items → JudgesLevels (λ level. SpellsReserved level (form_of s) items) bytes r (judge_dropped (form_of s) bytes))
+    → JudgesLevels (λ level. SpellsSlot level (slot_of s)) bytes r (judge_slot (slot_of s) bytes)
+    in
     let Q : Slot → Type 0 = λ s. JudgesLevels (λ level. SpellsSlot level s) bytes r (judge_slot s bytes) in
     subst P (sym same) (λ k. subst Q (sym slot) (k constant least is)) h

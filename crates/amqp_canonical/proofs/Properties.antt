@@ -1,14 +1,13 @@
 -- Properties, judged by the table, and content headers.
-use Rattle.std.proofs.Common.{◌≡◌, ℕ, ◌+◌, ◌/◌, ◌%◌, ◌^◌, ◌<◌, ◌≤◌, ◌↔◌, ◌&&◌, nat_eq, Bool, true, false, true≢false, IsTrue, List, [], ◌∷◌, ◌++◌, length, get_or, take, drop, map, bit_and, Option, Some, None, Result, Ok, Err, refl, sym, ap, ap₂, subst, ◌∙◌, arith, append_assoc}
+use Rattle.std.proofs.Common.{◌≡◌, ℕ, ◌+◌, ◌^◌, ◌<◌, ◌≤◌, ◌↔◌, ◌&&◌, Bool, true, false, true≢false, IsTrue, List, [], ◌∷◌, ◌++◌, length, get_or, take, drop, map, Option, None, Result, Ok, Err, refl, sym, ap, ap₂, subst, ◌∙◌, arith, append_assoc}
 use Rattle.std.proofs.lemmas.Bool.{ne_eqb}
-use Rattle.std.proofs.lemmas.Bool.Decides.{nat_tests}
 use Rattle.std.proofs.lemmas.List.{take-append-drop}
 use Rattle.std.proofs.lemmas.Nat.Bits.{bit_at_above}
 use Rattle.std.proofs.Math.Seq.{take-add}
 use Rattle.std.specs.Int.{bit_at}
 use Rattle.amqp_types.specs.Levels.{Level, plain, tidy, strict}
 use Rattle.amqp_types.specs.Judging.{Judged, Judge, took, IsBytes, ◌>>=◌}
-use Rattle.amqp_types.specs.Sequences.{judge_both, SpellsBoth, SpellsMade}
+use Rattle.amqp_types.specs.Sequences.{SpellsBoth, SpellsMade}
 use Rattle.amqp_types.specs.Answers.{AnswersFully}
 use Rattle.amqp_types.specs.Numbers.{bytes2, number_bytes, judge_number, SpellsNumber}
 use Rattle.amqp_types.specs.Flags.{flag_at, FromTidy}
@@ -20,10 +19,9 @@ use Rattle.amqp_types.specs.Properties.{Property, properties}
 use Rattle.amqp_types.specs.PropertyJudging.{first_item, judge_optional, judge_set, judge_properties}
 use Rattle.amqp_types.specs.PropertySpelling.{SpellsOptional, SpellsSet, SpellsProperties}
 use Rattle.amqp_types.specs.PropertyBytes.{properties_bytes}
-use Rattle.amqp_types.specs.ContentHeaders.{ContentHeader, header_slots, header_of_parts, judge_content_header, SpellsContentHeader, content_header_bytes}
+use Rattle.amqp_types.specs.ContentHeaders.{header_slots, header_of_parts, judge_content_header, SpellsContentHeader, content_header_bytes}
 use Rattle.amqp_types.specs.declared.errors.ParserError.{ParserError}
-use Rattle.amqp_types.proofs.Bytes.{IsBytes-drop}
-use Rattle.amqp_types.proofs.FormLaws.{is_plain, numbers_lawful}
+use Rattle.amqp_types.proofs.FormLaws.{numbers_lawful}
 use Rattle.amqp_types.proofs.Sequences.{map_taken}
 use Rattle.amqp_types.proofs.Took.{value_took}
 use Rattle.amqp_values.proofs.SlotForms.{forms_lawful}
@@ -50,9 +48,9 @@ optional_read false form = record { read = λ level bytes rest option h. ap₂ (
 
 made_at : (level : Level) (form : Form) (bytes : List ℕ) (items : List Item) → SpellsForm plain form bytes items → SpellsForm level form bytes items ↔ SpellsMade (SpellsForm level form) first_item bytes (first_item items)
 made_at level form bytes items h = (
-      λ s. record { thing = items; spelled = s; made = refl },
-      λ s. subst (SpellsForm level form bytes) ((forms_lawful form).one_meaning plain bytes s.thing items (form_is_plain level form bytes s.thing s.spelled) h) s.spelled,
-    )
+  λ s. record { thing = items; spelled = s; made = refl },
+  λ s. subst (SpellsForm level form bytes) ((forms_lawful form).one_meaning plain bytes s.thing items (form_is_plain level form bytes s.thing s.spelled) h) s.spelled,
+)
 
 pub optional_there : (present : Bool) (form : Form) (bytes : List ℕ) (r : Result Judgement ParserError) → IsBytes bytes → present ≡ true → JudgesLevels (λ level. SpellsForm level form) bytes r (judge_form form bytes)
     → JudgesLevels (λ level. SpellsOptional level present form) bytes r (judge_optional present form bytes)
@@ -179,8 +177,8 @@ module _ (bytes : List ℕ) (mask n used : ℕ) (options : List (Option Item)) (
       let both : SpellsBoth (SpellsNumber bytes2) (SpellsSet level mask properties) (λ m o. o) (take (n + used) bytes) options =
       record { front = number_bytes bytes2 s.mask; behind = s.behind; one = s.mask; two = options; bytes_are = s.bytes_are; first_is = record { fits = s.fits; bytes_are = refl }; second_is = subst P same s.set; joined = refl } in
       let split = split_at (judge_number bytes2) (judge_set mask properties) (λ m o. o) (λ level. SpellsNumber bytes2) (λ level. SpellsSet level mask properties) (law_read (judge_number bytes2) (λ level. SpellsNumber bytes2) (number_bytes bytes2) (numbers_lawful bytes2)) (set_read mask properties)
-          level bytes mask options n used is set_is both
-          in
+      level bytes mask options n used is set_is both
+      in
       (split.1, subst Q same (to s))
 
 pub properties_took : (bytes : List ℕ) (mask n : ℕ) (unused : Bool) (j : Judgement) → IsBytes bytes → judge_number bytes2 bytes ≡ took mask n → IsTrue unused ↔ NoUnused mask

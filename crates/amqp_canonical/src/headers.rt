@@ -99,3 +99,6 @@ pub fn judge_content_header(payload: &[u8]) -> Result<Judgement, ParserError>
         tidy: front.tidy & properties.tidy,
     })
 }
+
+#[cfg(test)]
+mod tests;

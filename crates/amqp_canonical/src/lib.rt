@@ -11,8 +11,8 @@ mod values;
 
 pub use headers::judge_content_header;
 pub use laws::{
-    canonical_content_headers_are_strict, canonical_payloads_are_strict, canonical_slots_are_strict,
-    canonical_values_are_strict,
+    canonical_content_headers_are_strict, canonical_payloads_are_strict,
+    canonical_slots_are_strict, canonical_values_are_strict,
 };
 pub use payloads::judge_payload;
 pub use shapes::{Shape, header_shapes, property_shapes, shapes_of};

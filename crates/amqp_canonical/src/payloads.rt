@@ -43,3 +43,6 @@ pub fn judge_payload(payload: &[u8]) -> Result<Judgement, ParserError>
         tidy: slots.tidy,
     })
 }
+
+#[cfg(test)]
+mod tests;

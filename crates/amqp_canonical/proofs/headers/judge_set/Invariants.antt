@@ -1,6 +1,4 @@
-use Rattle.std.proofs.Common.{◌≡◌, ◌≤◌, length, map}
-use Rattle.amqp_types.specs.Properties.{properties}
-use Rattle.amqp_canonical.specs.Shapes.{property_of}
+use Rattle.std.proofs.Common.{◌≤◌, length}
 use Rattle.amqp_canonical.proofs.Properties.{ArePropertiesReached}
 use Rattle.amqp_canonical.proofs.headers.judge_set.Given as goal
 

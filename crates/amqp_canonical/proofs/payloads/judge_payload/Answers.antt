@@ -1,4 +1,4 @@
-use Rattle.std.proofs.Common.{ℕ, drop, sym, ◌∙◌, arith}
+use Rattle.std.proofs.Common.{ℕ, ◌-◌, length, take, drop, sym, ◌∙◌, arith}
 use Rattle.std.proofs.lemmas.List.{take_rest}
 use Rattle.amqp_types.specs.Levels.{tidy}
 use Rattle.amqp_types.specs.MethodSpelling.{SpellsPayload}
@@ -28,9 +28,11 @@ returns-in_default-clause-judged c =
 
 pub returns-in_err-slots-clause-judged : goal.returns-in_err-slots-clause-judged
 returns-in_err-slots-clause-judged c =
+    let behind = take (length c.args.payload.now - c.in_ok-n.n) (drop c.in_ok-n.n c.args.payload.now) in
     err_passed IsCanonicalPayload (SpellsPayload tidy) c.args.payload.now _ c.in_err-slots.field-0.0 _ c.from_residual-in_err-slots.ensures.1
-    (payload_fails c.args.payload.now c.in_ok-n.class c.in_ok-n.n c.in_ok-m.id c.in_ok-m.m (slots_of c.in-Some.shapes.now) c.in_err-slots.field-0.0 c.in_ok-n.ensures.judged (rw take_rest at c.in_ok-m.ensures.judged) (sym c.in-Some.ensures) (rw take_rest at (rw take_rest at c.in_err-slots.ensures.judged)))
+    (payload_fails c.args.payload.now c.in_ok-n.class c.in_ok-n.n c.in_ok-m.id c.in_ok-m.m (slots_of c.in-Some.shapes.now) c.in_err-slots.field-0.0 c.in_ok-n.ensures.judged (rw take_rest at c.in_ok-m.ensures.judged) (sym c.in-Some.ensures) (rw take_rest at (rw (take_rest behind c.in_ok-m.m) at c.in_err-slots.ensures.judged)))
 
 pub returns-clause-judged : goal.returns-clause-judged
 returns-clause-judged c =
-    payload_took c.args.payload.now c.in_ok-n.class c.in_ok-n.n c.in_ok-m.id c.in_ok-m.m (slots_of c.in-Some.shapes.now) c.in_ok-slots.slots (λ k. omega (arith, c.type_inv.payload k)) c.in_ok-n.ensures.judged (rw take_rest at c.in_ok-m.ensures.judged) (sym c.in-Some.ensures) (rw take_rest at (rw take_rest at c.in_ok-slots.ensures.judged))
+    let behind = take (length c.args.payload.now - c.in_ok-n.n) (drop c.in_ok-n.n c.args.payload.now) in
+    payload_took c.args.payload.now c.in_ok-n.class c.in_ok-n.n c.in_ok-m.id c.in_ok-m.m (slots_of c.in-Some.shapes.now) c.in_ok-slots.slots (λ k. omega (arith, c.type_inv.payload k)) c.in_ok-n.ensures.judged (rw take_rest at c.in_ok-m.ensures.judged) (sym c.in-Some.ensures) (rw take_rest at (rw (take_rest behind c.in_ok-m.m) at c.in_ok-slots.ensures.judged))
