@@ -1,13 +1,9 @@
 -- What a slot holds, judged at every level.
-use Rattle.std.proofs.Common.{◌≡◌, ◌≢◌, ◌&&◌, get_or, drop, ℕ, ◌+◌, ◌<◌, ◌≤◌, ◌↔◌, ◌^◌, Bool, true, false, IsTrue, List, [], ◌∷◌, ◌++◌, length, take, map, Result, Ok, Err, refl, sym, ap, ap₂, subst, ◌∙◌, arith}
+use Rattle.std.proofs.Common.{◌≡◌, ◌&&◌, get_or, drop, ℕ, ◌+◌, ◌<◌, ◌≤◌, Bool, true, List, [], ◌∷◌, ◌++◌, length, Result, Ok, Err, refl, sym, ap, ap₂, ◌∙◌}
 use Rattle.std.proofs.lemmas.List.{at_drop_more, drop_all}
 use Rattle.amqp_types.specs.Levels.{Level, plain, tidy, strict}
-use Rattle.amqp_types.specs.Judging.{Judged, Judge, took, past, IsBytes, ◌>>=◌}
-use Rattle.amqp_types.specs.Sequences.{judge_map, judge_both, SpellsMade, SpellsBoth}
-use Rattle.amqp_types.specs.Answers.{AnswersFully}
-use Rattle.amqp_types.specs.Numbers.{NumberWidth, byte_count}
-use Rattle.amqp_types.specs.Strings.{judge_short_string, judge_long_string}
-use Rattle.amqp_types.specs.Slots.{Item, number_item, flag_item, text_item, bytes_item, entries_item, Form, number_form, flags_form, short_string_form, long_string_form, table_form, Slot, kept_slot, reserved_slot}
+use Rattle.amqp_types.specs.Judging.{Judge, took, IsBytes}
+use Rattle.amqp_types.specs.Slots.{Item, Form, Slot, kept_slot, reserved_slot}
 use Rattle.amqp_types.specs.SlotJudging.{judge_form, judge_dropped, judge_slot, judge_slots}
 use Rattle.amqp_types.specs.SlotBytes.{form_bytes, slots_bytes}
 use Rattle.amqp_types.specs.SlotSpelling.{SpellsForm, SpellsReserved, SpellsSlot, SpellsSlots}
@@ -16,16 +12,15 @@ use Rattle.amqp_types.specs.SlotLaws.{is_least, are_least}
 use Rattle.amqp_types.specs.declared.errors.ParserError.{ParserError}
 use Rattle.amqp_types.proofs.Sequences.{map_taken}
 use Rattle.amqp_types.proofs.FormLaws.{is_plain}
-use Rattle.amqp_types.proofs.Numbers.{number_exact}
-use Rattle.amqp_types.proofs.Texts.{short_string_exact, long_string_exact}
 use Rattle.amqp_values.proofs.SlotForms.{forms_lawful}
 use Rattle.amqp_values.proofs.SlotLaws.{both_true, slots_lawful}
 use Rattle.amqp_canonical.specs.declared.shapes.Shape.{Shape}
 use Rattle.amqp_canonical.specs.declared.slots.Judgement.{Judgement}
-use Rattle.amqp_canonical.specs.Shapes.{form_of, slot_of, slots_of}
+use Rattle.amqp_canonical.specs.Shapes.{slot_of, slots_of}
 use Rattle.amqp_canonical.specs.SlotJudgements.{TakesTidily, JudgesTidily, JudgesLevels, after_others, AreCanonicalSlots}
-use Rattle.amqp_canonical.proofs.Refusing.{Fails, fully, fails_next}
+use Rattle.amqp_canonical.proofs.Refusing.{Fails, fails_next}
 use Rattle.amqp_canonical.proofs.Children.{told_as}
+use Rattle.amqp_canonical.proofs.Strict.{lawful_strict}
 use Rattle.amqp_canonical.proofs.Joining.{IsRead, law_read, both_read, both_judged, told, IsReached, reached_none, reached_more, reached_fails, reached_all}
 
 -- ---- what is spelled is judged
@@ -33,7 +28,7 @@ use Rattle.amqp_canonical.proofs.Joining.{IsRead, law_read, both_read, both_judg
 pub form_read : (form : Form) → IsRead (judge_form form) (λ level. SpellsForm level form)
 form_read form = law_read (judge_form form) (λ level. SpellsForm level form) (form_bytes form) (forms_lawful form)
 
-form_is_plain : (level : Level) (form : Form) (bytes : List ℕ) (items : List Item) → SpellsForm level form bytes items → SpellsForm plain form bytes items
+pub form_is_plain : (level : Level) (form : Form) (bytes : List ℕ) (items : List Item) → SpellsForm level form bytes items → SpellsForm plain form bytes items
 form_is_plain level form = is_plain (λ l. SpellsForm l form) (forms_lawful form).strict_is_tidy (forms_lawful form).tidy_is_plain level
 
 reserved_read : (form : Form) (constant : List Item) → IsRead (judge_dropped form) (λ level. SpellsReserved level form constant)
@@ -116,20 +111,18 @@ least_all shapes k end before = before (ap (λ xs. are_least (slots_of xs)) (dro
 
 -- ---- canonical bytes are the strict spelling
 
-pub canonical_of_levels : {A : Type 0} (judge : Judge A) (Spells : Level → List ℕ → A → Type 0) (canonical : A → List ℕ) → IsLawful judge Spells canonical → (bytes : List ℕ) (r : Result Judgement ParserError) → IsBytes bytes
-    → JudgesLevels Spells bytes r (judge bytes) → JudgesTidily (λ bs x. bs ≡ canonical x) (Spells tidy) bytes r (judge bytes)
-canonical_of_levels judge Spells canonical law bytes (Ok j) fits h =
-    let front = take j.used bytes in
-    let x = h.thing in
-    let one = law.exact.spelled bytes x j.used fits h.is in
-    let P : List ℕ → Type 0 = λ bs. Spells strict bs x in
-    record {
-      thing = x;
-      is = h.is;
-      canonical = told_as j.canonical _ _ h.canonical (λ s. law.strict_is_canonical front x s) (λ e. subst P (sym e) (law.canonical_is_strict front x one.0));
-      tidy = h.tidy;
-    }
-canonical_of_levels judge Spells canonical law bytes (Err e) fits h = h
+module _ {A : Type 0} (judge : Judge A) (Spells : Level → List ℕ → A → Type 0) (canonical : A → List ℕ) (law : IsLawful judge Spells canonical) where
+  pub canonical_of_levels : (bytes : List ℕ) (r : Result Judgement ParserError) → IsBytes bytes → JudgesLevels Spells bytes r (judge bytes) → JudgesTidily (λ bs x. bs ≡ canonical x) (Spells tidy) bytes r (judge bytes)
+  canonical_of_levels bytes (Ok j) fits h =
+      let same = lawful_strict judge Spells canonical law bytes h.thing j.used fits h.is in
+      record { thing = h.thing; is = h.is; canonical = told_as j.canonical _ _ h.canonical same.1 same.0; tidy = h.tidy }
+  canonical_of_levels bytes (Err e) fits h = h
+
+  pub levels_of_canonical : (bytes : List ℕ) (r : Result Judgement ParserError) → IsBytes bytes → JudgesTidily (λ bs x. bs ≡ canonical x) (Spells tidy) bytes r (judge bytes) → JudgesLevels Spells bytes r (judge bytes)
+  levels_of_canonical bytes (Ok j) fits h =
+      let same = lawful_strict judge Spells canonical law bytes h.thing j.used fits h.is in
+      record { thing = h.thing; is = h.is; canonical = told_as j.canonical _ _ h.canonical same.0 same.1; tidy = h.tidy }
+  levels_of_canonical bytes (Err e) fits h = h
 
 pub canonical_slots : (shapes : List Shape) (bytes : List ℕ) (r : Result Judgement ParserError) → IsBytes bytes → are_least (slots_of shapes) ≡ true → JudgesLevels (AllSlots shapes) bytes r (all_slots shapes bytes)
     → JudgesTidily (AreCanonicalSlots (slots_of shapes)) (SpellsSlots tidy (slots_of shapes)) bytes r (judge_slots (slots_of shapes) bytes)

@@ -43,7 +43,7 @@ module _ {A B C : Type 0} (first : Judge A) (second : Judge B) (join : A → B �
   joined_at : (level : Level) (bytes : List ℕ) (x : A) (y : B) (m n : ℕ) → First level (take m bytes) x × Second level (take n (drop m bytes)) y → Both level (take (m + n) bytes) (join x y)
   joined_at level bytes x y m n h = record { front = take m bytes; behind = take n (drop m bytes); one = x; two = y; bytes_are = take-add m n bytes; first_is = h.0; second_is = h.1; joined = refl }
 
-  split_at : (level : Level) (bytes : List ℕ) (x : A) (y : B) (m n : ℕ) → first bytes ≡ took x m → second (drop m bytes) ≡ took y n → Both level (take (m + n) bytes) (join x y) → First level (take m bytes) x × Second level (take n (drop m bytes)) y
+  pub split_at : (level : Level) (bytes : List ℕ) (x : A) (y : B) (m n : ℕ) → first bytes ≡ took x m → second (drop m bytes) ≡ took y n → Both level (take (m + n) bytes) (join x y) → First level (take m bytes) x × Second level (take n (drop m bytes)) y
   split_at level bytes x y m n h k s =
       let tail = drop (m + n) bytes in
       let rest = s.behind ++ tail in

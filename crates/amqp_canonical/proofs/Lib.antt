@@ -3,9 +3,11 @@ pub mod Children
 pub mod AfterTag
 pub mod Whole
 pub mod Strict
-pub mod Forms
 pub mod Joining
+pub mod Forms
 pub mod OneSlot
+pub mod MethodWalk
+pub mod Properties
 pub mod Placed
 pub mod ReadParts
 pub mod Sizes
@@ -16,3 +18,5 @@ pub mod Putting
 pub mod Written
 pub mod PutParts
 pub mod SlotParts
+pub mod InTurn
+pub mod PayloadParts

@@ -1,14 +1,13 @@
 -- What one slot holds, judged at every level.
-use Rattle.std.proofs.Common.{◌≡◌, ℕ, suc, ◌+◌, ◌*◌, ◌/◌, ◌^◌, ◌<◌, ◌≤◌, ◌↔◌, nat_eq, leb, Bool, true, false, true≢false, IsTrue, List, [], ◌∷◌, ◌++◌, length, get_or, take, drop, map, Result, Ok, Err, refl, sym, ap, subst, ◌∙◌, arith}
+use Rattle.std.proofs.Common.{◌≡◌, ℕ, ◌/◌, ◌^◌, ◌<◌, ◌≤◌, ◌↔◌, nat_eq, Bool, true, false, true≢false, IsTrue, List, [], ◌∷◌, length, get_or, take, map, Result, Ok, Err, refl, sym, ap, subst, ◌∙◌, arith}
 use Rattle.std.proofs.lemmas.Bool.Decides.{nat_tests}
 use Rattle.std.proofs.lemmas.Nat.{pow_pos}
-use Rattle.std.proofs.Math.Nat.{pow-le-pow_right, div-eq_of_lt, div-lt_iff_lt-mul}
+use Rattle.std.proofs.Math.Nat.{pow-le-pow_right, div-lt_iff_lt-mul}
 use Rattle.std.specs.Cmp.Lexicographic.{pointwise, told_text}
 use Rattle.std.specs.Int.{from_be_bytes}
 use Rattle.std.specs.Result.{IsErrAnd}
 use Rattle.amqp_types.specs.Levels.{Level, plain, tidy, strict}
-use Rattle.amqp_types.specs.Judging.{Judged, Judge, took, past, IsBytes, ◌>>=◌}
-use Rattle.amqp_types.specs.Sequences.{SpellsMade}
+use Rattle.amqp_types.specs.Judging.{Judged, took, past, IsBytes, ◌>>=◌}
 use Rattle.amqp_types.specs.Answers.{AnswersFully}
 use Rattle.amqp_types.specs.Numbers.{NumberWidth, width_of, byte_count, number_limit, number_bytes, judge_number}
 use Rattle.amqp_types.specs.Flags.{flags_from, judge_flags}
@@ -37,7 +36,7 @@ use Rattle.amqp_canonical.specs.SlotJudgements.{TakesTidily, JudgesTidily, Judge
 use Rattle.amqp_canonical.proofs.Refusing.{Fails, fully, fails_next}
 use Rattle.amqp_canonical.proofs.Children.{told_as}
 use Rattle.amqp_canonical.proofs.AfterTag.{number_past, number_took}
-use Rattle.amqp_canonical.proofs.Strict.{canonical_strict}
+use Rattle.amqp_canonical.proofs.Strict.{table_strict}
 
 -- an error that `?` passes on
 pub err_passed : {A : Type 0} (IsCanonical IsTidy : List ℕ → A → Type 0) (bytes : List ℕ) (r : Result Judgement ParserError) (e : ParserError) (j : Judged A) → IsErrAnd r (λ x. x ≡ e) → Fails e j → JudgesTidily IsCanonical IsTidy bytes r j
@@ -139,7 +138,7 @@ pub table_form_took : (bytes : List ℕ) (w : ValueJudgement) → IsBytes bytes 
 unfolding judge_form
 table_form_took bytes w fits h =
     let is = ap (λ j. j >>= λ x. took (entries_item x.0 ∷ []) x.1) h.is in
-    let told = canonical_strict.table 63 bytes h.thing w.used fits h.is in
+    let told = table_strict 63 bytes h.thing w.used fits h.is in
     let Q : List Entry → Type 0 = λ es. SpellsTable strict (SpellsValue strict 63) (take w.used bytes) es in
     let one = (forms_lawful table_form).exact.spelled bytes (entries_item h.thing ∷ []) w.used fits is in
     record {
@@ -211,8 +210,8 @@ pub reserved_arm : (shape other : Shape) (constant : List Item) (written bytes :
     → JudgesLevels (λ level. SpellsSlot level (slot_of shape)) bytes r (judge_slot (slot_of shape) bytes)
 reserved_arm shape other constant written bytes r same slot least is h =
     let P : Shape → Type 0 = λ s.
-        ((items : List Item) → is_least (form_of s) items ≡ true → written ≡ form_bytes (form_of s) items → JudgesLevels (λ level. SpellsReserved level (form_of s) items) bytes r (judge_dropped (form_of s) bytes))
-        → JudgesLevels (λ level. SpellsSlot level (slot_of s)) bytes r (judge_slot (slot_of s) bytes)
-        in
+    ((items : List Item) → is_least (form_of s) items ≡ true → written ≡ form_bytes (form_of s) items → JudgesLevels (λ level. SpellsReserved level (form_of s) items) bytes r (judge_dropped (form_of s) bytes))
+    → JudgesLevels (λ level. SpellsSlot level (slot_of s)) bytes r (judge_slot (slot_of s) bytes)
+    in
     let Q : Slot → Type 0 = λ s. JudgesLevels (λ level. SpellsSlot level s) bytes r (judge_slot s bytes) in
     subst P (sym same) (λ k. subst Q (sym slot) (k constant least is)) h

@@ -28,6 +28,7 @@ use Rattle.amqp_canonical.specs.declared.shapes.Shape.TheVariants as shapes
 use Rattle.amqp_canonical.specs.Shapes.{form_of, slot_of, slots_of}
 use Rattle.amqp_canonical.specs.Writes.{IsRead, used_of, canonical_of, slot_bytes, key_in}
 use Rattle.amqp_canonical.proofs.ReadParts.{took_of, is_read, text_parts}
+use Rattle.amqp_canonical.proofs.InTurn.{FirstOf, PutInTurn, HereInTurn, turn_none, turn_here, turn_end}
 use Rattle.amqp_canonical.proofs.Sizes.{table_length}
 
 -- ---- what is made of what was read
@@ -162,11 +163,11 @@ copied_spelled long_string_form bytes items is h = h.spelled.bytes_are ∙ ap (�
 copied_spelled table_form bytes items is h = absurd cc
 
 -- so many bytes in front are the canonical bytes
-pub record CopiedSlot (bytes : List ℕ) (n : ℕ) (slot : Slot) : Type 0 where
+pub record CopiedForm (bytes : List ℕ) (n : ℕ) (form : Form) : Type 0 where
   pub within : n ≤ length bytes
-  pub bytes_are : take n bytes ≡ canonical_of (slot_bytes slot) (judge_slot slot bytes)
+  pub bytes_are : take n bytes ≡ canonical_of (form_bytes form) (judge_form form bytes)
 
-copied_form : (form : Form) (bytes : List ℕ) (n : ℕ) → is_copied form ≡ true → IsBytes bytes → IsRead (judge_form form bytes) → n ≡ used_of (judge_form form bytes) → CopiedSlot bytes n (kept_slot form)
+pub copied_form : (form : Form) (bytes : List ℕ) (n : ℕ) → is_copied form ≡ true → IsBytes bytes → IsRead (judge_form form bytes) → n ≡ used_of (judge_form form bytes) → CopiedForm bytes n form
 copied_form form bytes n is fits read used =
     let one = took_of (judge_form form bytes) read in
     let laws = forms_lawful form in
@@ -178,56 +179,45 @@ copied_form form bytes n is fits read used =
     }
 
 -- shapes whose bytes are copied
-abbrev IsCopiedShape : Shape → Type 0
-IsCopiedShape shapes.Octet = Unit {0}
-IsCopiedShape shapes.Short = Unit {0}
-IsCopiedShape shapes.Long = Unit {0}
-IsCopiedShape shapes.LongLong = Unit {0}
-IsCopiedShape (shapes.Flags count) = ⊥
-IsCopiedShape shapes.ShortString = Unit {0}
-IsCopiedShape shapes.LongString = Unit {0}
-IsCopiedShape shapes.Table = ⊥
-IsCopiedShape (shapes.ReservedShort n) = ⊥
-IsCopiedShape (shapes.ReservedLong n) = ⊥
-IsCopiedShape shapes.ReservedFlag = ⊥
-IsCopiedShape shapes.ReservedShortString = ⊥
-IsCopiedShape shapes.ReservedLongString = ⊥
+pub other_form : (s : Shape) → (s ≡ shapes.Table → ⊥) → ((n : ℕ) → s ≡ shapes.Flags n → ⊥) → (s ≡ shapes.ReservedFlag → ⊥) → is_copied (form_of s) ≡ true
+other_form shapes.Octet a b c = refl
+other_form shapes.Short a b c = refl
+other_form shapes.Long a b c = refl
+other_form shapes.LongLong a b c = refl
+other_form (shapes.Flags n) a b c = absurd (b n refl)
+other_form shapes.ShortString a b c = refl
+other_form shapes.LongString a b c = refl
+other_form shapes.Table a b c = absurd (a refl)
+other_form (shapes.ReservedShort n) a b c = refl
+other_form (shapes.ReservedLong n) a b c = refl
+other_form shapes.ReservedFlag a b c = absurd (c refl)
+other_form shapes.ReservedShortString a b c = refl
+other_form shapes.ReservedLongString a b c = refl
 
-pub other_shape : (s : Shape) → (s ≡ shapes.Table → ⊥) → ((n : ℕ) → s ≡ shapes.Flags n → ⊥) → ((n : ℕ) → s ≡ shapes.ReservedShort n → ⊥) → ((n : ℕ) → s ≡ shapes.ReservedLong n → ⊥) → (s ≡ shapes.ReservedFlag → ⊥) → (s ≡ shapes.ReservedShortString → ⊥) → (s ≡ shapes.ReservedLongString → ⊥) → IsCopiedShape s
-other_shape shapes.Octet a b c d e f g = tt
-other_shape shapes.Short a b c d e f g = tt
-other_shape shapes.Long a b c d e f g = tt
-other_shape shapes.LongLong a b c d e f g = tt
-other_shape (shapes.Flags n) a b c d e f g = b n refl
-other_shape shapes.ShortString a b c d e f g = tt
-other_shape shapes.LongString a b c d e f g = tt
-other_shape shapes.Table a b c d e f g = a refl
-other_shape (shapes.ReservedShort n) a b c d e f g = c n refl
-other_shape (shapes.ReservedLong n) a b c d e f g = d n refl
-other_shape shapes.ReservedFlag a b c d e f g = e refl
-other_shape shapes.ReservedShortString a b c d e f g = f refl
-other_shape shapes.ReservedLongString a b c d e f g = g refl
-
-pub copied_slot : (s : Shape) (bytes : List ℕ) (n : ℕ) → IsCopiedShape s → IsBytes bytes → IsRead (judge_slot (slot_of s) bytes) → UsedOf s bytes n → CopiedSlot bytes n (slot_of s)
-copied_slot shapes.Octet bytes n is fits read used = copied_form (number_form bytes1) bytes n refl fits read (used read)
-copied_slot shapes.Short bytes n is fits read used = copied_form (number_form bytes2) bytes n refl fits read (used read)
-copied_slot shapes.Long bytes n is fits read used = copied_form (number_form bytes4) bytes n refl fits read (used read)
-copied_slot shapes.LongLong bytes n is fits read used = copied_form (number_form bytes8) bytes n refl fits read (used read)
-copied_slot (shapes.Flags count) bytes n is fits read used = absurd is
-copied_slot shapes.ShortString bytes n is fits read used = copied_form short_string_form bytes n refl fits read (used read)
-copied_slot shapes.LongString bytes n is fits read used = copied_form long_string_form bytes n refl fits read (used read)
-copied_slot shapes.Table bytes n is fits read used = absurd is
-copied_slot (shapes.ReservedShort k) bytes n is fits read used = absurd is
-copied_slot (shapes.ReservedLong k) bytes n is fits read used = absurd is
-copied_slot shapes.ReservedFlag bytes n is fits read used = absurd is
-copied_slot shapes.ReservedShortString bytes n is fits read used = absurd is
-copied_slot shapes.ReservedLongString bytes n is fits read used = absurd is
+-- shapes of slots that are kept
+pub other_slot : (s : Shape) → ((n : ℕ) → s ≡ shapes.ReservedShort n → ⊥) → ((n : ℕ) → s ≡ shapes.ReservedLong n → ⊥) → (s ≡ shapes.ReservedFlag → ⊥) → (s ≡ shapes.ReservedShortString → ⊥) → (s ≡ shapes.ReservedLongString → ⊥) → slot_of s ≡ kept_slot (form_of s)
+other_slot shapes.Octet c d e f g = refl
+other_slot shapes.Short c d e f g = refl
+other_slot shapes.Long c d e f g = refl
+other_slot shapes.LongLong c d e f g = refl
+other_slot (shapes.Flags n) c d e f g = refl
+other_slot shapes.ShortString c d e f g = refl
+other_slot shapes.LongString c d e f g = refl
+other_slot shapes.Table c d e f g = refl
+other_slot (shapes.ReservedShort n) c d e f g = absurd (c n refl)
+other_slot (shapes.ReservedLong n) c d e f g = absurd (d n refl)
+other_slot shapes.ReservedFlag c d e f g = absurd (e refl)
+other_slot shapes.ReservedShortString c d e f g = absurd (f refl)
+other_slot shapes.ReservedLongString c d e f g = absurd (g refl)
 
 -- ---- the other slots
 
--- this is put for the slot
+-- this is put for the slot, and for what is spelled as it is
 abbrev pub PutAs : Shape → List ℕ → List ℕ → Type 0
 PutAs s bytes put = canonical_of (slot_bytes (slot_of s)) (judge_slot (slot_of s) bytes) ≡ put
+
+abbrev pub FormPutAs : Shape → List ℕ → List ℕ → Type 0
+FormPutAs s bytes put = canonical_of (form_bytes (form_of s)) (judge_form (form_of s) bytes) ≡ put
 
 number_first : (b : ℕ) (bytes : List ℕ) → judge_number bytes1 (b ∷ bytes) ≡ took b 1
 number_first b bytes = let long : 1 ≤ length (b ∷ bytes) = omega arith in rw (le-ltb (length (b ∷ bytes)) 1 long) refl
@@ -240,12 +230,12 @@ no_flags : (count : ℕ) → judge_form (flags_form count) [] ≡ past
 unfolding judge_form judge_flags
 no_flags count = refl
 
-pub flags_slot : (count : ℕ) (bytes : List ℕ) → IsRead (judge_form (flags_form count) bytes) → (0 < length bytes) × PutAs (shapes.Flags count) bytes (flags_byte (flags_from count 0 (get_or bytes 0 0)) ∷ [])
+pub flags_slot : (count : ℕ) (bytes : List ℕ) → IsRead (judge_form (flags_form count) bytes) → (0 < length bytes) × (canonical_of (form_bytes (flags_form count)) (judge_form (flags_form count) bytes) ≡ flags_byte (flags_from count 0 (get_or bytes 0 0)) ∷ [])
 unfolding form_bytes
 flags_slot count [] h = let P : Judged (List Item) → Type 0 = λ j. IsRead j in absurd (subst P (no_flags count) h)
 flags_slot count (b ∷ bytes) h = (omega arith, ap (λ j. canonical_of (form_bytes (flags_form count)) j) (flags_taken count b bytes) ∙ ap (λ fs. flags_byte fs ∷ []) (flags_of-map (flags_from count 0 b)))
 
-pub table_slot : (bytes : List ℕ) → IsRead (judge_form table_form bytes) → IsRead (judge_field_table bytes) × PutAs shapes.Table bytes (canonical_of table_bytes (judge_field_table bytes))
+pub table_slot : (bytes : List ℕ) → IsRead (judge_form table_form bytes) → IsRead (judge_field_table bytes) × FormPutAs shapes.Table bytes (canonical_of table_bytes (judge_field_table bytes))
 unfolding judge_form form_bytes
 table_slot bytes h = (map_read (λ es. entries_item es ∷ []) (judge_field_table bytes) h, map_bytes (λ es. entries_item es ∷ []) (form_bytes table_form) (judge_field_table bytes))
 
@@ -296,13 +286,6 @@ slot_read shapes.ReservedLongString bytes h = (reserved_read long_string_form by
 
 -- ---- slots one after another
 
--- the first slot, and those after it
-pub record FirstSlot (slot : Slot) (slots : List Slot) (bytes : List ℕ) (n : ℕ) : Type 0 where
-  pub first : IsRead (judge_slot slot bytes)
-  pub others : IsRead (judge_slots slots (drop n bytes))
-  pub used : used_of (judge_slots (slot ∷ slots) bytes) ≡ n + used_of (judge_slots slots (drop n bytes))
-  pub bytes_are : canonical_of (slots_bytes (slot ∷ slots)) (judge_slots (slot ∷ slots) bytes) ≡ canonical_of (slot_bytes slot) (judge_slot slot bytes) ++ canonical_of (slots_bytes slots) (judge_slots slots (drop n bytes))
-
 -- the items of the first slot are told from the others by their number
 both_bytes : (slot : Slot) (slots : List Slot) (bytes : List ℕ) (xs ys : List Item) (n : ℕ) → IsBytes bytes → judge_slot slot bytes ≡ took xs n → slots_bytes (slot ∷ slots) (xs ++ ys) ≡ slot_bytes slot xs ++ slots_bytes slots ys
 unfolding slots_bytes judge_dropped
@@ -316,7 +299,7 @@ both_bytes (reserved_slot form constant) slots bytes xs ys n fits is =
     let none : xs ≡ [] = sym (value_took [] xs _ n one.3) in
     ap (λ items. form_bytes form constant ++ slots_bytes slots (items ++ ys)) none
 
-pub first_slot : (slot : Slot) (slots : List Slot) (bytes : List ℕ) (n : ℕ) → IsBytes bytes → IsRead (judge_slots (slot ∷ slots) bytes) → (IsRead (judge_slot slot bytes) → n ≡ used_of (judge_slot slot bytes)) → FirstSlot slot slots bytes n
+pub first_slot : (slot : Slot) (slots : List Slot) (bytes : List ℕ) (n : ℕ) → IsBytes bytes → IsRead (judge_slots (slot ∷ slots) bytes) → (IsRead (judge_slot slot bytes) → n ≡ used_of (judge_slot slot bytes)) → FirstOf judge_slot judge_slots slot_bytes slots_bytes slot slots bytes n
 unfolding judge_slots
 first_slot slot slots bytes n fits h sized =
     let all = took_of (judge_slots (slot ∷ slots) bytes) h in
@@ -330,59 +313,9 @@ first_slot slot slots bytes n fits h sized =
     record {
       first = read;
       others = is_read (judge_slots slots (drop n bytes)) two.0 two.1 rest;
-      used = ap (λ j. used_of j) all.2 ∙ omega (arith, count, size, ap (λ j. used_of j) rest);
       bytes_are = ap (λ j. canonical_of (slots_bytes (slot ∷ slots)) j) all.2 ∙ ap (λ xs. slots_bytes (slot ∷ slots) xs) (sym items) ∙ both_bytes slot slots bytes one.0 two.0 one.1 fits one.2
         ∙ ap₂ (λ a b. a ++ b) (sym (ap (λ j. canonical_of (slot_bytes slot) j) one.2)) (sym (ap (λ j. canonical_of (slots_bytes slots) j) rest));
     }
-
--- ---- the slots from a place on
-
-pub record SlotsPut (slots : List Slot) (bytes left : List ℕ) (k : ℕ) (old new : List ℕ) (at end : ℕ) : Type 0 where
-  pub done : List ℕ
-  pub fits : IsBytes left
-  pub read : IsRead (judge_slots (drop k slots) left)
-  pub parts : canonical_of (slots_bytes slots) (judge_slots slots bytes) ≡ done ++ canonical_of (slots_bytes (drop k slots)) (judge_slots (drop k slots) left)
-  pub put : Puts old new at done end
-
-pub slots_none : (slots : List Slot) (bytes buf : List ℕ) (at : ℕ) → IsBytes bytes → IsRead (judge_slots slots bytes) → SlotsPut slots bytes bytes 0 buf buf at at
-slots_none slots bytes buf at fits read = record { done = []; fits = fits; read = read; parts = refl; put = puts_none buf at [] refl }
-
--- the slot at a place, for which there is room
-pub record SlotHere (slots : List Slot) (slot : Slot) (bytes left : List ℕ) (k n : ℕ) (old mid : List ℕ) (at end : ℕ) : Type 0 where
-  pub read : IsRead (judge_slot slot left)
-  pub room : end + length (canonical_of (slot_bytes slot) (judge_slot slot left)) ≤ length mid
-  pub next : (new : List ℕ) (place : ℕ) → Puts mid new end (canonical_of (slot_bytes slot) (judge_slot slot left)) place → SlotsPut slots bytes (drop n left) (k + 1) old new at place
-
-pub slot_here : (slots : List Slot) (slot : Slot) (bytes left : List ℕ) (k n : ℕ) (old mid : List ℕ) (at end : ℕ) → drop k slots ≡ slot ∷ drop (k + 1) slots → (IsRead (judge_slot slot left) → n ≡ used_of (judge_slot slot left))
-    → at + length (canonical_of (slots_bytes slots) (judge_slots slots bytes)) ≤ length old → SlotsPut slots bytes left k old mid at end → SlotHere slots slot bytes left k n old mid at end
-slot_here slots slot bytes left k n old mid at end is sized room h =
-    let others = drop (k + 1) slots in
-    let P : List Slot → Type 0 = λ ss. IsRead (judge_slots ss left) in
-    let one = first_slot slot others left n h.fits (subst P is h.read) sized in
-    let here = canonical_of (slot_bytes slot) (judge_slot slot left) in
-    let rest = canonical_of (slots_bytes others) (judge_slots others (drop n left)) in
-    let all : canonical_of (slots_bytes slots) (judge_slots slots bytes) ≡ h.done ++ (here ++ rest) = h.parts ∙ ap (λ ss. h.done ++ canonical_of (slots_bytes ss) (judge_slots ss left)) is ∙ ap (λ bs. h.done ++ bs) one.bytes_are in
-    let sum : length (canonical_of (slots_bytes slots) (judge_slots slots bytes)) ≡ length h.done + (length here + length rest) = ap length all ∙ omega (arith, length-append h.done (here ++ rest), length-append here rest) in
-    let same = puts-length old mid at end h.done (omega (arith, sum, room)) h.put in
-    record {
-      read = one.first;
-      room = omega (arith, same, h.put.behind, sum, room);
-      next = λ new place put. record {
-        done = h.done ++ here;
-        fits = IsBytes-drop n left h.fits;
-        read = one.others;
-        parts = all ∙ sym (append_assoc h.done here rest);
-        put = puts_then old mid new at end place h.done here (omega (arith, length-append h.done here, sum, room)) h.put put;
-      };
-    }
-
-pub slots_end : (slots : List Slot) (bytes left : List ℕ) (k : ℕ) (old new : List ℕ) (at end : ℕ) → length slots ≤ k → SlotsPut slots bytes left k old new at end → Puts old new at (canonical_of (slots_bytes slots) (judge_slots slots bytes)) end
-unfolding judge_slots slots_bytes
-slots_end slots bytes left k old new at end long h =
-    let none : drop k slots ≡ [] = drop_all k slots long in
-    let all : canonical_of (slots_bytes slots) (judge_slots slots bytes) ≡ h.done = h.parts ∙ ap (λ ss. h.done ++ canonical_of (slots_bytes ss) (judge_slots ss left)) none ∙ append-nil h.done in
-    let P : List ℕ → Type 0 = λ bs. Puts old new at bs end in
-    subst P (sym all) h.put
 
 -- a byte has no bits from the eighth on
 byte_by : (more count byte : ℕ) → count ≡ 8 + more → byte < 2 ^ 8 → byte < 2 ^ count
@@ -393,6 +326,18 @@ pub byte_below : (count byte : ℕ) → 8 ≤ count → byte < 2 ^ 8 → byte < 
 byte_below count byte up h = byte_by (count - 8) count byte (omega (arith, up)) h
 
 -- ---- by the arms of the code
+
+pub form_read_as : (s t : Shape) (bytes : List ℕ) → s ≡ t → IsRead (judge_form (form_of s) bytes) → IsRead (judge_form (form_of t) bytes)
+form_read_as s t bytes is h = let P : Shape → Type 0 = λ u. IsRead (judge_form (form_of u) bytes) in subst P is h
+
+pub form_put_as : (s t : Shape) (bytes put : List ℕ) → s ≡ t → FormPutAs t bytes put → FormPutAs s bytes put
+form_put_as s t bytes put is h = let P : Shape → Type 0 = λ u. FormPutAs u bytes put in subst P (sym is) h
+
+-- a kept slot is what its form is
+pub kept_read : (s : Shape) (bytes : List ℕ) → slot_of s ≡ kept_slot (form_of s) → IsRead (judge_slot (slot_of s) bytes) → IsRead (judge_form (form_of s) bytes) × PutAs s bytes (canonical_of (form_bytes (form_of s)) (judge_form (form_of s) bytes))
+kept_read s bytes is h =
+    let P : Slot → Type 0 = λ slot. IsRead (judge_slot slot bytes) in
+    (subst P is h, ap (λ slot. canonical_of (slot_bytes slot) (judge_slot slot bytes)) is)
 
 pub read_as : (s t : Shape) (bytes : List ℕ) → s ≡ t → IsRead (judge_slot (slot_of s) bytes) → IsRead (judge_slot (slot_of t) bytes)
 read_as s t bytes is h = let P : Shape → Type 0 = λ u. IsRead (judge_slot (slot_of u) bytes) in subst P is h
@@ -407,3 +352,20 @@ slots_from (s ∷ shapes) (suc k) d h = let next : suc (k + 1) ≡ suc k + 1 = o
 
 pub slot_sized : (s : Shape) (bytes : List ℕ) (n : ℕ) → UsedOf s bytes n → IsRead (judge_slot (slot_of s) bytes) → n ≡ used_of (judge_slot (slot_of s) bytes)
 slot_sized s bytes n used read = let h = slot_read s bytes read in used h.0 ∙ h.1
+
+no_slots : (bytes : List ℕ) → canonical_of (slots_bytes []) (judge_slots [] bytes) ≡ []
+unfolding judge_slots slots_bytes
+no_slots bytes = refl
+
+abbrev pub SlotsPut : List Slot → List ℕ → List ℕ → ℕ → List ℕ → List ℕ → ℕ → ℕ → Type 0
+SlotsPut = PutInTurn judge_slot judge_slots slot_bytes slots_bytes
+
+pub slots_none : (slots : List Slot) (bytes buf : List ℕ) (at : ℕ) → IsBytes bytes → IsRead (judge_slots slots bytes) → SlotsPut slots bytes bytes 0 buf buf at at
+slots_none = turn_none judge_slot judge_slots slot_bytes slots_bytes
+
+pub slot_here : (slots : List Slot) (slot : Slot) (bytes left : List ℕ) (k n : ℕ) (old mid : List ℕ) (at end : ℕ) → drop k slots ≡ slot ∷ drop (k + 1) slots → (IsRead (judge_slot slot left) → n ≡ used_of (judge_slot slot left))
+    → at + length (canonical_of (slots_bytes slots) (judge_slots slots bytes)) ≤ length old → SlotsPut slots bytes left k old mid at end → HereInTurn judge_slot judge_slots slot_bytes slots_bytes slots slot bytes left k n old mid at end
+slot_here = turn_here judge_slot judge_slots slot_bytes slots_bytes first_slot
+
+pub slots_end : (slots : List Slot) (bytes left : List ℕ) (k : ℕ) (old new : List ℕ) (at end : ℕ) → length slots ≤ k → SlotsPut slots bytes left k old new at end → Puts old new at (canonical_of (slots_bytes slots) (judge_slots slots bytes)) end
+slots_end = turn_end judge_slot judge_slots slot_bytes slots_bytes no_slots

@@ -2,7 +2,7 @@
 
 ghost use Rattle.std.specs.Prelude.{◌≡◌, ◌≤◌, ◌+◌, ◌∷◌, [], length};
 ghost use Rattle.amqp_types.specs.Flags.{flags_byte, flags_from};
-ghost use Rattle.amqp_types.specs.SlotBytes.{slots_bytes};
+ghost use Rattle.amqp_types.specs.SlotBytes.{form_bytes, slots_bytes};
 ghost use Rattle.amqp_types.specs.SlotJudging.{judge_form, judge_slot, judge_slots};
 ghost use Rattle.amqp_types.specs.Writing.{Puts};
 ghost use Rattle.amqp_canonical.specs.Shapes.{form_of, slot_of, slots_of};
@@ -18,7 +18,7 @@ use amqp_types::{put_bytes, put_long_uint, put_short_uint};
 const ROOM: usize = 63;
 
 /// How many bytes a slot of this shape takes at the front, where one was read there.
-fn slot_size(shape: Shape, i: &[u8]) -> usize
+pub(crate) fn slot_size(shape: Shape, i: &[u8]) -> usize
     ensures used { IsRead (judge_form (form_of shape) i.now) → result ≡ used_of (judge_form (form_of shape) i.now) }
     ensures bound { result ≤ length i.now + 8 }
 {
@@ -41,8 +41,28 @@ fn lowest_bits(count: u8, byte: u8) -> u8
     if count < 8 { byte % (1 << count) } else { byte }
 }
 
+/// Puts the canonical bytes of what is spelled as a slot of this shape, reserved or not.
+pub(crate) fn put_form(
+    buf: &mut [u8],
+    at: usize,
+    scratch: &mut [Mark],
+    shape: Shape,
+    i: &[u8],
+) -> usize
+    requires read { IsRead (judge_form (form_of shape) i.now) }
+    requires room { at + length (canonical_of (form_bytes (form_of shape)) (judge_form (form_of shape) i.now)) ≤ length buf.old }
+    ensures { Puts buf.old buf.new at (canonical_of (form_bytes (form_of shape)) (judge_form (form_of shape) i.now)) result }
+{
+    match shape {
+        Shape::Table => put_table(buf, at, scratch, i, ROOM),
+        Shape::Flags(count) => put_bytes(buf, at, &[lowest_bits(count, i[0])]),
+        Shape::ReservedFlag => put_bytes(buf, at, &[lowest_bits(1, i[0])]),
+        copied => put_bytes(buf, at, &i[..slot_size(copied, i)]),
+    }
+}
+
 /// Puts the canonical bytes of a slot at a place of a slice, and returns the place after them.
-pub(crate) fn put_slot(
+fn put_slot(
     buf: &mut [u8],
     at: usize,
     scratch: &mut [Mark],
@@ -54,14 +74,12 @@ pub(crate) fn put_slot(
     ensures { Puts buf.old buf.new at (canonical_of (slot_bytes (slot_of shape)) (judge_slot (slot_of shape) i.now)) result }
 {
     match shape {
-        Shape::Table => put_table(buf, at, scratch, i, ROOM),
-        Shape::Flags(count) => put_bytes(buf, at, &[lowest_bits(count, i[0])]),
         Shape::ReservedShort(constant) => put_short_uint(buf, at, &constant),
         Shape::ReservedLong(constant) => put_long_uint(buf, at, &constant),
         Shape::ReservedFlag => put_bytes(buf, at, &[0]),
         Shape::ReservedShortString => put_bytes(buf, at, &[0]),
         Shape::ReservedLongString => put_bytes(buf, at, &[0, 0, 0, 0]),
-        copied => put_bytes(buf, at, &i[..slot_size(copied, i)]),
+        kept => put_form(buf, at, scratch, kept, i),
     }
 }
 

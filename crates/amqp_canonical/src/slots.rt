@@ -208,3 +208,6 @@ pub fn judge_slots(shapes: &[Shape], i: &[u8]) -> Result<Judgement, ParserError>
         tidy,
     })
 }
+
+#[cfg(test)]
+mod tests;

@@ -104,6 +104,32 @@ fn faults_behind_falling_keys_are_told(rt: HostRuntime) {
     );
 }
 
+/// A length is told before what stands inside it, a key before its tag, and a tag before the room.
+#[test]
+fn faults_are_told_in_order(rt: HostRuntime) {
+    assert_eq!(rt;
+        judge_table(&[0, 0, 0, 5, 1, 255, 90, 1], 63),
+        Err(ParserError::Incomplete)
+    );
+    assert_eq!(rt;
+        judge_table(&[0, 0, 0, 4, 1, 255, 90, 1], 63),
+        Err(ParserError::NotUtf8)
+    );
+    assert_eq!(rt;
+        judge_table(&[0, 0, 0, 3, 1, 97, 90], 0),
+        Err(ParserError::UnknownTag)
+    );
+    assert_eq!(rt;
+        judge_table(&[0, 0, 0, 3, 1, 97, 70], 0),
+        Err(ParserError::TooDeep)
+    );
+    assert_eq!(rt;
+        judge_table(&[0, 0, 0, 3, 1, 97, 70], 1),
+        Err(ParserError::ShortPayload)
+    );
+    assert_eq!(rt; judge_value(&[], 0), Err(ParserError::Incomplete));
+}
+
 #[test]
 fn values_and_arrays_are_told(rt: HostRuntime) {
     assert_eq!(rt;
@@ -120,5 +146,8 @@ fn values_and_arrays_are_told(rt: HostRuntime) {
             canonical: true
         })
     );
-    assert_eq!(rt; judge_value(&[65, 0, 0, 0, 0], 0), Err(ParserError::TooDeep));
+    assert_eq!(rt;
+        judge_value(&[65, 0, 0, 0, 0], 0),
+        Err(ParserError::TooDeep)
+    );
 }

@@ -1,4 +1,4 @@
-use Rattle.std.proofs.Common.{[], ◌∷◌, false, refl, arith}
+use Rattle.std.proofs.Common.{[], ◌∷◌, false, refl}
 use Rattle.amqp_types.specs.Slots.{flag_item, text_item, bytes_item}
 use Rattle.amqp_types.specs.SlotBytes.{form_bytes}
 use Rattle.amqp_canonical.specs.declared.shapes.Shape.TheVariants as shapes

@@ -1,4 +1,4 @@
-use Rattle.std.proofs.Common.{ℕ, List, length, get_or, drop, ◌≤◌, arith}
+use Rattle.std.proofs.Common.{length, drop, ◌≤◌, arith}
 use Rattle.std.proofs.lemmas.List.{length-drop, take_rest}
 use Rattle.amqp_canonical.specs.declared.shapes.Shape.TheVariants as shapes
 use Rattle.amqp_canonical.proofs.Forms.{slots_none, slots_more, slots_fail, slots_all, least_more, least_all, canonical_slots}
