@@ -1,5 +1,5 @@
 -- Entries in the order of their keys, of which the last of each key make the table.
-use Rattle.std.proofs.Common.{◌≡◌, ◌<◌, ◌⊎◌, inl, inr, ℕ, zero, suc, List, [], ◌∷◌, ◌++◌, length, map, get_or, Bool, true, false, cond, Option, Some, None, Ordering, Less, Equal, Greater, true≢false, refl, sym, ap, ap₂, subst, ◌∙◌, drop, ◌+◌, arith}
+use Rattle.std.proofs.Common.{◌≡◌, ◌<◌, ◌⊎◌, inl, inr, ℕ, suc, List, [], ◌∷◌, length, map, get_or, Bool, true, false, cond, Option, Some, None, Ordering, Less, Equal, Greater, true≢false, refl, sym, ap, ap₂, subst, ◌∙◌, drop, ◌+◌, arith}
 use Rattle.std.proofs.lemmas.Cmp.{nat_list_cmp_total, tied_itself}
 use Rattle.std.proofs.Math.Seq.{drop-cons}
 use Rattle.std.proofs.lemmas.List.{drop_all}
@@ -13,7 +13,7 @@ use Rattle.std.specs.List.{AllByRecursion}
 use Rattle.std.specs.List.Sorted.{IsPermutation, IsStrictlySortedBy}
 use Rattle.std.specs.Map.{keys_of}
 use Rattle.std.specs.Ordering.{nat_cmp, is_eq}
-use Rattle.amqp_types.specs.Settling.{IsRising, IsSettled, value_at, later, last_at}
+use Rattle.amqp_types.specs.Settling.{IsSettled, value_at, later, last_at}
 use Rattle.amqp_types.specs.Values.{FieldValue, Entry}
 use Rattle.amqp_values.proofs.Settling.{settled_is}
 use Rattle.amqp_canonical.specs.Judgements.{IsBelow}
@@ -130,8 +130,8 @@ settled_ties (e ∷ next ∷ es) h =
     let kept = last_of_ties (next ∷ es) in
     let more = settled_ties (next ∷ es) h.1 in
     choose_kept (is_at (cmp e.0) next.0) e (e ∷ next ∷ es) kept (λ tied. settled_tied e next es kept (tells_apart exact_bytes e.0 next.0 tied) more) (λ apart.
-        let less = below_or_tied e next h.0 apart in
-        settled_below e (next ∷ es) kept (each_weaker (λ k. IsUpTo next.0 k) (λ k. IsBelow e.0 k) (λ k up. below_next e.0 next.0 k less up) (keys_of kept) (first_up_to next es h.1)) more)
+    let less = below_or_tied e next h.0 apart in
+    settled_below e (next ∷ es) kept (each_weaker (λ k. IsUpTo next.0 k) (λ k. IsBelow e.0 k) (λ k up. below_next e.0 next.0 k less up) (keys_of kept) (first_up_to next es h.1)) more)
 
 -- ---- marks in order
 

@@ -20,3 +20,4 @@ pub mod PutParts
 pub mod SlotParts
 pub mod InTurn
 pub mod PayloadParts
+pub mod NoLonger

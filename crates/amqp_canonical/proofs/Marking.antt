@@ -1,5 +1,5 @@
 -- Entries that are marked one after another.
-use Rattle.std.proofs.Common.{◌≡◌, ◌<◌, ◌≤◌, ℕ, ◌+◌, List, [], ◌∷◌, ◌++◌, length, map, drop, All, refl, sym, ap, subst, ◌∙◌, append_assoc, append-nil, arith}
+use Rattle.std.proofs.Common.{◌≡◌, ◌<◌, ◌≤◌, ℕ, ◌+◌, List, [], ◌∷◌, ◌++◌, length, map, drop, refl, sym, ap, subst, ◌∙◌, append_assoc, append-nil, arith}
 use Rattle.std.proofs.lemmas.List.{length-drop, drop-drop, map-append}
 use Rattle.std.proofs.lemmas.List.Elements.{All-nil, All-cons, All-append}
 use Rattle.std.specs.List.{AllByRecursion}
@@ -50,7 +50,7 @@ entries_next room content at size front fits more sized h =
       next = record {
         left = subst P place one.left;
         all = ap (λ e. (front ++ e ∷ []) ++ rest (drop (at + size) content)) entry ∙ append_assoc front (one.thing ∷ []) (rest (drop (at + size) content))
-          ∙ ap (λ bs. front ++ one.thing ∷ rest bs) (sym place) ∙ ap (λ es. front ++ es) (sym one.all) ∙ h.all;
+            ∙ ap (λ bs. front ++ one.thing ∷ rest bs) (sym place) ∙ ap (λ es. front ++ es) (sym one.all) ∙ h.all;
       };
     }
 

@@ -1,5 +1,5 @@
 -- The entry with the least key after another.
-use Rattle.std.proofs.Common.{◌≡◌, ◌≢◌, ◌⊎◌, inl, inr, ℕ, ◌+◌, ◌<◌, ◌≤◌, List, [], ◌∷◌, ◌++◌, length, drop, Bool, true, false, cond, Option, Some, None, Ordering, Less, Equal, Greater, Bor, refl, sym, ap, subst, ◌∙◌, append_assoc, arith}
+use Rattle.std.proofs.Common.{◌≡◌, ◌≢◌, ◌⊎◌, inl, inr, ℕ, ◌+◌, ◌≤◌, List, [], ◌∷◌, ◌++◌, length, drop, Bool, true, false, cond, Option, Some, None, Ordering, Less, Equal, Greater, Bor, refl, sym, ap, subst, ◌∙◌, append_assoc}
 use Rattle.std.proofs.lemmas.Cmp.{nat_list_cmp_total, tied_itself}
 use Rattle.std.proofs.lemmas.Map.Lookups.{exact_bytes}
 use Rattle.std.proofs.lemmas.Map.Views.{tells_apart}
@@ -13,7 +13,7 @@ use Rattle.amqp_types.specs.Values.{FieldValue, Entry}
 use Rattle.amqp_values.proofs.Settling.{settles}
 use Rattle.amqp_canonical.specs.Judgements.{IsBelow}
 use Rattle.amqp_canonical.specs.Writes.{IsRead, key_in}
-use Rattle.amqp_canonical.specs.Marks.{entry_at, entry_of, entries_in, AreEntries, IsAfter, IsNext, HasNoNext, IsNextAt, ComesFirst, FindsNext}
+use Rattle.amqp_canonical.specs.Marks.{entry_at, entry_of, entries_in, AreEntries, IsAfter, IsNext, HasNoNext, ComesFirst, FindsNext}
 use Rattle.amqp_canonical.proofs.InOrder.{cmp, each_weaker, absent}
 use Rattle.amqp_canonical.proofs.Marking.{EntriesTo, EntryHere, entries_none, entries_end}
 use Rattle.amqp_canonical.proofs.ReadParts.{entry_key}

@@ -1,19 +1,18 @@
 -- Methods, properties and content headers that were read, by the parts in which they are put.
-use Rattle.std.proofs.Common.{◌≡◌, ◌≢◌, ◌<◌, ◌≤◌, ◌^◌, ◌%◌, ◌-◌, ◌*◌, ◌/◌, ℕ, zero, suc, ◌+◌, nat_lt, eqb, Bool, true, false, List, [], ◌∷◌, ◌++◌, length, get_or, take, drop, map, Option, Some, None, refl, sym, ap, ap₂, subst, ◌∙◌, append_assoc, append-nil, arith}
-use Rattle.std.proofs.lemmas.List.{length-append, length-map, drop-drop}
-use Rattle.std.proofs.lemmas.Nat.Bits.{bit_at_cat_low}
+use Rattle.std.proofs.Common.{◌≡◌, ◌<◌, ◌≤◌, ◌^◌, ◌%◌, ◌-◌, ℕ, zero, suc, ◌+◌, nat_lt, eqb, Bool, true, false, List, [], ◌∷◌, ◌++◌, length, get_or, take, drop, map, Option, Some, None, refl, sym, ap, ap₂, subst, ◌∙◌, arith}
+use Rattle.std.proofs.lemmas.List.{length-map, drop-drop}
 use Rattle.std.specs.Prelude.{is_some, unwrap_or}
 use Rattle.std.specs.Int.{bit_at}
-use Rattle.amqp_types.specs.Levels.{plain, strict}
+use Rattle.amqp_types.specs.Levels.{plain}
 use Rattle.amqp_types.specs.Judging.{Judged, Judge, Fault, took, past, fault, unknown_class, unknown_method, ◌>>=◌, IsBytes}
-use Rattle.amqp_types.specs.Sequences.{judge_map, judge_both}
+use Rattle.amqp_types.specs.Sequences.{judge_map}
 use Rattle.amqp_types.specs.Numbers.{NumberWidth, bytes2, bytes8, byte_count, number_bytes, judge_number}
 use Rattle.amqp_types.specs.Flags.{flag_at}
 use Rattle.amqp_types.specs.Slots.{Item, number_item, Form, number_form, flags_form, short_string_form, long_string_form, table_form, Slot, kept_slot, reserved_slot}
 use Rattle.amqp_types.specs.SlotJudging.{judge_form, judge_dropped, judge_slot, judge_slots}
 use Rattle.amqp_types.specs.SlotBytes.{item_count, form_bytes, slots_bytes}
 use Rattle.amqp_types.specs.Rows.{rows_of, slots_at}
-use Rattle.amqp_types.specs.Methods.{Method, method, known, judge_method, judge_in_class, judge_payload, method_bytes, payload_bytes}
+use Rattle.amqp_types.specs.Methods.{method, known, judge_method, judge_in_class, judge_payload, method_bytes, payload_bytes}
 use Rattle.amqp_types.specs.Properties.{Property, properties, later_properties}
 use Rattle.amqp_types.specs.ContentHeaders.{header_slots, header_of_parts, judge_content_header, content_header_bytes}
 use Rattle.amqp_types.specs.PropertyJudging.{first_item, judge_optional, judge_set, judge_properties}
@@ -30,8 +29,8 @@ use Rattle.amqp_properties.proofs.Masks.{set_flags, mask_is, mask_of-flags}
 use Rattle.amqp_properties.proofs.Options.{sets_lawful, set_gives}
 use Rattle.amqp_properties.proofs.PropertyLaws.{one_each}
 use Rattle.amqp_canonical.specs.declared.shapes.Shape.{Shape}
-use Rattle.amqp_canonical.specs.Shapes.{form_of, property_of, slots_of}
-use Rattle.amqp_canonical.specs.Writes.{IsRead, used_of, canonical_of, slot_bytes}
+use Rattle.amqp_canonical.specs.Shapes.{property_of}
+use Rattle.amqp_canonical.specs.Writes.{IsRead, used_of, canonical_of}
 use Rattle.amqp_canonical.proofs.InTurn.{FirstOf, PutInTurn, HereInTurn, turn_none, turn_here, turn_end}
 use Rattle.amqp_canonical.proofs.ReadParts.{took_of, is_read}
 
@@ -123,8 +122,8 @@ payload_put bytes class id h one two =
       known_slots = ap₂ (λ c i. slots_at c i) (sym same_class.0) (sym same_id.0) ∙ r.known_slots;
       read = is_read (judge_slots r.slots (drop 4 bytes)) r.items r.count items;
       bytes_are = ap (λ j. canonical_of payload_bytes j) r.is ∙ payload_of r.class r.id r.slots r.items r.known_slots
-        ∙ ap₂ (λ c i. number_bytes bytes2 c ++ (number_bytes bytes2 i ++ slots_bytes r.slots r.items)) same_class.0 same_id.0
-        ∙ ap (λ bs. number_bytes bytes2 class ++ (number_bytes bytes2 id ++ bs)) (sym (ap (λ j. canonical_of (slots_bytes r.slots) j) items));
+          ∙ ap₂ (λ c i. number_bytes bytes2 c ++ (number_bytes bytes2 i ++ slots_bytes r.slots r.items)) same_class.0 same_id.0
+          ∙ ap (λ bs. number_bytes bytes2 class ++ (number_bytes bytes2 id ++ bs)) (sym (ap (λ j. canonical_of (slots_bytes r.slots) j) items));
     }
 
 pub same_some : (x y : List Slot) → Some x ≡ Some y → x ≡ y
@@ -175,7 +174,7 @@ first_property mask p ps bytes n fits h sized =
       first = read;
       others = is_read (judge_set mask ps (drop n bytes)) two.0 two.1 rest;
       bytes_are = ap (λ j. canonical_of (set_bytes (p ∷ ps)) j) all.2 ∙ ap (λ xs. set_bytes (p ∷ ps) xs) (sym options)
-        ∙ ap₂ (λ a b. a ++ b) (sym (ap (λ j. canonical_of (property_bytes p) j) one.2)) (sym (ap (λ j. canonical_of (set_bytes ps) j) rest));
+          ∙ ap₂ (λ a b. a ++ b) (sym (ap (λ j. canonical_of (property_bytes p) j) one.2)) (sym (ap (λ j. canonical_of (set_bytes ps) j) rest));
     }
 
 no_properties : (mask : ℕ) (bytes : List ℕ) → canonical_of (set_bytes []) (judge_set mask [] bytes) ≡ []
@@ -365,7 +364,7 @@ properties_put bytes mask fits h told =
     record {
       read = is_read (judge_set mask properties (drop 2 bytes)) r.options r.count set;
       bytes_are = ap (λ j. canonical_of properties_bytes j) r.is ∙ properties_of r.options
-        ∙ ap₂ (λ m bs. number_bytes bytes2 m ++ bs) (sym low) (sym (ap (λ j. canonical_of (set_bytes properties) j) set));
+          ∙ ap₂ (λ m bs. number_bytes bytes2 m ++ bs) (sym low) (sym (ap (λ j. canonical_of (set_bytes properties) j) set));
     }
 
 -- ---- content headers
@@ -458,5 +457,5 @@ header_put bytes h =
       front = is_read (judge_slots header_slots bytes) one.0 one.1 one.2;
       after = is_read (judge_properties (drop 12 bytes)) two.0 two.1 behind;
       bytes_are = ap (λ j. canonical_of content_header_bytes j) all.2 ∙ ap content_header_bytes (sym header) ∙ ap (λ items. content_header_bytes (header_of_parts items two.0)) gives.2 ∙ header_of gives.0 gives.1 two.0
-        ∙ ap₂ (λ a b. a ++ b) (ap (slots_bytes header_slots) (sym gives.2) ∙ sym (ap (λ j. canonical_of (slots_bytes header_slots) j) one.2)) (sym (ap (λ j. canonical_of properties_bytes j) behind));
+          ∙ ap₂ (λ a b. a ++ b) (ap (slots_bytes header_slots) (sym gives.2) ∙ sym (ap (λ j. canonical_of (slots_bytes header_slots) j) one.2)) (sym (ap (λ j. canonical_of properties_bytes j) behind));
     }

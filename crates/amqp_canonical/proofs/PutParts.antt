@@ -1,13 +1,13 @@
 -- The canonical bytes of what was read, by the parts in which they are put.
-use Rattle.std.proofs.Common.{◌≡◌, ◌⊎◌, inl, inr, ◌<◌, ◌≤◌, ◌^◌, ℕ, zero, suc, ◌+◌, ◌-◌, nat_eq, nat_lt, Bool, true, false, not, List, [], ◌∷◌, ◌++◌, length, get_or, take, drop, Option, Some, None, Result, Ok, Err, refl, sym, ap, ap₂, subst, ◌∙◌, append_assoc, arith}
-use Rattle.std.proofs.lemmas.List.{length-append, length-take-le, length-drop, take_at, drop_at, take-append-le, take-take}
+use Rattle.std.proofs.Common.{◌≡◌, ◌⊎◌, inl, inr, ◌<◌, ◌≤◌, ◌^◌, ℕ, zero, suc, ◌+◌, ◌-◌, nat_eq, not, List, [], ◌∷◌, ◌++◌, length, get_or, take, drop, Option, Some, Result, Ok, Err, refl, sym, ap, ap₂, subst, ◌∙◌, append_assoc, arith}
+use Rattle.std.proofs.lemmas.List.{length-append, length-take-le, drop_at, take-append-le, take-take}
 use Rattle.amqp_types.specs.Judging.{Fault, Judged, Judge, took, past, fault, too_deep, ◌>>=◌, IsBytes}
 use Rattle.amqp_types.specs.Levels.{plain}
-use Rattle.amqp_types.specs.Booleans.{boolean_bytes, judge_boolean}
+use Rattle.amqp_types.specs.Booleans.{boolean_bytes}
 use Rattle.amqp_types.specs.Numbers.{bytes4, number_bytes}
-use Rattle.amqp_types.specs.Strings.{short_string_bytes, with_length, judge_long_string}
+use Rattle.amqp_types.specs.Strings.{with_length, judge_long_string}
 use Rattle.amqp_types.specs.Settling.{settled}
-use Rattle.amqp_types.specs.Values.{FieldValue, Entry, boolean_value, array_value, table_value, values_of, entries_of}
+use Rattle.amqp_types.specs.Values.{FieldValue, Entry, array_value, table_value, values_of, entries_of}
 use Rattle.amqp_types.specs.ValueBytes.{value_bytes, tagged_bytes, array_bytes, table_bytes, values_bytes, entries_bytes, any_value_long, any_entry_long}
 use Rattle.amqp_types.specs.ValueJudging.{whole, read_map, filled, judge_entry, judge_array, judge_table, judge_behind, judge_value, nested}
 use Rattle.amqp_types.specs.ValueSpelling.{SpellsValue}
@@ -225,7 +225,7 @@ length_put canonical j read content old mid new at end place size h room inner i
     let P : List ℕ → Type 0 = λ bs. Puts old new at bs end in
     subst P (sym h.bytes_are) (record {
       put = outer.put ∙ ap (λ n. written mid at (number_bytes bytes4 n)) count ∙ ap (λ buf. written buf at (number_bytes bytes4 (length content))) inner.put
-        ∙ written_before old (number_bytes bytes4 (length content)) content at (at + 4) four (omega (arith, room, all));
+          ∙ written_before old (number_bytes bytes4 (length content)) content at (at + 4) four (omega (arith, room, all));
       behind = inner.behind ∙ omega (arith, four, length-append (number_bytes bytes4 (length content)) content);
     })
 

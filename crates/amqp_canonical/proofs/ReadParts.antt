@@ -1,14 +1,14 @@
 -- What was read, by its parts.
-use Rattle.std.proofs.Common.{◌≡◌, ℕ, zero, suc, ◌+◌, ◌<◌, ◌≤◌, nat_lt, Bool, true, false, List, [], ◌∷◌, ◌++◌, length, get_or, take, drop, Option, Some, None, Result, Ok, Err, refl, sym, ap, ap₂, subst, ◌∙◌, append_assoc, append-nil, arith}
+use Rattle.std.proofs.Common.{◌≡◌, ℕ, zero, suc, ◌+◌, ◌<◌, ◌≤◌, nat_lt, List, [], ◌∷◌, length, get_or, take, drop, Some, None, Result, Ok, Err, refl, sym, ap, ap₂, subst, ◌∙◌, arith}
 use Rattle.std.proofs.lemmas.Bool.Decides.{nat_tests}
-use Rattle.std.proofs.lemmas.List.{length-append, length-drop, length-take-le, drop-drop}
+use Rattle.std.proofs.lemmas.List.{length-take-le}
 use Rattle.std.specs.Str.{is_utf8}
 use Rattle.amqp_types.specs.Judging.{Fault, Judged, Judge, took, past, fault, not_utf8, ◌>>=◌, IsBytes, IsExact}
-use Rattle.amqp_types.specs.Strings.{short_string_bytes, judge_short_string, judge_long_string}
+use Rattle.amqp_types.specs.Strings.{short_string_bytes, judge_short_string}
 use Rattle.amqp_types.specs.Tags.{tag_at, tag_byte, tag_of}
 use Rattle.amqp_types.specs.Values.{FieldValue, Entry}
 use Rattle.amqp_types.specs.ValueBytes.{value_bytes, tagged_bytes}
-use Rattle.amqp_types.specs.ValueJudging.{filled, next_item, read_map, judge_entry, judge_behind, behind_tag, judge_value, nested}
+use Rattle.amqp_types.specs.ValueJudging.{filled, next_item, read_map, judge_entry, judge_behind, judge_value, nested}
 use Rattle.amqp_types.specs.ValueSpelling.{SpellsEntry, SpellsValue}
 use Rattle.amqp_types.specs.Levels.{plain}
 use Rattle.amqp_types.specs.declared.tag.FieldTag.{FieldTag}
@@ -18,7 +18,7 @@ use Rattle.amqp_types.proofs.Took.{bind_took, guard_took, test_took, value_took,
 use Rattle.amqp_values.proofs.Filling.{filled_next}
 use Rattle.amqp_values.proofs.Filled.{HasBytes, entry_exact}
 use Rattle.amqp_values.proofs.Exactly.{value_exact, value_some}
-use Rattle.amqp_canonical.specs.Writes.{IsRead, used_of, canonical_of, IsFilled, items_of, entry_bytes, key_in, after_key}
+use Rattle.amqp_canonical.specs.Writes.{IsRead, used_of, canonical_of, IsFilled, items_of, key_in, after_key}
 use Rattle.amqp_canonical.specs.Marks.{entry_of}
 use Rattle.amqp_canonical.proofs.Refusing.{Fails}
 use Rattle.amqp_canonical.proofs.AfterTag.{tag_behind, judged_tag, value_empty, value_unknown}

@@ -1,5 +1,5 @@
 -- Where the parts of what was read lie.
-use Rattle.std.proofs.Common.{◌≡◌, ◌⊎◌, inl, inr, ℕ, ◌+◌, ◌<◌, ◌≤◌, nat_lt, Bool, true, false, List, [], ◌∷◌, length, take, drop, Option, Some, None, Result, Ok, Err, refl, sym, ap, subst, ◌∙◌, arith}
+use Rattle.std.proofs.Common.{◌≡◌, ◌⊎◌, inl, inr, ℕ, ◌<◌, ◌≤◌, nat_lt, Bool, true, false, List, [], ◌∷◌, length, Option, Some, None, Result, Ok, Err, refl, sym, ap, subst, ◌∙◌, arith}
 use Rattle.std.proofs.lemmas.Bool.Decides.{nat_tests}
 use Rattle.amqp_types.specs.Judging.{Fault, Judged, Judge, took, past, fault, ◌>>=◌, IsBytes}
 use Rattle.amqp_types.specs.Sequences.{judge_map}
@@ -10,13 +10,11 @@ use Rattle.amqp_types.specs.ValueJudging.{whole, read_map, filled, judge_entry, 
 use Rattle.amqp_types.specs.Settling.{settled}
 use Rattle.amqp_types.specs.declared.tag.FieldTag.{FieldTag}
 use Rattle.amqp_types.specs.declared.tag.FieldTag.TheVariants as tag
-use Rattle.amqp_types.specs.declared.errors.ParserError.{ParserError}
 use Rattle.amqp_canonical.specs.declared.values.Layout.{Layout}
 use Rattle.amqp_canonical.specs.declared.values.Layout.TheVariants as layout
 use Rattle.amqp_canonical.specs.Judgements.{layout_at}
 use Rattle.amqp_canonical.specs.Writes.{IsRead, used_of}
 use Rattle.amqp_canonical.proofs.AfterTag.{IsTaken, fixed_past, fixed_took}
-use Rattle.amqp_canonical.proofs.ReadParts.{took_of}
 
 -- ---- what has one size
 

@@ -1,25 +1,22 @@
 -- What slots were read of, and the bytes in which they are put.
-use Rattle.std.proofs.Common.{◌≡◌, ◌⊎◌, inl, inr, ◌<◌, ◌≤◌, ◌^◌, ◌*◌, ◌/◌, ◌%◌, ◌-◌, ℕ, zero, suc, ◌+◌, nat_lt, eqb, cond, Bool, true, false, List, [], ◌∷◌, ◌++◌, length, get_or, take, drop, map, refl, sym, ap, ap₂, subst, ◌∙◌, append_assoc, append-nil, arith}
+use Rattle.std.proofs.Common.{◌≡◌, ◌⊎◌, inl, inr, ◌<◌, ◌≤◌, ◌^◌, ◌*◌, ◌/◌, ◌%◌, ◌-◌, ℕ, zero, suc, ◌+◌, nat_lt, eqb, cond, Bool, true, false, List, [], ◌∷◌, ◌++◌, length, get_or, take, drop, map, refl, sym, ap, ap₂, subst, ◌∙◌, arith}
 use Rattle.std.proofs.lemmas.Bool.{le-ltb}
-use Rattle.std.proofs.lemmas.List.{length-append, length-take-le, take_at, drop_at, drop_all}
+use Rattle.std.proofs.lemmas.List.{take_at, drop_at}
 use Rattle.std.proofs.lemmas.Nat.{div-add-mod', pow_pos, pow_below}
 use Rattle.std.proofs.lemmas.Nat.Bits.{bit_at_cat_low}
-use Rattle.std.specs.Int.{bit_at, from_be_bytes}
+use Rattle.std.specs.Int.{bit_at}
 use Rattle.amqp_types.specs.Levels.{plain}
-use Rattle.amqp_types.specs.Judging.{Judged, Judge, took, past, fault, ◌>>=◌, IsBytes}
-use Rattle.amqp_types.specs.Sequences.{judge_map, judge_both}
-use Rattle.amqp_types.specs.Numbers.{NumberWidth, bytes1, bytes2, bytes4, bytes8, width_of, byte_count, number_bytes, judge_number}
-use Rattle.amqp_types.specs.Flags.{flag_at, flags_from, flags_byte, judge_flags}
+use Rattle.amqp_types.specs.Judging.{Judged, took, past, fault, ◌>>=◌, IsBytes}
+use Rattle.amqp_types.specs.Numbers.{NumberWidth, bytes1, bytes2, bytes4, bytes8, byte_count, number_bytes, judge_number}
+use Rattle.amqp_types.specs.Flags.{flags_from, flags_byte, judge_flags}
 use Rattle.amqp_types.specs.Strings.{judge_short_string, judge_long_string}
 use Rattle.amqp_types.specs.ValueBytes.{table_bytes}
 use Rattle.amqp_types.specs.ValueJudging.{judge_field_table, judge_value}
 use Rattle.amqp_types.specs.Slots.{Item, number_item, flag_item, text_item, bytes_item, entries_item, Form, number_form, flags_form, short_string_form, long_string_form, table_form, Slot, kept_slot, reserved_slot}
 use Rattle.amqp_types.specs.SlotJudging.{judge_form, judge_dropped, judge_slot, judge_slots}
-use Rattle.amqp_types.specs.SlotBytes.{item_count, flags_of, form_bytes, slots_bytes}
+use Rattle.amqp_types.specs.SlotBytes.{item_count, form_bytes, slots_bytes}
 use Rattle.amqp_types.specs.SlotSpelling.{SpellsForm}
 use Rattle.amqp_types.specs.Writing.{Puts}
-use Rattle.amqp_types.proofs.Bytes.{IsBytes-drop}
-use Rattle.amqp_types.proofs.Puts.{puts_then, puts_none, puts-length}
 use Rattle.amqp_types.proofs.FormLaws.{flags_byte_back}
 use Rattle.amqp_types.proofs.Took.{bind_took, value_took, count_took}
 use Rattle.amqp_values.proofs.SlotForms.{flags_of-map, forms_lawful, form_gives}
@@ -314,7 +311,7 @@ first_slot slot slots bytes n fits h sized =
       first = read;
       others = is_read (judge_slots slots (drop n bytes)) two.0 two.1 rest;
       bytes_are = ap (λ j. canonical_of (slots_bytes (slot ∷ slots)) j) all.2 ∙ ap (λ xs. slots_bytes (slot ∷ slots) xs) (sym items) ∙ both_bytes slot slots bytes one.0 two.0 one.1 fits one.2
-        ∙ ap₂ (λ a b. a ++ b) (sym (ap (λ j. canonical_of (slot_bytes slot) j) one.2)) (sym (ap (λ j. canonical_of (slots_bytes slots) j) rest));
+          ∙ ap₂ (λ a b. a ++ b) (sym (ap (λ j. canonical_of (slot_bytes slot) j) one.2)) (sym (ap (λ j. canonical_of (slots_bytes slots) j) rest));
     }
 
 -- a byte has no bits from the eighth on

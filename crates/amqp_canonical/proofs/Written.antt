@@ -12,7 +12,7 @@ use Rattle.amqp_types.proofs.Bytes.{IsBytes-drop}
 use Rattle.amqp_canonical.specs.Writes.{IsRead, IsFilled, items_of, used_of, canonical_of, array_content, table_content, entry_bytes}
 use Rattle.amqp_canonical.specs.Marks.{entry_at, entry_of, entries_in, AreRead, marked_entry, last_of_ties, ties, blank, FindsNext}
 use Rattle.amqp_canonical.specs.declared.marks.Mark.{Mark}
-use Rattle.amqp_canonical.proofs.NextKey.{IsLeft, NextLeft, left_none, next_left, none_left}
+use Rattle.amqp_canonical.proofs.NextKey.{IsLeft, left_none, next_left, none_left}
 use Rattle.amqp_canonical.proofs.Putting.{PutTo, IsEach, put_none, put_room, put_within, put_next, put_end}
 use Rattle.amqp_canonical.proofs.ReadParts.{is_read, took_of, first_value, none_filled}
 

@@ -5,3 +5,4 @@ pub mod SlotJudgements
 pub mod Writes
 pub mod Marks
 pub mod Places
+pub mod WritingLaws

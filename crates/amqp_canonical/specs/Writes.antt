@@ -1,6 +1,6 @@
 -- What is written in place of bytes that were read.
 use Rattle.std.specs.Prelude.{ℕ, List, [], ◌∷◌, ◌++◌, take, drop, Result, Ok, Err}
-use Rattle.amqp_types.specs.Judging.{Judged, Judge, Fault, took, past, fault}
+use Rattle.amqp_types.specs.Judging.{Judged, Fault, took, past, fault}
 use Rattle.amqp_types.specs.Strings.{short_string_bytes}
 use Rattle.amqp_types.specs.Slots.{Item, Slot, kept_slot, reserved_slot}
 use Rattle.amqp_types.specs.SlotBytes.{form_bytes}

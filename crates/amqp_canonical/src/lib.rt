@@ -14,6 +14,7 @@ mod slots;
 mod spans;
 mod values;
 mod writing;
+mod writing_laws;
 
 pub use headers::judge_content_header;
 pub use laws::{
@@ -28,3 +29,4 @@ pub use slot_writing::put_slots;
 pub use slots::{Judgement, judge_slots};
 pub use values::{ValueJudgement, judge_array, judge_table, judge_value};
 pub use writing::{put_array, put_table, put_value};
+pub use writing_laws::written_is_no_longer;

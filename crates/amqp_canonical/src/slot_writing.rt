@@ -62,13 +62,7 @@ pub(crate) fn put_form(
 }
 
 /// Puts the canonical bytes of a slot at a place of a slice, and returns the place after them.
-fn put_slot(
-    buf: &mut [u8],
-    at: usize,
-    scratch: &mut [Mark],
-    shape: Shape,
-    i: &[u8],
-) -> usize
+fn put_slot(buf: &mut [u8], at: usize, scratch: &mut [Mark], shape: Shape, i: &[u8]) -> usize
     requires read { IsRead (judge_slot (slot_of shape) i.now) }
     requires room { at + length (canonical_of (slot_bytes (slot_of shape)) (judge_slot (slot_of shape) i.now)) ≤ length buf.old }
     ensures { Puts buf.old buf.new at (canonical_of (slot_bytes (slot_of shape)) (judge_slot (slot_of shape) i.now)) result }

@@ -84,13 +84,7 @@ pub fn put_table(buf: &mut [u8], at: usize, scratch: &mut [Mark], i: &[u8], room
 
 /// Puts the canonical bytes of the values that fill an array.
 #[cycle(write)]
-fn put_values(
-    buf: &mut [u8],
-    at: usize,
-    scratch: &mut [Mark],
-    content: &[u8],
-    room: usize,
-) -> usize
+fn put_values(buf: &mut [u8], at: usize, scratch: &mut [Mark], content: &[u8], room: usize) -> usize
     requires read { IsFilled (filled (judge_value room) 0 content.now) }
     requires room { at + length (array_content (items_of (filled (judge_value room) 0 content.now))) ≤ length buf.old }
     ensures { Puts buf.old buf.new at (array_content (items_of (filled (judge_value room) 0 content.now))) result }
@@ -186,3 +180,6 @@ fn put_entry(buf: &mut [u8], at: usize, scratch: &mut [Mark], i: &[u8], room: us
     let place = put_bytes(buf, at, &i[..1 + key.len()]);
     put_value(buf, place, scratch, value, room)
 }
+
+#[cfg(test)]
+mod tests;

@@ -1,7 +1,7 @@
-use Rattle.std.proofs.Common.{rules, ◌≡◌, ◌+◌, ◌∙◌, ◌<◌, ◌≤◌, ◌++◌, ◌∷◌, [], List, length, take, sym, subst, arith}
+use Rattle.std.proofs.Common.{rules, ◌≡◌, ◌+◌, ◌∙◌, ◌<◌, List, length, take, sym, subst, arith}
 use Rattle.std.proofs.lemmas.List.{take_more_set, length-set, take_rest}
 use Rattle.amqp_canonical.specs.declared.marks.Mark.{Mark}
-use Rattle.amqp_canonical.proofs.Marking.{MarkedTo, marked_none, marked_next, marked_end}
+use Rattle.amqp_canonical.proofs.Marking.{MarkedTo, marked_next, marked_end}
 use Rattle.amqp_canonical.proofs.marks.mark_entries.Goals as goal
 
 pub loop-at-smaller : goal.loop-at-smaller

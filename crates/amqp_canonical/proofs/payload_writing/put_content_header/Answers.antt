@@ -7,8 +7,8 @@ use Rattle.amqp_types.specs.PropertyBytes.{properties_bytes}
 use Rattle.amqp_types.specs.ContentHeaders.{header_slots, judge_content_header, content_header_bytes}
 use Rattle.amqp_canonical.specs.Shapes.{slots_of}
 use Rattle.amqp_canonical.specs.Writes.{IsRead, canonical_of}
-use Rattle.amqp_canonical.proofs.PutParts.{Fits, fits_both, puts_as}
-use Rattle.amqp_canonical.proofs.PayloadParts.{HeaderPut, header_put}
+use Rattle.amqp_canonical.proofs.PutParts.{fits_both, puts_as}
+use Rattle.amqp_canonical.proofs.PayloadParts.{header_put}
 use Rattle.amqp_canonical.proofs.payload_writing.put_content_header.Goals as goal
 
 pub put_slots-place-requires-clause-read : goal.put_slots-place-requires-clause-read

@@ -1,4 +1,4 @@
-use Rattle.std.proofs.Common.{◌≡◌, ◌++◌, List, ℕ, Some, None, length, drop, refl, sym, ap, ap₂, subst, ◌∙◌, arith}
+use Rattle.std.proofs.Common.{◌≡◌, ◌++◌, List, Some, None, length, drop, refl, sym, ap, ap₂, subst, ◌∙◌, arith}
 use Rattle.amqp_types.specs.Judging.{Judged}
 use Rattle.amqp_types.specs.Numbers.{bytes2, number_bytes}
 use Rattle.amqp_types.specs.Methods.{judge_payload, payload_bytes}
@@ -7,8 +7,8 @@ use Rattle.amqp_types.specs.SlotJudging.{judge_slots}
 use Rattle.amqp_types.specs.SlotBytes.{slots_bytes}
 use Rattle.amqp_canonical.specs.Shapes.{slots_of}
 use Rattle.amqp_canonical.specs.Writes.{IsRead, canonical_of}
-use Rattle.amqp_canonical.proofs.PutParts.{Fits, fits_both, puts_as}
-use Rattle.amqp_canonical.proofs.PayloadParts.{PayloadPut, payload_put, same_some}
+use Rattle.amqp_canonical.proofs.PutParts.{fits_both, puts_as}
+use Rattle.amqp_canonical.proofs.PayloadParts.{payload_put, same_some}
 use Rattle.amqp_canonical.proofs.payload_writing.put_payload.Goals as goal
 
 pub put_short_uint-id_place-requires : goal.put_short_uint-id_place-requires

@@ -1,11 +1,11 @@
-use Rattle.std.proofs.Common.{◌≡◌, ◌-◌, ◌%◌, List, ℕ, length, drop, sym, ap, subst, arith}
+use Rattle.std.proofs.Common.{◌-◌, ◌%◌, List, ℕ, length, drop, sym, ap, subst, arith}
 use Rattle.amqp_types.specs.Numbers.{bytes2, number_bytes}
 use Rattle.amqp_types.specs.Properties.{properties}
 use Rattle.amqp_types.specs.PropertyJudging.{judge_set, judge_properties}
 use Rattle.amqp_types.specs.PropertyBytes.{set_bytes, properties_bytes}
 use Rattle.amqp_canonical.specs.Writes.{IsRead, canonical_of}
-use Rattle.amqp_canonical.proofs.PutParts.{Fits, fits_both, puts_as}
-use Rattle.amqp_canonical.proofs.PayloadParts.{PropertiesPut, properties_put}
+use Rattle.amqp_canonical.proofs.PutParts.{fits_both, puts_as}
+use Rattle.amqp_canonical.proofs.PayloadParts.{properties_put}
 use Rattle.amqp_canonical.proofs.payload_writing.put_properties.Goals as goal
 
 pub put_short_uint-place-requires : goal.put_short_uint-place-requires

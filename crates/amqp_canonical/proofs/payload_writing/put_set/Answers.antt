@@ -1,4 +1,4 @@
-use Rattle.std.proofs.Common.{refl, Bor, ◌≡◌, ◌+◌, ◌∷◌, ℕ, List, length, get_or, drop, true, false, sym, ap, subst, ◌∙◌, arith}
+use Rattle.std.proofs.Common.{refl, ◌+◌, ℕ, List, get_or, drop, sym, ap, subst, ◌∙◌, arith}
 use Rattle.amqp_types.specs.Properties.{properties}
 use Rattle.amqp_canonical.specs.declared.shapes.Shape.{Shape}
 use Rattle.amqp_canonical.specs.declared.shapes.Shape.TheVariants as shapes

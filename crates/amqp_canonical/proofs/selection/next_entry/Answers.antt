@@ -2,7 +2,7 @@ use Rattle.std.proofs.Common.{option_map, ◌∙◌, ◌+◌, sym, subst, arith,
 use Rattle.std.proofs.lemmas.Bool.{false≢true}
 use Rattle.std.proofs.lemmas.List.{take_rest}
 use Rattle.amqp_canonical.proofs.Marking.{entries_next}
-use Rattle.amqp_canonical.proofs.NextKey.{LookedTo, looked_none, looked_taken, looked_past, looked_over, looked_end}
+use Rattle.amqp_canonical.proofs.NextKey.{LookedTo, looked_taken, looked_past, looked_over, looked_end}
 use Rattle.amqp_canonical.proofs.selection.next_entry.Goals as goal
 use Rattle.amqp_canonical.proofs.selection.next_entry.Goals.{then-is_after+then-comes_first, else-is_after, else-is_after-via-then-is_after+else-comes_first, else-is_after-via-else-is_after}
 

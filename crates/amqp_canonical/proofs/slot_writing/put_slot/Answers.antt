@@ -1,4 +1,4 @@
-use Rattle.std.proofs.Common.{◌∷◌, [], length, sym, ap, ◌∙◌, arith}
+use Rattle.std.proofs.Common.{◌∷◌, [], length, sym, ap, arith}
 use Rattle.amqp_types.specs.Numbers.{bytes2, bytes4, number_bytes}
 use Rattle.amqp_canonical.specs.declared.shapes.Shape.TheVariants as shapes
 use Rattle.amqp_canonical.proofs.PutParts.{puts_as}

@@ -1,9 +1,9 @@
-use Rattle.std.proofs.Common.{ℕ, ◌+◌, refl, List, length, get_or, drop, sym, ap, subst, ◌∙◌, arith}
+use Rattle.std.proofs.Common.{ℕ, ◌+◌, refl, List, get_or, sym, subst, arith}
 use Rattle.std.proofs.lemmas.List.{length-map}
 use Rattle.amqp_types.specs.SlotJudging.{judge_slot}
 use Rattle.amqp_canonical.specs.declared.shapes.Shape.TheVariants as shapes
 use Rattle.amqp_canonical.specs.Shapes.{slot_of, slots_of}
-use Rattle.amqp_canonical.specs.Writes.{IsRead, used_of}
+use Rattle.amqp_canonical.specs.Writes.{used_of}
 use Rattle.amqp_canonical.proofs.SlotParts.{SlotsPut, slots_none, slot_here, slots_end, slots_from, slot_sized}
 use Rattle.amqp_canonical.proofs.slot_writing.put_slots.Goals as goal
 

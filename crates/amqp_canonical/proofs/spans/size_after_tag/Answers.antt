@@ -1,4 +1,4 @@
-use Rattle.std.proofs.Common.{List, ℕ, ◌∙◌, sym, arith}
+use Rattle.std.proofs.Common.{◌∙◌, sym, arith}
 use Rattle.amqp_types.specs.ValueJudging.{nested}
 use Rattle.amqp_canonical.proofs.Sizes.{fixed_taken, used_taken, boolean_used, long_at}
 use Rattle.amqp_canonical.proofs.spans.size_after_tag.Goals as goal

@@ -1,14 +1,13 @@
-use Rattle.std.proofs.Common.{rules, drop, Bor, Option, ◌≡◌, ◌<◌, ◌≤◌, ◌+◌, ◌-◌, ◌∷◌, [], ◌++◌, ℕ, List, Bool, true, false, Some, None, length, take, get_or, sym, ap, subst, ◌∙◌, arith}
+use Rattle.std.proofs.Common.{rules, drop, Bor, Option, ◌≡◌, ◌+◌, ◌-◌, ◌∷◌, [], ℕ, List, true, false, None, length, take, sym, ap, subst, ◌∙◌, arith}
 use Rattle.std.proofs.lemmas.List.{length-take-le, take_rest}
 use Rattle.amqp_types.specs.ValueBytes.{tagged_bytes, value_bytes, array_bytes, table_bytes}
-use Rattle.amqp_types.specs.ValueJudging.{judge_value, judge_behind, judge_array, judge_table, judge_entry, nested}
-use Rattle.amqp_types.specs.Tags.{tag_byte}
-use Rattle.amqp_canonical.specs.Writes.{IsRead, canonical_of, entry_bytes, key_in, after_key}
+use Rattle.amqp_types.specs.ValueJudging.{judge_value, judge_behind, judge_entry, nested}
+use Rattle.amqp_canonical.specs.Writes.{IsRead, canonical_of, entry_bytes}
 use Rattle.amqp_canonical.specs.Marks.{blank}
 use Rattle.amqp_types.proofs.Puts.{puts-length}
 use Rattle.amqp_canonical.proofs.ReadParts.{tag_parts, none_read, unknown_read}
-use Rattle.amqp_canonical.proofs.PutParts.{Copied, EntryPut, Fits, Holds, Inside, copied_at, boolean_put, array_inside, table_inside, array_holds, table_holds, length_put, entry_put, entry_some, entry_fits, value_fits, puts_as}
-use Rattle.amqp_canonical.proofs.Written.{ValuesPut, EntriesPut, SelectedPut, values_none, value_fits_here, value_here, values_end, entries_none, entries_tied, entry_kept, entries_end, selected_none, selected_here, selected_end}
+use Rattle.amqp_canonical.proofs.PutParts.{copied_at, boolean_put, array_inside, table_inside, array_holds, table_holds, length_put, entry_put, entry_some, entry_fits, value_fits, puts_as}
+use Rattle.amqp_canonical.proofs.Written.{EntriesPut, SelectedPut, values_none, value_fits_here, value_here, values_end, entries_none, entries_tied, entry_kept, selected_none, selected_here, selected_end}
 use Rattle.amqp_canonical.proofs.writing.+write.Goals as goal
 use Rattle.amqp_canonical.proofs.writing.+write.Goals.{put_marked-then-not-is_tied, put_marked-else-not-is_tied}
 

@@ -1,8 +1,7 @@
-use Rattle.std.proofs.Common.{◌≡◌, ◌+◌, ◌-◌, ◌*◌, ◌≤◌, length, map, drop, List, ℕ}
+use Rattle.std.proofs.Common.{◌+◌, ◌-◌, ◌*◌, ◌≤◌, length}
 use Rattle.amqp_types.specs.Settling.{settled}
-use Rattle.amqp_types.specs.ValueJudging.{filled, judge_value}
-use Rattle.amqp_canonical.specs.Writes.{IsFilled, items_of, array_content, table_content}
-use Rattle.amqp_canonical.specs.Marks.{AreEntries, entries_in, last_of_ties, marked_entry}
+use Rattle.amqp_canonical.specs.Writes.{table_content}
+use Rattle.amqp_canonical.specs.Marks.{entries_in}
 use Rattle.amqp_canonical.proofs.Written.{ValuesPut, EntriesPut, SelectedPut}
 use Rattle.amqp_canonical.proofs.writing.+write.Given as goal
 
