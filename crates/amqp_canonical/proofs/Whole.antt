@@ -75,7 +75,7 @@ in_order found (e ∷ es) s =
     let next : found ++ e ∷ es ≡ (found ++ e ∷ []) ++ es = sym (append_assoc found (e ∷ []) es) in
     ap (λ xs. settled_on xs es) (insert_last found e es s) ∙ in_order (found ++ e ∷ []) es (subst P next s) ∙ sym next
 
-entry_some : (Spells : List ℕ → FieldValue → Type 0) → HasBytes (SpellsEntry Spells)
+pub entry_some : (Spells : List ℕ → FieldValue → Type 0) → HasBytes (SpellsEntry Spells)
 entry_some Spells bytes e h = omega (arith, ap length h.bytes_are, length-append h.front h.behind, ap length h.first_is.bytes_are)
 
 filled_taken : {A : Type 0} (item : Judge A) (Spells : List ℕ → A → Type 0) → IsExact item Spells → HasBytes Spells → (bytes : List ℕ) (xs : List A) → SpellsEach Spells bytes xs → filled item 0 bytes ≡ Ok xs
