@@ -140,7 +140,6 @@ counted k n h = cc
 
 pub fixed_past : (nest : Option (Judge FieldValue)) (t : FieldTag) (bytes : List ℕ) (n : ℕ) → layout_at t ≡ layout.Fixed n → length bytes < n → judge_behind nest t bytes ≡ past
 unfolding judge_behind
-fixed_past nest tag.Boolean bytes n is short = absurd cc
 fixed_past nest tag.ShortShortInt bytes n is short = signed_past short_short_int bytes n (counted 1 n is) short
 fixed_past nest tag.ShortShortUInt bytes n is short = unsigned_past short_short_uint bytes n (counted 1 n is) short
 fixed_past nest tag.ShortInt bytes n is short = signed_past short_int bytes n (counted 2 n is) short
@@ -151,16 +150,12 @@ fixed_past nest tag.LongLongInt bytes n is short = signed_past long_long_int byt
 fixed_past nest tag.Float bytes n is short = unsigned_past float bytes n (counted 4 n is) short
 fixed_past nest tag.Double bytes n is short = unsigned_past double bytes n (counted 8 n is) short
 fixed_past nest tag.DecimalValue bytes n is short = decimal_past bytes n (counted 5 n is) short
-fixed_past nest tag.LongString bytes n is short = absurd cc
-fixed_past nest tag.FieldArray bytes n is short = absurd cc
 fixed_past nest tag.Timestamp bytes n is short = unsigned_past timestamp bytes n (counted 8 n is) short
-fixed_past nest tag.FieldTable bytes n is short = absurd cc
-fixed_past nest tag.ByteArray bytes n is short = absurd cc
 fixed_past nest tag.Void bytes n is short = absurd (omega (arith, short, counted 0 n is))
+fixed_past nest t bytes n is short = absurd cc
 
 pub fixed_took : (nest : Option (Judge FieldValue)) (t : FieldTag) (bytes : List ℕ) (n : ℕ) → IsBytes bytes → layout_at t ≡ layout.Fixed n → n ≤ length bytes → IsTaken bytes n (judge_behind nest t bytes)
 unfolding judge_behind
-fixed_took nest tag.Boolean bytes n fits is long = absurd cc
 fixed_took nest tag.ShortShortInt bytes n fits is long = signed_took short_short_int bytes n fits (counted 1 n is) long
 fixed_took nest tag.ShortShortUInt bytes n fits is long = unsigned_took short_short_uint bytes n fits (counted 1 n is) long
 fixed_took nest tag.ShortInt bytes n fits is long = signed_took short_int bytes n fits (counted 2 n is) long
@@ -171,12 +166,9 @@ fixed_took nest tag.LongLongInt bytes n fits is long = signed_took long_long_int
 fixed_took nest tag.Float bytes n fits is long = unsigned_took float bytes n fits (counted 4 n is) long
 fixed_took nest tag.Double bytes n fits is long = unsigned_took double bytes n fits (counted 8 n is) long
 fixed_took nest tag.DecimalValue bytes n fits is long = decimal_took bytes n fits (counted 5 n is) long
-fixed_took nest tag.LongString bytes n fits is long = absurd cc
-fixed_took nest tag.FieldArray bytes n fits is long = absurd cc
 fixed_took nest tag.Timestamp bytes n fits is long = unsigned_took timestamp bytes n fits (counted 8 n is) long
-fixed_took nest tag.FieldTable bytes n fits is long = absurd cc
-fixed_took nest tag.ByteArray bytes n fits is long = absurd cc
 fixed_took nest tag.Void bytes n fits is long = let P : ℕ → Type 0 = λ k. IsTaken bytes k (took void_value 0) in subst P (counted 0 n is) (void_value, refl, refl)
+fixed_took nest t bytes n fits is long = absurd cc
 
 pub taken : (bytes : List ℕ) (n : ℕ) (j : Judged FieldValue) → IsTaken bytes n j → Takes IsCanonicalAfterTag (record { used = n; canonical = true }) bytes j
 taken bytes n j h = record { thing = h.0; is = h.1; told = (λ t. h.2, λ e. refl) }
@@ -190,43 +182,15 @@ bytes_took kind bytes content n fits is =
 
 pub counted_took : (nest : Option (Judge FieldValue)) (t : FieldTag) (bytes content : List ℕ) (n : ℕ) → IsBytes bytes → layout_at t ≡ layout.Counted → judge_long_string bytes ≡ took content n → IsTaken bytes n (judge_behind nest t bytes)
 unfolding judge_behind
-counted_took nest tag.Boolean bytes content n fits is h = absurd cc
-counted_took nest tag.ShortShortInt bytes content n fits is h = absurd cc
-counted_took nest tag.ShortShortUInt bytes content n fits is h = absurd cc
-counted_took nest tag.ShortInt bytes content n fits is h = absurd cc
-counted_took nest tag.ShortUInt bytes content n fits is h = absurd cc
-counted_took nest tag.LongInt bytes content n fits is h = absurd cc
-counted_took nest tag.LongUInt bytes content n fits is h = absurd cc
-counted_took nest tag.LongLongInt bytes content n fits is h = absurd cc
-counted_took nest tag.Float bytes content n fits is h = absurd cc
-counted_took nest tag.Double bytes content n fits is h = absurd cc
-counted_took nest tag.DecimalValue bytes content n fits is h = absurd cc
 counted_took nest tag.LongString bytes content n fits is h = bytes_took long_string bytes content n fits h
-counted_took nest tag.FieldArray bytes content n fits is h = absurd cc
-counted_took nest tag.Timestamp bytes content n fits is h = absurd cc
-counted_took nest tag.FieldTable bytes content n fits is h = absurd cc
 counted_took nest tag.ByteArray bytes content n fits is h = bytes_took byte_array bytes content n fits h
-counted_took nest tag.Void bytes content n fits is h = absurd cc
+counted_took nest t bytes content n fits is h = absurd cc
 
 pub counted_fails : {A : Type 0} (nest : Option (Judge FieldValue)) (t : FieldTag) (bytes : List ℕ) (view : A → List ℕ) (e : ParserError) → layout_at t ≡ layout.Counted → AnswersFully view (Err e) (judge_long_string bytes) → Fails e (judge_behind nest t bytes)
 unfolding judge_behind
-counted_fails nest tag.Boolean bytes view e is h = absurd cc
-counted_fails nest tag.ShortShortInt bytes view e is h = absurd cc
-counted_fails nest tag.ShortShortUInt bytes view e is h = absurd cc
-counted_fails nest tag.ShortInt bytes view e is h = absurd cc
-counted_fails nest tag.ShortUInt bytes view e is h = absurd cc
-counted_fails nest tag.LongInt bytes view e is h = absurd cc
-counted_fails nest tag.LongUInt bytes view e is h = absurd cc
-counted_fails nest tag.LongLongInt bytes view e is h = absurd cc
-counted_fails nest tag.Float bytes view e is h = absurd cc
-counted_fails nest tag.Double bytes view e is h = absurd cc
-counted_fails nest tag.DecimalValue bytes view e is h = absurd cc
 counted_fails nest tag.LongString bytes view e is h = fails_next e (judge_long_string bytes) _ (fully view e (judge_long_string bytes) h)
-counted_fails nest tag.FieldArray bytes view e is h = absurd cc
-counted_fails nest tag.Timestamp bytes view e is h = absurd cc
-counted_fails nest tag.FieldTable bytes view e is h = absurd cc
 counted_fails nest tag.ByteArray bytes view e is h = fails_next e (judge_long_string bytes) _ (fully view e (judge_long_string bytes) h)
-counted_fails nest tag.Void bytes view e is h = absurd cc
+counted_fails nest t bytes view e is h = absurd cc
 
 -- ---- what is made of what was judgement over
 
@@ -237,42 +201,12 @@ judges_made make bytes (Err e) j h = fails_next e j _ h
 pub boolean_behind : (nest : Option (Judge FieldValue)) (t : FieldTag) (bytes : List ℕ) (r : Result ValueJudgement ParserError) → layout_at t ≡ layout.OneBoolean → Judges IsCanonicalBoolean bytes r (judge_boolean bytes) → Judges IsCanonicalAfterTag bytes r (judge_behind nest t bytes)
 unfolding judge_behind
 boolean_behind nest tag.Boolean bytes r is h = judges_made boolean_value bytes r (judge_boolean bytes) h
-boolean_behind nest tag.ShortShortInt bytes r is h = absurd cc
-boolean_behind nest tag.ShortShortUInt bytes r is h = absurd cc
-boolean_behind nest tag.ShortInt bytes r is h = absurd cc
-boolean_behind nest tag.ShortUInt bytes r is h = absurd cc
-boolean_behind nest tag.LongInt bytes r is h = absurd cc
-boolean_behind nest tag.LongUInt bytes r is h = absurd cc
-boolean_behind nest tag.LongLongInt bytes r is h = absurd cc
-boolean_behind nest tag.Float bytes r is h = absurd cc
-boolean_behind nest tag.Double bytes r is h = absurd cc
-boolean_behind nest tag.DecimalValue bytes r is h = absurd cc
-boolean_behind nest tag.LongString bytes r is h = absurd cc
-boolean_behind nest tag.FieldArray bytes r is h = absurd cc
-boolean_behind nest tag.Timestamp bytes r is h = absurd cc
-boolean_behind nest tag.FieldTable bytes r is h = absurd cc
-boolean_behind nest tag.ByteArray bytes r is h = absurd cc
-boolean_behind nest tag.Void bytes r is h = absurd cc
+boolean_behind nest t bytes r is h = absurd cc
 
 array_inside : (value : Judge FieldValue) (t : FieldTag) (bytes : List ℕ) (r : Result ValueJudgement ParserError) → layout_at t ≡ layout.Values → Judges IsCanonicalArray bytes r (judge_array value bytes) → Judges IsCanonicalAfterTag bytes r (judge_behind (Some value) t bytes)
 unfolding judge_behind
-array_inside value tag.Boolean bytes r is h = absurd cc
-array_inside value tag.ShortShortInt bytes r is h = absurd cc
-array_inside value tag.ShortShortUInt bytes r is h = absurd cc
-array_inside value tag.ShortInt bytes r is h = absurd cc
-array_inside value tag.ShortUInt bytes r is h = absurd cc
-array_inside value tag.LongInt bytes r is h = absurd cc
-array_inside value tag.LongUInt bytes r is h = absurd cc
-array_inside value tag.LongLongInt bytes r is h = absurd cc
-array_inside value tag.Float bytes r is h = absurd cc
-array_inside value tag.Double bytes r is h = absurd cc
-array_inside value tag.DecimalValue bytes r is h = absurd cc
-array_inside value tag.LongString bytes r is h = absurd cc
 array_inside value tag.FieldArray bytes r is h = judges_made (λ vs. array_value (values_of vs)) bytes r (judge_array value bytes) h
-array_inside value tag.Timestamp bytes r is h = absurd cc
-array_inside value tag.FieldTable bytes r is h = absurd cc
-array_inside value tag.ByteArray bytes r is h = absurd cc
-array_inside value tag.Void bytes r is h = absurd cc
+array_inside value t bytes r is h = absurd cc
 
 pub array_behind : (room : ℕ) (t : FieldTag) (bytes : List ℕ) (r : Result ValueJudgement ParserError) → layout_at t ≡ layout.Values → 0 < room → Judges IsCanonicalArray bytes r (judge_array (judge_value (room - 1)) bytes) → Judges IsCanonicalAfterTag bytes r (judge_behind (nested room) t bytes)
 array_behind room t bytes r is up h =
@@ -281,23 +215,8 @@ array_behind room t bytes r is up h =
 
 table_inside : (value : Judge FieldValue) (t : FieldTag) (bytes : List ℕ) (r : Result ValueJudgement ParserError) → layout_at t ≡ layout.Entries → Judges IsCanonicalTable bytes r (judge_table value bytes) → Judges IsCanonicalAfterTag bytes r (judge_behind (Some value) t bytes)
 unfolding judge_behind
-table_inside value tag.Boolean bytes r is h = absurd cc
-table_inside value tag.ShortShortInt bytes r is h = absurd cc
-table_inside value tag.ShortShortUInt bytes r is h = absurd cc
-table_inside value tag.ShortInt bytes r is h = absurd cc
-table_inside value tag.ShortUInt bytes r is h = absurd cc
-table_inside value tag.LongInt bytes r is h = absurd cc
-table_inside value tag.LongUInt bytes r is h = absurd cc
-table_inside value tag.LongLongInt bytes r is h = absurd cc
-table_inside value tag.Float bytes r is h = absurd cc
-table_inside value tag.Double bytes r is h = absurd cc
-table_inside value tag.DecimalValue bytes r is h = absurd cc
-table_inside value tag.LongString bytes r is h = absurd cc
-table_inside value tag.FieldArray bytes r is h = absurd cc
-table_inside value tag.Timestamp bytes r is h = absurd cc
 table_inside value tag.FieldTable bytes r is h = judges_made (λ es. table_value (entries_of es)) bytes r (judge_table value bytes) h
-table_inside value tag.ByteArray bytes r is h = absurd cc
-table_inside value tag.Void bytes r is h = absurd cc
+table_inside value t bytes r is h = absurd cc
 
 pub table_behind : (room : ℕ) (t : FieldTag) (bytes : List ℕ) (r : Result ValueJudgement ParserError) → layout_at t ≡ layout.Entries → 0 < room → Judges IsCanonicalTable bytes r (judge_table (judge_value (room - 1)) bytes) → Judges IsCanonicalAfterTag bytes r (judge_behind (nested room) t bytes)
 table_behind room t bytes r is up h =
@@ -306,43 +225,13 @@ table_behind room t bytes r is up h =
 
 deep_array : (t : FieldTag) (bytes : List ℕ) → layout_at t ≡ layout.Values → judge_behind None t bytes ≡ fault too_deep
 unfolding judge_behind
-deep_array tag.Boolean bytes is = absurd cc
-deep_array tag.ShortShortInt bytes is = absurd cc
-deep_array tag.ShortShortUInt bytes is = absurd cc
-deep_array tag.ShortInt bytes is = absurd cc
-deep_array tag.ShortUInt bytes is = absurd cc
-deep_array tag.LongInt bytes is = absurd cc
-deep_array tag.LongUInt bytes is = absurd cc
-deep_array tag.LongLongInt bytes is = absurd cc
-deep_array tag.Float bytes is = absurd cc
-deep_array tag.Double bytes is = absurd cc
-deep_array tag.DecimalValue bytes is = absurd cc
-deep_array tag.LongString bytes is = absurd cc
 deep_array tag.FieldArray bytes is = refl
-deep_array tag.Timestamp bytes is = absurd cc
-deep_array tag.FieldTable bytes is = absurd cc
-deep_array tag.ByteArray bytes is = absurd cc
-deep_array tag.Void bytes is = absurd cc
+deep_array t bytes is = absurd cc
 
 deep_table : (t : FieldTag) (bytes : List ℕ) → layout_at t ≡ layout.Entries → judge_behind None t bytes ≡ fault too_deep
 unfolding judge_behind
-deep_table tag.Boolean bytes is = absurd cc
-deep_table tag.ShortShortInt bytes is = absurd cc
-deep_table tag.ShortShortUInt bytes is = absurd cc
-deep_table tag.ShortInt bytes is = absurd cc
-deep_table tag.ShortUInt bytes is = absurd cc
-deep_table tag.LongInt bytes is = absurd cc
-deep_table tag.LongUInt bytes is = absurd cc
-deep_table tag.LongLongInt bytes is = absurd cc
-deep_table tag.Float bytes is = absurd cc
-deep_table tag.Double bytes is = absurd cc
-deep_table tag.DecimalValue bytes is = absurd cc
-deep_table tag.LongString bytes is = absurd cc
-deep_table tag.FieldArray bytes is = absurd cc
-deep_table tag.Timestamp bytes is = absurd cc
 deep_table tag.FieldTable bytes is = refl
-deep_table tag.ByteArray bytes is = absurd cc
-deep_table tag.Void bytes is = absurd cc
+deep_table t bytes is = absurd cc
 
 pub array_deep : (room : ℕ) (t : FieldTag) (bytes : List ℕ) → layout_at t ≡ layout.Values → room ≡ 0 → judge_behind (nested room) t bytes ≡ fault too_deep
 array_deep room t bytes is none = ap (λ o. judge_behind o t bytes) (nested_none room none) ∙ deep_array t bytes is

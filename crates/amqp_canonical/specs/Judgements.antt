@@ -59,7 +59,7 @@ IsCanonicalValue bytes v = bytes ≡ tagged_bytes v
 abbrev pub AreCanonicalValues : List ℕ → List FieldValue → Type 0
 AreCanonicalValues bytes vs = bytes ≡ values_bytes (values_of vs)
 
--- these entries, one behind another, of which each key is above the one before it
+-- these entries, one after another, of which each key is above the one before it
 abbrev pub AreCanonicalEntries : List ℕ → List Entry → Type 0
 AreCanonicalEntries bytes es = (bytes ≡ entries_bytes (entries_of es)) × IsRising es
 

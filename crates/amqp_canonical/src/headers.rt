@@ -1,14 +1,11 @@
 //! Judging properties and content headers.
 
 ghost use Rattle.std.specs.Prelude.{◌≡◌, ◌≤◌, ◌↔◌, false, length, IfOk, IsTrue};
-ghost use Rattle.amqp_types.specs.Levels.{tidy};
 ghost use Rattle.amqp_types.specs.Flags.{flag_at};
-ghost use Rattle.amqp_types.specs.Properties.{properties};
-ghost use Rattle.amqp_types.specs.PropertyJudging.{judge_optional, judge_set, judge_properties};
-ghost use Rattle.amqp_types.specs.PropertySpelling.{SpellsOptional, SpellsSet, SpellsProperties};
-ghost use Rattle.amqp_types.specs.ContentHeaders.{judge_content_header, SpellsContentHeader};
+ghost use Rattle.amqp_types.specs.PropertyJudging.{judge_properties};
+ghost use Rattle.amqp_types.specs.PropertySpelling.{SpellsProperties};
 ghost use Rattle.amqp_canonical.specs.Shapes.{form_of};
-ghost use Rattle.amqp_canonical.specs.SlotJudgements.{IsCanonicalContentHeader, JudgesTidily, JudgesLevels};
+ghost use Rattle.amqp_canonical.specs.SlotJudgements.{JudgesOptional, JudgesSet, JudgesLevels, JudgesContentHeader};
 
 use crate::shapes::{Shape, header_shapes, property_shapes};
 use crate::slots::{Judgement, judge_form, judge_slots};
@@ -30,7 +27,7 @@ fn has_no_unused_bit(mask: u16) -> bool
 
 /// Judges a property, where it is present.
 fn judge_property(present: bool, shape: Shape, i: &[u8]) -> Result<Judgement, ParserError>
-    ensures judged { JudgesLevels (λ level. SpellsOptional level present (form_of shape)) i.now result (judge_optional present (form_of shape) i.now) }
+    ensures judged { JudgesOptional present (form_of shape) i.now result }
     ensures used { IfOk result (λ j. j.used ≤ length i.now) }
 {
     if present {
@@ -46,7 +43,7 @@ fn judge_property(present: bool, shape: Shape, i: &[u8]) -> Result<Judgement, Pa
 
 /// Judges the properties whose bits are set in the mask, one after another.
 fn judge_set(mask: u16, i: &[u8]) -> Result<Judgement, ParserError>
-    ensures judged { JudgesLevels (λ level. SpellsSet level mask properties) i.now result (judge_set mask properties i.now) }
+    ensures judged { JudgesSet mask i.now result }
     ensures used { IfOk result (λ j. j.used ≤ length i.now) }
 {
     let shapes = property_shapes();
@@ -88,7 +85,7 @@ fn judge_properties(i: &[u8]) -> Result<Judgement, ParserError>
 /// Judges a content header: a class id, the weight, the size of the body in bytes, and the properties (AMQP 0-9-1,
 /// section 4.2.6.1).
 pub fn judge_content_header(payload: &[u8]) -> Result<Judgement, ParserError>
-    ensures judged { JudgesTidily IsCanonicalContentHeader (SpellsContentHeader tidy) payload.now result (judge_content_header payload.now) }
+    ensures judged { JudgesContentHeader payload.now result }
     ensures used { IfOk result (λ j. j.used ≤ length payload.now) }
 {
     let front = judge_slots(header_shapes(), payload)?;

@@ -1,11 +1,8 @@
 //! Judging methods in payloads.
 
 ghost use Rattle.std.specs.Prelude.{◌≡◌, ◌≤◌, length, IfOk, is_some};
-ghost use Rattle.amqp_types.specs.Levels.{tidy};
 ghost use Rattle.amqp_types.specs.Rows.{rows_of};
-ghost use Rattle.amqp_types.specs.Methods.{judge_payload};
-ghost use Rattle.amqp_types.specs.MethodSpelling.{SpellsPayload};
-ghost use Rattle.amqp_canonical.specs.SlotJudgements.{IsCanonicalPayload, JudgesTidily};
+ghost use Rattle.amqp_canonical.specs.SlotJudgements.{JudgesPayload};
 
 use crate::shapes::shapes_of;
 use crate::slots::{Judgement, judge_slots};
@@ -24,7 +21,7 @@ fn is_class(class: Identifier) -> bool
 
 /// Judges a class id, a method id and the slots of that method (AMQP 0-9-1, section 4.2.4).
 pub fn judge_payload(payload: &[u8]) -> Result<Judgement, ParserError>
-    ensures judged { JudgesTidily IsCanonicalPayload (SpellsPayload tidy) payload.now result (judge_payload payload.now) }
+    ensures judged { JudgesPayload payload.now result }
     ensures used { IfOk result (λ j. j.used ≤ length payload.now) }
 {
     let (n, class) = parse_short_uint(payload)?;

@@ -1,15 +1,11 @@
 //! Judging slots by their shapes.
 
-ghost use Rattle.std.specs.Prelude.{◌≡◌, ◌≤◌, ◌<◌, ◌^◌, ◌↔◌, ℕ, List, [], ◌∷◌, true, length, IfOk, IsTrue};
-ghost use Rattle.amqp_types.specs.Levels.{tidy};
+ghost use Rattle.std.specs.Prelude.{◌≡◌, ◌≤◌, ◌<◌, ◌^◌, ◌↔◌, [], ◌∷◌, true, length, IfOk, IsTrue};
 ghost use Rattle.amqp_types.specs.Numbers.{NumberWidth, bytes2, bytes4, byte_count};
-ghost use Rattle.amqp_types.specs.Slots.{Item, number_item, number_form, flags_form, short_string_form, long_string_form, table_form};
-ghost use Rattle.amqp_types.specs.SlotBytes.{form_bytes};
-ghost use Rattle.amqp_types.specs.SlotLaws.{is_least, are_least};
-ghost use Rattle.amqp_types.specs.SlotJudging.{judge_form, judge_dropped, judge_slot, judge_slots};
-ghost use Rattle.amqp_types.specs.SlotSpelling.{SpellsForm, SpellsReserved, SpellsSlot, SpellsSlots};
+ghost use Rattle.amqp_types.specs.Slots.{number_item, number_form, flags_form, short_string_form, long_string_form, table_form};
+ghost use Rattle.amqp_types.specs.SlotLaws.{are_least};
 ghost use Rattle.amqp_canonical.specs.Shapes.{form_of, slot_of, slots_of};
-ghost use Rattle.amqp_canonical.specs.SlotJudgements.{AreCanonicalSlots, JudgesTidily, JudgesLevels};
+ghost use Rattle.amqp_canonical.specs.SlotJudgements.{JudgesForm, JudgesReserved, JudgesConstant, JudgesSlot, JudgesSlots};
 
 use crate::shapes::Shape;
 use crate::values::judge_table;
@@ -32,7 +28,7 @@ pub struct Judgement {
 
 /// Judges a number of so many bytes.
 fn judge_number(count: usize, i: &[u8]) -> Result<Judgement, ParserError>
-    ensures judged { (width : NumberWidth) → byte_count width ≡ count → JudgesLevels (λ level. SpellsForm level (number_form width)) i.now result (judge_form (number_form width) i.now) }
+    ensures judged { (width : NumberWidth) → byte_count width ≡ count → JudgesForm (number_form width) i.now result }
     ensures used { IfOk result (λ j. j.used ≤ length i.now) }
 {
     if i.len() < count {
@@ -54,7 +50,7 @@ fn fits_flags(count: u8, byte: u8) -> bool
 
 /// Judges a byte of so many flags.
 fn judge_flags(count: u8, i: &[u8]) -> Result<Judgement, ParserError>
-    ensures judged { JudgesLevels (λ level. SpellsForm level (flags_form count)) i.now result (judge_form (flags_form count) i.now) }
+    ensures judged { JudgesForm (flags_form count) i.now result }
     ensures used { IfOk result (λ j. j.used ≤ length i.now) }
 {
     match i {
@@ -72,7 +68,7 @@ fn judge_flags(count: u8, i: &[u8]) -> Result<Judgement, ParserError>
 
 /// Judges a short string.
 fn judge_short_string(i: &[u8]) -> Result<Judgement, ParserError>
-    ensures judged { JudgesLevels (λ level. SpellsForm level short_string_form) i.now result (judge_form short_string_form i.now) }
+    ensures judged { JudgesForm short_string_form i.now result }
     ensures used { IfOk result (λ j. j.used ≤ length i.now) }
 {
     let (used, _) = parse_short_str(i)?;
@@ -85,7 +81,7 @@ fn judge_short_string(i: &[u8]) -> Result<Judgement, ParserError>
 
 /// Judges a long string.
 fn judge_long_string(i: &[u8]) -> Result<Judgement, ParserError>
-    ensures judged { JudgesLevels (λ level. SpellsForm level long_string_form) i.now result (judge_form long_string_form i.now) }
+    ensures judged { JudgesForm long_string_form i.now result }
     ensures used { IfOk result (λ j. j.used ≤ length i.now) }
 {
     let (used, _) = parse_long_bytes(i)?;
@@ -98,7 +94,7 @@ fn judge_long_string(i: &[u8]) -> Result<Judgement, ParserError>
 
 /// Judges a table, at most 64 levels deep.
 fn judge_field_table(i: &[u8]) -> Result<Judgement, ParserError>
-    ensures judged { JudgesLevels (λ level. SpellsForm level table_form) i.now result (judge_form table_form i.now) }
+    ensures judged { JudgesForm table_form i.now result }
     ensures used { IfOk result (λ j. j.used ≤ length i.now) }
 {
     let table = judge_table(i, 63)?;
@@ -111,7 +107,7 @@ fn judge_field_table(i: &[u8]) -> Result<Judgement, ParserError>
 
 /// Judges what a slot of this shape holds, whether it is reserved or not.
 pub(crate) fn judge_form(shape: Shape, i: &[u8]) -> Result<Judgement, ParserError>
-    ensures judged { JudgesLevels (λ level. SpellsForm level (form_of shape)) i.now result (judge_form (form_of shape) i.now) }
+    ensures judged { JudgesForm (form_of shape) i.now result }
     ensures used { IfOk result (λ j. j.used ≤ length i.now) }
 {
     match shape {
@@ -129,7 +125,7 @@ pub(crate) fn judge_form(shape: Shape, i: &[u8]) -> Result<Judgement, ParserErro
 
 /// Judges a reserved number of 2 bytes.
 fn judge_reserved_short(constant: u16, i: &[u8]) -> Result<Judgement, ParserError>
-    ensures judged { JudgesLevels (λ level. SpellsReserved level (number_form bytes2) (number_item constant ∷ [])) i.now result (judge_dropped (number_form bytes2) i.now) }
+    ensures judged { JudgesReserved (number_form bytes2) (number_item constant ∷ []) i.now result }
     ensures used { IfOk result (λ j. j.used ≤ length i.now) }
 {
     let (used, number) = parse_short_uint(i)?;
@@ -143,7 +139,7 @@ fn judge_reserved_short(constant: u16, i: &[u8]) -> Result<Judgement, ParserErro
 
 /// Judges a reserved number of 4 bytes.
 fn judge_reserved_long(constant: u32, i: &[u8]) -> Result<Judgement, ParserError>
-    ensures judged { JudgesLevels (λ level. SpellsReserved level (number_form bytes4) (number_item constant ∷ [])) i.now result (judge_dropped (number_form bytes4) i.now) }
+    ensures judged { JudgesReserved (number_form bytes4) (number_item constant ∷ []) i.now result }
     ensures used { IfOk result (λ j. j.used ≤ length i.now) }
 {
     let (used, number) = parse_long_uint(i)?;
@@ -157,7 +153,7 @@ fn judge_reserved_long(constant: u32, i: &[u8]) -> Result<Judgement, ParserError
 
 /// Judges a reserved slot, whose constant is written in these bytes.
 fn judge_reserved(shape: Shape, constant: &[u8], i: &[u8]) -> Result<Judgement, ParserError>
-    ensures judged { (items : List Item) → is_least (form_of shape) items ≡ true → constant.now ≡ form_bytes (form_of shape) items → JudgesLevels (λ level. SpellsReserved level (form_of shape) items) i.now result (judge_dropped (form_of shape) i.now) }
+    ensures judged { JudgesConstant (form_of shape) constant.now i.now result }
     ensures used { IfOk result (λ j. j.used ≤ length i.now) }
 {
     let found = judge_form(shape, i)?;
@@ -171,7 +167,7 @@ fn judge_reserved(shape: Shape, constant: &[u8], i: &[u8]) -> Result<Judgement, 
 
 /// Judges a slot of this shape.
 fn judge_slot(shape: Shape, i: &[u8]) -> Result<Judgement, ParserError>
-    ensures judged { JudgesLevels (λ level. SpellsSlot level (slot_of shape)) i.now result (judge_slot (slot_of shape) i.now) }
+    ensures judged { JudgesSlot (slot_of shape) i.now result }
     ensures least { are_least (slot_of shape ∷ []) ≡ true }
     ensures used { IfOk result (λ j. j.used ≤ length i.now) }
 {
@@ -187,7 +183,7 @@ fn judge_slot(shape: Shape, i: &[u8]) -> Result<Judgement, ParserError>
 
 /// Judges slots of these shapes, one after another (AMQP 0-9-1, section 4.2.4).
 pub fn judge_slots(shapes: &[Shape], i: &[u8]) -> Result<Judgement, ParserError>
-    ensures judged { JudgesTidily (AreCanonicalSlots (slots_of shapes.now)) (SpellsSlots tidy (slots_of shapes.now)) i.now result (judge_slots (slots_of shapes.now) i.now) }
+    ensures judged { JudgesSlots (slots_of shapes.now) i.now result }
     ensures used { IfOk result (λ j. j.used ≤ length i.now) }
 {
     let mut at = 0;
