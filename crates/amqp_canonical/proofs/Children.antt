@@ -1,0 +1,241 @@
+-- What was judgement over, up to a place.
+use Rattle.std.proofs.Common.{◌≡◌, ℕ, zero, suc, ◌+◌, ◌<◌, ◌≤◌, ◌↔◌, ◌⊎◌, inl, inr, Bool, true, false, ◌&&◌, IsTrue, List, [], ◌∷◌, ◌++◌, length, take, drop, Result, Ok, Err, refl, sym, ap, ap₂, subst, ◌∙◌, append-nil, append_assoc, arith, true≢false}
+use Rattle.std.proofs.lemmas.Cmp.{nat_list_cmp_total}
+use Rattle.std.proofs.lemmas.List.{length-append, length-take-le, length-drop, drop-drop}
+use Rattle.std.proofs.Math.Seq.{take-add}
+use Rattle.std.specs.Cmp.Lexicographic.{slice_cmp}
+use Rattle.std.specs.List.{AllByRecursion}
+use Rattle.std.specs.List.Sorted.{IsStrictlySortedBy}
+use Rattle.std.specs.Map.{keys_of}
+use Rattle.std.specs.Ordering.{nat_cmp}
+use Rattle.amqp_types.specs.Levels.{plain}
+use Rattle.amqp_types.specs.Judging.{Fault, took, IsBytes}
+use Rattle.amqp_types.specs.Strings.{short_string_bytes}
+use Rattle.amqp_types.specs.Settling.{IsRising}
+use Rattle.amqp_types.specs.Values.{FieldValue, Entry, values_of, entries_of}
+use Rattle.amqp_types.specs.ValueBytes.{values_bytes, entries_bytes, tagged_bytes}
+use Rattle.amqp_types.specs.ValueJudging.{filled, judge_entry, judge_value}
+use Rattle.amqp_types.specs.ValueSpelling.{SpellsValue}
+use Rattle.amqp_types.proofs.Bytes.{IsBytes-drop}
+use Rattle.amqp_values.proofs.Filling.{after, goes_on, ends}
+use Rattle.amqp_values.proofs.Filled.{entry_exact}
+use Rattle.amqp_values.proofs.Exactly.{value_exact}
+use Rattle.amqp_values.proofs.Bounded.{value_bounded}
+use Rattle.amqp_canonical.specs.Judgements.{IsBelow, AreCanonicalValues, AreCanonicalEntries, Fills}
+
+-- ---- the values up to a place, and what is told of them
+pub record ValuesTo (room : ℕ) (content : List ℕ) (at : ℕ) (canonical : Bool) : Type 0 where
+  pub things : List FieldValue
+  pub rest : after things (filled (judge_value room) 0 (drop at content)) ≡ filled (judge_value room) 0 content
+  pub told : IsTrue canonical ↔ AreCanonicalValues (take at content) things
+  pub shorter : length (values_bytes (values_of things)) ≤ at
+
+-- the key of the last entry, where there is one
+abbrev pub IsLast : ℕ → List ℕ → List Entry → Type 0
+IsLast at previous things = ((at ≡ 0) × (things ≡ [])) ⊎ ((0 < at) × (es : List Entry) × (v : FieldValue) × (things ≡ es ++ (previous, v) ∷ []))
+
+-- the entries up to a place, and what is told of them
+pub record EntriesTo (room : ℕ) (content : List ℕ) (at : ℕ) (previous : List ℕ) (canonical : Bool) : Type 0 where
+  pub things : List Entry
+  pub rest : after things (filled (judge_entry (judge_value room)) 0 (drop at content)) ≡ filled (judge_entry (judge_value room)) 0 content
+  pub told : IsTrue canonical ↔ AreCanonicalEntries (take at content) things
+  pub shorter : length (entries_bytes (entries_of things)) ≤ at
+  pub last : IsLast at previous things
+
+-- ---- tests
+
+pub both_told : (b c : Bool) (P Q : Type 0) → IsTrue b ↔ P → IsTrue c ↔ Q → IsTrue (b && c) ↔ (P × Q)
+both_told true c P Q h k = (λ t. (h.0 refl, k.0 t), λ p. k.1 p.1)
+both_told false c P Q h k = (λ t. absurd (true≢false (sym t)), λ p. h.1 p.0)
+
+pub told_as : (b : Bool) (P Q : Type 0) → IsTrue b ↔ P → (P → Q) → (Q → P) → IsTrue b ↔ Q
+told_as b P Q h f g = (λ t. f (h.0 t), λ q. h.1 (g q))
+
+-- ---- two lists of bytes, one behind the other
+
+pub split_two : (a b x y : List ℕ) → a ++ b ≡ x ++ y → length x ≤ length a → length y ≤ length b → (a ≡ x) × (b ≡ y)
+split_two [] b [] y h few less = (refl, h)
+split_two [] b (c ∷ x) y h few less = absurd (omega (arith, few))
+split_two (c ∷ a) b [] y h few less = absurd (omega (arith, ap length h, length-append a b, less))
+split_two (c ∷ a) b (d ∷ x) y h few less =
+    let first : c ≡ d = cc in
+    let others : a ++ b ≡ x ++ y = cc in
+    let more = split_two a b x y others (omega (arith, few)) less in
+    (ap₂ (λ e es. e ∷ es) first more.0, more.1)
+
+pub take_all : (content : List ℕ) (at : ℕ) → length content ≤ at → take at content ≡ content
+take_all [] zero h = refl
+take_all [] (suc at) h = refl
+take_all (b ∷ content) zero h = absurd (omega arith)
+take_all (b ∷ content) (suc at) h = ap (λ bs. b ∷ bs) (take_all content at (omega arith))
+
+-- what stands up to a place, and behind it
+module _ (content : List ℕ) (at n : ℕ) (old new : List ℕ) (within : at ≤ length content) (fits : n ≤ length (drop at content)) (less : length old ≤ at) (few : length new ≤ n) where
+  pub stands_both : (take at content ≡ old) × (take n (drop at content) ≡ new) → take (at + n) content ≡ old ++ new
+  stands_both h = take-add at n content ∙ ap₂ (λ a b. a ++ b) h.0 h.1
+
+  pub stands_each : take (at + n) content ≡ old ++ new → (take at content ≡ old) × (take n (drop at content) ≡ new)
+  stands_each h = split_two (take at content) (take n (drop at content)) old new (sym (take-add at n content) ∙ h) (omega (arith, less, length-take-le at content within)) (omega (arith, few, length-take-le n (drop at content) fits))
+
+-- ---- values
+
+pub values_last : (vs : List FieldValue) (v : FieldValue) → values_bytes (values_of (vs ++ v ∷ [])) ≡ values_bytes (values_of vs) ++ tagged_bytes v
+values_last [] v = append-nil (tagged_bytes v)
+values_last (w ∷ vs) v = ap (λ bs. tagged_bytes w ++ bs) (values_last vs v) ∙ sym (append_assoc (tagged_bytes w) (values_bytes (values_of vs)) (tagged_bytes v))
+
+pub value_few : (room : ℕ) (bytes : List ℕ) (v : FieldValue) (n : ℕ) → IsBytes bytes → judge_value room bytes ≡ took v n → length (tagged_bytes v) ≤ n
+value_few room bytes v n fits h =
+    let exact = value_exact room in
+    let one = exact.spelled bytes v n fits h in
+    let b = value_bounded room (take n bytes) v one.0 in
+    omega (arith, b.shorter, length-take-le n bytes one.1)
+
+after_none : {A : Type 0} (read : Result (List A) Fault) → after [] read ≡ read
+after_none (Ok xs) = refl
+after_none (Err f) = refl
+
+pub values_none : (room : ℕ) (content : List ℕ) → ValuesTo room content 0 true
+values_none room content = record { things = []; rest = after_none (filled (judge_value room) 0 content); told = (λ t. refl, λ h. refl); shorter = omega arith }
+
+pub values_next : (room : ℕ) (content : List ℕ) (at n : ℕ) (v : FieldValue) (canonical d : Bool) → IsBytes content → at < length content → judge_value room (drop at content) ≡ took v n → 0 < n → n ≤ length (drop at content)
+    → IsTrue d ↔ (take n (drop at content) ≡ tagged_bytes v) → ValuesTo room content at canonical → ValuesTo room content (at + n) (canonical && d)
+values_next room content at n v canonical d bytes more is up fits told h =
+    let some : 0 < length (drop at content) = omega (arith, length-drop at content) in
+    let next = goes_on (judge_value room) h.things v n (drop at content) _ some is up fits h.rest in
+    let few = value_few room (drop at content) v n (IsBytes-drop at content bytes) is in
+    let within : at ≤ length content = omega (arith, more) in
+    let old = values_bytes (values_of h.things) in
+    let last = values_last h.things v in
+    record {
+      things = h.things ++ v ∷ [];
+      rest = ap (λ bs. after (h.things ++ v ∷ []) (filled (judge_value room) 0 bs)) (sym (drop-drop n at content)) ∙ next;
+      told = told_as (canonical && d) _ _ (both_told canonical d _ _ h.told told)
+          (λ p. stands_both content at n old (tagged_bytes v) within fits h.shorter few p ∙ sym last)
+          (λ q. stands_each content at n old (tagged_bytes v) within fits h.shorter few (q ∙ last));
+      shorter = omega (arith, ap length last, length-append old (tagged_bytes v), h.shorter, few);
+    }
+
+pub values_end : (room : ℕ) (content : List ℕ) (at : ℕ) (canonical : Bool) → length content ≤ at → ValuesTo room content at canonical → Fills AreCanonicalValues canonical content (filled (judge_value room) 0 content)
+values_end room content at canonical long h =
+    let P : List ℕ → Type 0 = λ bs. IsTrue canonical ↔ AreCanonicalValues bs h.things in
+    record { thing = h.things; is = ends (judge_value room) (λ xs. h.things ++ xs) at content _ long h.rest ∙ ap Ok (append-nil h.things); told = subst P (take_all content at long) h.told }
+
+-- ---- keys that rise
+
+abbrev AllBelow : List ℕ → List Entry → Type 0
+AllBelow next es = AllByRecursion (λ k. IsBelow k next) (keys_of es)
+
+all_last : (P : List ℕ → Type 0) (es : List Entry) (e : Entry) → AllByRecursion P (keys_of es) → P e.0 → AllByRecursion P (keys_of (es ++ e ∷ []))
+all_last P [] e h p = (p, tt)
+all_last P (x ∷ es) e h p = (h.0, all_last P es e h.1 p)
+
+all_before : (P : List ℕ → Type 0) (es : List Entry) (e : Entry) → AllByRecursion P (keys_of (es ++ e ∷ [])) → AllByRecursion P (keys_of es)
+all_before P [] e h = tt
+all_before P (x ∷ es) e h = (h.0, all_before P es e h.1)
+
+of_last : (P : List ℕ → Type 0) (es : List Entry) (e : Entry) → AllByRecursion P (keys_of (es ++ e ∷ [])) → P e.0
+of_last P [] e h = h.0
+of_last P (x ∷ es) e h = of_last P es e h.1
+
+all_below : (es : List Entry) (p : Entry) (next : List ℕ) → IsRising (es ++ p ∷ []) → IsBelow p.0 next → AllBelow next (es ++ p ∷ [])
+unfolding IsStrictlySortedBy
+all_below [] p next s less = (less, tt)
+all_below (x ∷ es) p next s less = (nat_list_cmp_total.trans x.0 p.0 next (of_last (λ k. IsBelow x.0 k) es p s.0) less, all_below es p next s.1 less)
+
+rising_last : (es : List Entry) (e : Entry) → IsRising es → AllBelow e.0 es → IsRising (es ++ e ∷ [])
+unfolding IsStrictlySortedBy
+rising_last [] e s h = (tt, tt)
+rising_last (x ∷ es) e s h = (all_last (λ k. IsBelow x.0 k) es e s.0 h.0, rising_last es e s.1 h.1)
+
+rising_before : (es : List Entry) (e : Entry) → IsRising (es ++ e ∷ []) → IsRising es
+unfolding IsStrictlySortedBy
+rising_before [] e s = tt
+rising_before (x ∷ es) e s = (all_before (λ k. IsBelow x.0 k) es e s.0, rising_before es e s.1)
+
+last_below : (es : List Entry) (p e : Entry) → IsRising ((es ++ p ∷ []) ++ e ∷ []) → IsBelow p.0 e.0
+unfolding IsStrictlySortedBy
+last_below [] p e s = s.0.0
+last_below (x ∷ es) p e s = last_below es p e s.1
+
+rising_none : IsStrictlySortedBy (slice_cmp nat_cmp) (keys_of {X = FieldValue} [])
+unfolding IsStrictlySortedBy
+rising_none = tt
+
+-- the key is above the last one, where there is one
+abbrev pub IsAbove : ℕ → List ℕ → List ℕ → Bool → Type 0
+IsAbove at previous key above = ((at ≡ 0) × (above ≡ true)) ⊎ ((0 < at) × (IsTrue above ↔ IsBelow previous key))
+
+module _ (at : ℕ) (previous key : List ℕ) (v : FieldValue) (above : Bool) where
+  abbrev IsRisingMore : List Entry → Type 0
+  IsRisingMore things = IsRising (things ++ (key, v) ∷ [])
+
+  rises_more : (things : List Entry) → IsLast at previous things → IsAbove at previous key above → IsRising things → IsTrue above → IsRisingMore things
+  rises_more things (inl none) (inl a) s t =
+      let P : List Entry → Type 0 = λ es. IsRisingMore es in
+      subst P (sym none.1) (rising_last [] (key, v) rising_none tt)
+  rises_more things (inl none) (inr a) s t = absurd (omega (arith, none.0, a.0))
+  rises_more things (inr one) (inl a) s t = absurd (omega (arith, one.0, a.0))
+  rises_more things (inr one) (inr a) s t =
+      let P : List Entry → Type 0 = λ es. IsRisingMore es in
+      let R : List Entry → Type 0 = λ es. IsRising es in
+      let p : Entry = (previous, one.2) in
+      let front = subst R one.3 s in
+      subst P (sym one.3) (rising_last (one.1 ++ p ∷ []) (key, v) front (all_below one.1 p key front (a.1.0 t)))
+
+  rises_less : (things : List Entry) → IsLast at previous things → IsAbove at previous key above → IsRisingMore things → IsRising things × IsTrue above
+  rises_less things (inl none) (inl a) s = (rising_before things (key, v) s, a.1)
+  rises_less things (inl none) (inr a) s = absurd (omega (arith, none.0, a.0))
+  rises_less things (inr one) (inl a) s = absurd (omega (arith, one.0, a.0))
+  rises_less things (inr one) (inr a) s =
+      let P : List Entry → Type 0 = λ es. IsRisingMore es in
+      (rising_before things (key, v) s, a.1.1 (last_below one.1 (previous, one.2) (key, v) (subst P one.3 s)))
+
+-- ---- entries
+
+abbrev entry_bytes : Entry → List ℕ
+entry_bytes e = short_string_bytes e.0 ++ tagged_bytes e.1
+
+entries_last : (es : List Entry) (e : Entry) → entries_bytes (entries_of (es ++ e ∷ [])) ≡ entries_bytes (entries_of es) ++ entry_bytes e
+entries_last [] e = append-nil (entry_bytes e)
+entries_last (x ∷ es) e = ap (λ bs. entry_bytes x ++ bs) (entries_last es e) ∙ sym (append_assoc (entry_bytes x) (entries_bytes (entries_of es)) (entry_bytes e))
+
+entry_few : (room : ℕ) (bytes : List ℕ) (e : Entry) (n : ℕ) → IsBytes bytes → judge_entry (judge_value room) bytes ≡ took e n → length (entry_bytes e) ≤ n
+entry_few room bytes e n fits h =
+    let exact = entry_exact (judge_value room) (SpellsValue plain room) (value_exact room) in
+    let one = exact.spelled bytes e n fits h in
+    let s = one.0 in
+    let b = value_bounded room s.behind s.two s.second_is in
+    let joined : length (entry_bytes e) ≡ length (entry_bytes (s.one, s.two)) = ap (λ (x : Entry). length (entry_bytes x)) s.joined in
+    omega (arith, joined, length-append (short_string_bytes s.one) (tagged_bytes s.two), b.shorter, ap length s.first_is.bytes_are, ap length s.bytes_are, length-append s.front s.behind, length-take-le n bytes one.1)
+
+pub entries_none : (room : ℕ) (content : List ℕ) → EntriesTo room content 0 [] true
+entries_none room content = record { things = []; rest = after_none (filled (judge_entry (judge_value room)) 0 content); told = (λ t. (refl, rising_none), λ h. refl); shorter = omega arith; last = inl (refl, refl) }
+
+pub entries_next : (room : ℕ) (content : List ℕ) (at n : ℕ) (previous key : List ℕ) (v : FieldValue) (canonical d above : Bool) → IsBytes content → at < length content → judge_entry (judge_value room) (drop at content) ≡ took (key, v) n
+    → 0 < n → n ≤ length (drop at content) → IsTrue d ↔ (take n (drop at content) ≡ short_string_bytes key ++ tagged_bytes v) → IsAbove at previous key above → EntriesTo room content at previous canonical → EntriesTo room content (at + n) key ((canonical && d) && above)
+entries_next room content at n previous key v canonical d above bytes more is up fits told over h =
+    let e : Entry = (key, v) in
+    let some : 0 < length (drop at content) = omega (arith, length-drop at content) in
+    let next = goes_on (judge_entry (judge_value room)) h.things e n (drop at content) _ some is up fits h.rest in
+    let few = entry_few room (drop at content) e n (IsBytes-drop at content bytes) is in
+    let within : at ≤ length content = omega (arith, more) in
+    let old = entries_bytes (entries_of h.things) in
+    let last = entries_last h.things e in
+    let three = both_told (canonical && d) above _ (IsTrue above) (both_told canonical d _ _ h.told told) (λ t. t, λ t. t) in
+    record {
+      things = h.things ++ e ∷ [];
+      rest = ap (λ bs. after (h.things ++ e ∷ []) (filled (judge_entry (judge_value room)) 0 bs)) (sym (drop-drop n at content)) ∙ next;
+      told = told_as ((canonical && d) && above) _ _ three
+          (λ p. (stands_both content at n old (entry_bytes e) within fits h.shorter few (p.0.0.0, p.0.1) ∙ sym last, rises_more at previous key v above h.things h.last over p.0.0.1 p.1))
+          (λ q.
+          let two = stands_each content at n old (entry_bytes e) within fits h.shorter few (q.0 ∙ last) in
+          let rising = rises_less at previous key v above h.things h.last over q.1 in
+          (((two.0, rising.0), two.1), rising.1));
+      shorter = omega (arith, ap length last, length-append old (entry_bytes e), h.shorter, few);
+      last = inr (omega (arith, up), h.things, v, refl);
+    }
+
+pub entries_end : (room : ℕ) (content : List ℕ) (at : ℕ) (previous : List ℕ) (canonical : Bool) → length content ≤ at → EntriesTo room content at previous canonical → Fills AreCanonicalEntries canonical content (filled (judge_entry (judge_value room)) 0 content)
+entries_end room content at previous canonical long h =
+    let P : List ℕ → Type 0 = λ bs. IsTrue canonical ↔ AreCanonicalEntries bs h.things in
+    record { thing = h.things; is = ends (judge_entry (judge_value room)) (λ xs. h.things ++ xs) at content _ long h.rest ∙ ap Ok (append-nil h.things); told = subst P (take_all content at long) h.told }

@@ -1,0 +1,67 @@
+-- What is written is no longer than what was read.
+use Rattle.std.proofs.Common.{ℕ, List, length, take, ap, arith}
+use Rattle.std.proofs.lemmas.List.{length-take-le}
+use Rattle.amqp_types.specs.Levels.{Level, plain}
+use Rattle.amqp_types.specs.Judging.{Judge}
+use Rattle.amqp_types.specs.FormLaws.{IsLawful}
+use Rattle.amqp_types.specs.ValueBytes.{array_bytes, table_bytes, tagged_bytes}
+use Rattle.amqp_types.specs.ValueJudging.{judge_value, judge_array, judge_table}
+use Rattle.amqp_types.specs.ValueSpelling.{SpellsValue}
+use Rattle.amqp_types.specs.SlotJudging.{judge_slots}
+use Rattle.amqp_types.specs.SlotBytes.{slots_bytes}
+use Rattle.amqp_types.specs.SlotSpelling.{SpellsSlots}
+use Rattle.amqp_types.specs.Methods.{judge_payload, payload_bytes}
+use Rattle.amqp_types.specs.MethodSpelling.{SpellsPayload}
+use Rattle.amqp_types.specs.ContentHeaders.{judge_content_header, content_header_bytes, SpellsContentHeader}
+use Rattle.amqp_values.proofs.Filled.{array_exact, table_exact}
+use Rattle.amqp_values.proofs.Exactly.{value_exact, value_some}
+use Rattle.amqp_values.proofs.Bounded.{value_bounded, array_bounded, table_bounded}
+use Rattle.amqp_values.proofs.SlotLaws.{slots_lawful}
+use Rattle.amqp_values.proofs.MethodLaws.{payloads_lawful}
+use Rattle.amqp_properties.proofs.HeaderLaws.{content_headers_lawful}
+use Rattle.amqp_canonical.specs.Writes.{canonical_of, used_of}
+use Rattle.amqp_canonical.specs.WritingLaws.{IsNoLonger, ValuesAreNoLonger, ArraysAreNoLonger, TablesAreNoLonger, SlotsAreNoLonger, PayloadsAreNoLonger, ContentHeadersAreNoLonger}
+use Rattle.amqp_canonical.proofs.ReadParts.{took_of}
+
+lawful_no_longer : {A : Type 0} (judge : Judge A) (Spells : Level → List ℕ → A → Type 0) (canonical : A → List ℕ) → IsLawful judge Spells canonical → IsNoLonger judge canonical
+lawful_no_longer judge Spells canonical laws bytes fits h =
+    let one = took_of (judge bytes) h in
+    let spelled = laws.exact.spelled bytes one.0 one.1 fits one.2 in
+    let shorter = laws.shortest (take one.1 bytes) one.0 spelled.0 in
+    omega (arith, shorter, length-take-le one.1 bytes spelled.1, ap (λ j. length (canonical_of canonical j)) one.2, ap (λ j. used_of j) one.2)
+
+pub values_no_longer : ValuesAreNoLonger
+values_no_longer room bytes fits h =
+    let one = took_of (judge_value room bytes) h in
+    let exact = value_exact room in
+    let spelled = exact.spelled bytes one.0 one.1 fits one.2 in
+    let b = value_bounded room (take one.1 bytes) one.0 spelled.0 in
+    omega (arith, b.shorter, length-take-le one.1 bytes spelled.1, ap (λ j. length (canonical_of tagged_bytes j)) one.2, ap (λ j. used_of j) one.2)
+
+pub arrays_no_longer : ArraysAreNoLonger
+arrays_no_longer room bytes fits h =
+    let Plain = SpellsValue plain room in
+    let one = took_of (judge_array (judge_value room) bytes) h in
+    let exact = array_exact (judge_value room) Plain (value_exact room) (value_some plain room) in
+    let spelled = exact.spelled bytes one.0 one.1 fits one.2 in
+    let b = array_bounded room Plain (value_bounded room) (take one.1 bytes) one.0 spelled.0 in
+    omega (arith, b.shorter, length-take-le one.1 bytes spelled.1, ap (λ j. length (canonical_of array_bytes j)) one.2, ap (λ j. used_of j) one.2)
+
+pub tables_no_longer : TablesAreNoLonger
+unfolding table_bytes
+tables_no_longer room bytes fits h =
+    let Plain = SpellsValue plain room in
+    let one = took_of (judge_table (judge_value room) bytes) h in
+    let exact = table_exact (judge_value room) Plain (value_exact room) (value_some plain room) in
+    let spelled = exact.spelled bytes one.0 one.1 fits one.2 in
+    let b = table_bounded room Plain (value_bounded room) (take one.1 bytes) one.0 spelled.0 in
+    omega (arith, b.shorter, length-take-le one.1 bytes spelled.1, ap (λ j. length (canonical_of table_bytes j)) one.2, ap (λ j. used_of j) one.2)
+
+pub slots_no_longer : SlotsAreNoLonger
+slots_no_longer slots least = lawful_no_longer (judge_slots slots) (λ level. SpellsSlots level slots) (slots_bytes slots) (slots_lawful slots least)
+
+pub payloads_no_longer : PayloadsAreNoLonger
+payloads_no_longer = lawful_no_longer judge_payload SpellsPayload payload_bytes payloads_lawful
+
+pub content_headers_no_longer : ContentHeadersAreNoLonger
+content_headers_no_longer = lawful_no_longer judge_content_header SpellsContentHeader content_header_bytes content_headers_lawful

@@ -1,0 +1,217 @@
+-- What one slot holds, judged at every level.
+use Rattle.std.proofs.Common.{◌≡◌, ℕ, ◌/◌, ◌^◌, ◌<◌, ◌≤◌, ◌↔◌, nat_eq, Bool, true, false, true≢false, IsTrue, List, [], ◌∷◌, length, get_or, take, map, Result, Ok, Err, refl, sym, ap, subst, ◌∙◌, arith}
+use Rattle.std.proofs.lemmas.Bool.Decides.{nat_tests}
+use Rattle.std.proofs.lemmas.Nat.{pow_pos}
+use Rattle.std.proofs.Math.Nat.{pow-le-pow_right, div-lt_iff_lt-mul}
+use Rattle.std.specs.Cmp.Lexicographic.{pointwise, told_text}
+use Rattle.std.specs.Int.{from_be_bytes}
+use Rattle.std.specs.Result.{IsErrAnd}
+use Rattle.amqp_types.specs.Levels.{Level, plain, tidy, strict}
+use Rattle.amqp_types.specs.Judging.{Judged, took, past, IsBytes, ◌>>=◌}
+use Rattle.amqp_types.specs.Answers.{AnswersFully}
+use Rattle.amqp_types.specs.Numbers.{NumberWidth, width_of, byte_count, number_limit, number_bytes, judge_number}
+use Rattle.amqp_types.specs.Flags.{flags_from, judge_flags}
+use Rattle.amqp_types.specs.Strings.{judge_short_string, judge_long_string}
+use Rattle.amqp_types.specs.Values.{Entry}
+use Rattle.amqp_types.specs.ValueJudging.{judge_table, judge_value}
+use Rattle.amqp_types.specs.ValueSpelling.{SpellsTable, SpellsValue}
+use Rattle.amqp_types.specs.Slots.{Item, number_item, flag_item, text_item, bytes_item, entries_item, Form, number_form, flags_form, short_string_form, long_string_form, table_form, Slot, reserved_slot}
+use Rattle.amqp_types.specs.SlotJudging.{judge_form, judge_dropped, judge_slot}
+use Rattle.amqp_types.specs.SlotBytes.{form_bytes}
+use Rattle.amqp_types.specs.SlotSpelling.{SpellsForm, SpellsReserved, SpellsSlot}
+use Rattle.amqp_types.specs.SlotLaws.{is_least}
+use Rattle.amqp_types.specs.declared.errors.ParserError.{ParserError}
+use Rattle.amqp_types.proofs.FormLaws.{numbers_lawful}
+use Rattle.amqp_types.proofs.Numbers.{number_exact}
+use Rattle.amqp_types.proofs.Texts.{short_string_exact, long_string_exact}
+use Rattle.amqp_values.proofs.PlainValues.{field_table_plain_is_tidy}
+use Rattle.amqp_values.proofs.SlotForms.{forms_lawful}
+use Rattle.amqp_values.proofs.SlotLaws.{reserved_lawful}
+use Rattle.amqp_canonical.specs.declared.shapes.Shape.{Shape}
+use Rattle.amqp_canonical.specs.declared.slots.Judgement.{Judgement}
+use Rattle.amqp_canonical.specs.declared.values.ValueJudgement.{ValueJudgement}
+use Rattle.amqp_canonical.specs.Judgements.{IsCanonicalTable, Takes}
+use Rattle.amqp_canonical.specs.Shapes.{form_of, slot_of}
+use Rattle.amqp_canonical.specs.SlotJudgements.{TakesTidily, JudgesTidily, JudgesLevels}
+use Rattle.amqp_canonical.proofs.Refusing.{Fails, fully, fails_next}
+use Rattle.amqp_canonical.proofs.Children.{told_as}
+use Rattle.amqp_canonical.proofs.AfterTag.{number_past, number_took}
+use Rattle.amqp_canonical.proofs.Strict.{table_strict}
+
+-- an error that `?` passes on
+pub err_passed : {A : Type 0} (IsCanonical IsTidy : List ℕ → A → Type 0) (bytes : List ℕ) (r : Result Judgement ParserError) (e : ParserError) (j : Judged A) → IsErrAnd r (λ x. x ≡ e) → Fails e j → JudgesTidily IsCanonical IsTidy bytes r j
+err_passed IsCanonical IsTidy bytes (Ok w) e j is h = absurd is
+err_passed IsCanonical IsTidy bytes (Err x) e j is h = let P : ParserError → Type 0 = λ y. Fails y j in subst P (sym is) h
+
+-- what is taken at a level, form by form
+abbrev Taken : Form → ℕ → Bool → Bool → List ℕ → Type 0
+Taken form n canonical neat bytes = TakesTidily (SpellsForm strict form) (SpellsForm tidy form) (record { used = n; canonical = canonical; tidy = neat }) bytes (judge_form form bytes)
+
+-- of what has one spelling
+one_spelling : (form : Form) (bytes : List ℕ) (items : List Item) (n : ℕ) → judge_form form bytes ≡ took items n → ((level : Level) → SpellsForm level form (take n bytes) items) → Taken form n true true bytes
+one_spelling form bytes items n is spelled = record { thing = items; is = is; canonical = (λ t. spelled strict, λ h. refl); tidy = (λ t. spelled tidy, λ h. refl) }
+
+-- ---- numbers
+
+pub number_form_past : (width : NumberWidth) (bytes : List ℕ) (n : ℕ) → byte_count width ≡ n → length bytes < n → judge_form (number_form width) bytes ≡ past
+unfolding judge_form
+number_form_past width bytes n count short = ap (λ j. j >>= λ x. took (number_item x.0 ∷ []) x.1) (number_past width bytes (omega (arith, count, short)))
+
+number_form_whole : (width : NumberWidth) (bytes : List ℕ) → IsBytes bytes → byte_count width ≤ length bytes → Taken (number_form width) (byte_count width) true true bytes
+unfolding judge_form
+number_form_whole width bytes fits long =
+    let bits : ℕ = from_be_bytes (width_of width) (take (byte_count width) bytes) in
+    let is = number_took width bytes long in
+    let exact = number_exact width in
+    let one = exact.spelled bytes bits (byte_count width) fits is in
+    one_spelling (number_form width) bytes (number_item bits ∷ []) (byte_count width) (ap (λ j. j >>= λ x. took (number_item x.0 ∷ []) x.1) is) (λ level. record { thing = bits; spelled = one.0; made = refl })
+
+pub number_form_took : (width : NumberWidth) (bytes : List ℕ) (n : ℕ) → IsBytes bytes → byte_count width ≡ n → n ≤ length bytes → Taken (number_form width) n true true bytes
+number_form_took width bytes n fits count long = let P : ℕ → Type 0 = λ k. Taken (number_form width) k true true bytes in subst P count (number_form_whole width bytes fits (omega (arith, count, long)))
+
+-- ---- strings
+
+pub short_form_fails : {A : Type 0} (bytes : List ℕ) (view : A → List ℕ) (e : ParserError) → AnswersFully view (Err e) (judge_short_string bytes) → Fails e (judge_form short_string_form bytes)
+unfolding judge_form
+short_form_fails bytes view e h = fails_next e (judge_short_string bytes) _ (fully view e (judge_short_string bytes) h)
+
+pub short_form_took : (bytes text : List ℕ) (n : ℕ) → IsBytes bytes → judge_short_string bytes ≡ took text n → Taken short_string_form n true true bytes
+unfolding judge_form
+short_form_took bytes text n fits is =
+    let one = short_string_exact.spelled bytes text n fits is in
+    one_spelling short_string_form bytes (text_item text ∷ []) n (ap (λ j. j >>= λ x. took (text_item x.0 ∷ []) x.1) is) (λ level. record { thing = text; spelled = one.0; made = refl })
+
+pub long_form_fails : {A : Type 0} (bytes : List ℕ) (view : A → List ℕ) (e : ParserError) → AnswersFully view (Err e) (judge_long_string bytes) → Fails e (judge_form long_string_form bytes)
+unfolding judge_form
+long_form_fails bytes view e h = fails_next e (judge_long_string bytes) _ (fully view e (judge_long_string bytes) h)
+
+pub long_form_took : (bytes content : List ℕ) (n : ℕ) → IsBytes bytes → judge_long_string bytes ≡ took content n → Taken long_string_form n true true bytes
+unfolding judge_form
+long_form_took bytes content n fits is =
+    let one = long_string_exact.spelled bytes content n fits is in
+    one_spelling long_string_form bytes (bytes_item content ∷ []) n (ap (λ j. j >>= λ x. took (bytes_item x.0 ∷ []) x.1) is) (λ level. record { thing = content; spelled = one.0; made = refl })
+
+-- ---- flags
+
+pub flags_form_past : (count : ℕ) (bytes : List ℕ) → length bytes < 1 → judge_form (flags_form count) bytes ≡ past
+unfolding judge_form judge_flags
+flags_form_past count [] h = refl
+flags_form_past count (b ∷ bytes) h = absurd (omega (arith, h))
+
+same_byte : (b c : ℕ) → b ∷ [] ≡ c ∷ [] → b ≡ c
+same_byte b c h = cc
+
+pub flags_form_took : (count : ℕ) (bytes : List ℕ) (fits : Bool) → IsBytes bytes → 1 ≤ length bytes → IsTrue fits ↔ (get_or bytes 0 0 < 2 ^ count) → Taken (flags_form count) 1 fits fits bytes
+flags_form_took count [] fits all some told = absurd (omega (arith, some))
+flags_form_took count (b ∷ bytes) fits all some told =
+    let flags = flags_from count 0 b in
+    let low : b < 256 = omega (arith, all 0) in
+    let Low : ℕ → Type 0 = λ x. x < 2 ^ count in
+    record {
+      thing = map flag_item flags;
+      is = (forms_lawful (flags_form count)).exact.taken (b ∷ []) bytes (map flag_item flags) (record { thing = flags; spelled = record { byte = b; fits = low; bytes_are = refl; flags_are = refl; unused = tt }; made = refl });
+      canonical = told_as fits _ _ told (λ small. record { thing = flags; spelled = record { byte = b; fits = low; bytes_are = refl; flags_are = refl; unused = small }; made = refl })
+          (λ s. subst Low (sym (same_byte b s.spelled.byte s.spelled.bytes_are)) s.spelled.unused);
+      tidy = told_as fits _ _ told (λ small. record { thing = flags; spelled = record { byte = b; fits = low; bytes_are = refl; flags_are = refl; unused = small }; made = refl })
+          (λ s. subst Low (sym (same_byte b s.spelled.byte s.spelled.bytes_are)) s.spelled.unused);
+    }
+
+-- no bit above the first ones
+pub fits_where : (count byte : ℕ) → byte < 256 → 8 ≤ count → byte < 2 ^ count
+fits_where count byte fits most = let up : 2 ^ 8 ≤ 2 ^ count = pow-le-pow_right {n = 2} (omega arith) {i = 8} {j = count} most in omega (arith, fits, up)
+
+pub fits_told : (count byte : ℕ) → IsTrue (nat_eq (byte / 2 ^ count) 0) ↔ (byte < 2 ^ count)
+fits_told count byte =
+    let below = div-lt_iff_lt-mul {k = 2 ^ count} {x = byte} {y = 1} (pow_pos count) in
+    (λ t. let none : byte / 2 ^ count ≡ 0 = grind (arith, nat_tests) in omega (arith, below.0 (omega (arith, none))), λ h. let none : byte / 2 ^ count < 1 = below.1 (omega (arith, h)) in grind (arith, nat_tests))
+
+-- ---- tables
+
+pub table_form_fails : (bytes : List ℕ) (e : ParserError) → Fails e (judge_table (judge_value 63) bytes) → Fails e (judge_form table_form bytes)
+unfolding judge_form
+table_form_fails bytes e h = fails_next e (judge_table (judge_value 63) bytes) _ h
+
+same_entries : (es fs : List Entry) → entries_item es ∷ [] ≡ entries_item fs ∷ [] → es ≡ fs
+same_entries es fs h = cc
+
+pub table_form_took : (bytes : List ℕ) (w : ValueJudgement) → IsBytes bytes → Takes IsCanonicalTable w bytes (judge_table (judge_value 63) bytes) → Taken table_form w.used w.canonical true bytes
+unfolding judge_form
+table_form_took bytes w fits h =
+    let is = ap (λ j. j >>= λ x. took (entries_item x.0 ∷ []) x.1) h.is in
+    let told = table_strict 63 bytes h.thing w.used fits h.is in
+    let Q : List Entry → Type 0 = λ es. SpellsTable strict (SpellsValue strict 63) (take w.used bytes) es in
+    let one = (forms_lawful table_form).exact.spelled bytes (entries_item h.thing ∷ []) w.used fits is in
+    record {
+      thing = entries_item h.thing ∷ [];
+      is = is;
+      canonical = told_as w.canonical _ _ h.told (λ e. record { thing = h.thing; spelled = told.0 e; made = refl }) (λ s. told.1 (subst Q (sym (same_entries h.thing s.thing s.made)) s.spelled));
+      tidy = (λ t. record { thing = one.0.thing; spelled = field_table_plain_is_tidy (take w.used bytes) one.0.thing one.0.spelled; made = one.0.made }, λ s. refl);
+    }
+
+-- ---- reserved slots
+
+reserved_tidy_is_strict : (form : Form) (constant : List Item) (bytes : List ℕ) (items : List Item) → is_least form constant ≡ true → SpellsReserved tidy form constant bytes items → SpellsReserved strict form constant bytes items
+reserved_tidy_is_strict (number_form width) constant bytes items least h = record { dropped = h.dropped; spelled = h.spelled; none = h.none; unused = h.unused }
+reserved_tidy_is_strict (flags_form count) constant bytes items least h = record {
+  dropped = h.dropped;
+  spelled = record { thing = h.spelled.thing; spelled = record { byte = h.spelled.spelled.byte; fits = h.spelled.spelled.fits; bytes_are = h.spelled.spelled.bytes_are; flags_are = h.spelled.spelled.flags_are; unused = h.spelled.spelled.unused }; made = h.spelled.made };
+  none = h.none;
+  unused = h.unused;
+}
+reserved_tidy_is_strict short_string_form constant bytes items least h = record { dropped = h.dropped; spelled = h.spelled; none = h.none; unused = h.unused }
+reserved_tidy_is_strict long_string_form constant bytes items least h = record { dropped = h.dropped; spelled = h.spelled; none = h.none; unused = h.unused }
+reserved_tidy_is_strict table_form constant bytes items least h = absurd cc
+
+pub reserved_fails : (form : Form) (bytes : List ℕ) (e : ParserError) → Fails e (judge_form form bytes) → Fails e (judge_dropped form bytes)
+unfolding judge_dropped
+reserved_fails form bytes e h = fails_next e (judge_form form bytes) _ h
+
+pub reserved_took : (form : Form) (constant : List Item) (bytes : List ℕ) (j : Judgement) (as_written : Bool) → IsBytes bytes → is_least form constant ≡ true → TakesTidily (SpellsForm strict form) (SpellsForm tidy form) j bytes (judge_form form bytes)
+    → IsTrue as_written ↔ (take j.used bytes ≡ form_bytes form constant)
+    → TakesTidily (SpellsReserved strict form constant) (SpellsReserved tidy form constant) (record { used = j.used; canonical = as_written; tidy = as_written }) bytes (judge_dropped form bytes)
+unfolding judge_dropped
+reserved_took form constant bytes j as_written fits least h told =
+    let law = reserved_lawful form constant least in
+    let is : judge_dropped form bytes ≡ took [] j.used = ap (λ j. j >>= λ x. took [] x.1) h.is in
+    let one = law.exact.spelled bytes [] j.used fits is in
+    let front = take j.used bytes in
+    let P : List ℕ → Type 0 = λ bs. SpellsReserved strict form constant bs [] in
+    let up : front ≡ form_bytes form constant → SpellsReserved strict form constant front [] = λ e. subst P (sym e) (law.canonical_is_strict front [] one.0) in
+    record {
+      thing = [];
+      is = is;
+      canonical = told_as as_written _ _ told up (λ s. law.strict_is_canonical front [] s);
+      tidy = told_as as_written _ _ told (λ e. law.strict_is_tidy front [] (up e)) (λ s. law.strict_is_canonical front [] (reserved_tidy_is_strict form constant front [] least s));
+    }
+
+pub bytes_told : (xs ys : List ℕ) (r : Bool) → r ≡ pointwise nat_eq xs ys → IsTrue r ↔ (xs ≡ ys)
+bytes_told xs ys true h = (λ t. told_text xs ys true h, λ e. refl)
+bytes_told xs ys false h = (λ t. absurd (true≢false (sym t)), λ e. absurd (told_text xs ys false h e))
+
+-- a number is its constant
+pub reserved_number_took : (width : NumberWidth) (bytes : List ℕ) (n constant used : ℕ) (as_written : Bool) → IsBytes bytes → constant < number_limit width → judge_number width bytes ≡ took n used → IsTrue as_written ↔ (n ≡ constant)
+    → TakesTidily (SpellsReserved strict (number_form width) (number_item constant ∷ [])) (SpellsReserved tidy (number_form width) (number_item constant ∷ [])) (record { used = used; canonical = as_written; tidy = as_written }) bytes (judge_dropped (number_form width) bytes)
+unfolding judge_form form_bytes
+reserved_number_took width bytes n constant used as_written fits low is told =
+    let exact = number_exact width in
+    let one = exact.spelled bytes n used fits is in
+    let found = one_spelling (number_form width) bytes (number_item n ∷ []) used (ap (λ j. j >>= λ x. took (number_item x.0 ∷ []) x.1) is) (λ level. record { thing = n; spelled = one.0; made = refl }) in
+    reserved_took (number_form width) (number_item constant ∷ []) bytes (record { used = used; canonical = true; tidy = true }) as_written fits (grind (arith, nat_tests)) found
+    (told_as as_written _ _ told (λ e. one.0.bytes_are ∙ ap (number_bytes width) e) (λ e. (numbers_lawful width).one_meaning plain (take used bytes) n constant one.0 (record { fits = low; bytes_are = e })))
+
+pub reserved_number_fails : {A : Type 0} (width : NumberWidth) (bytes : List ℕ) (view : A → ℕ) (e : ParserError) → AnswersFully view (Err e) (judge_number width bytes) → Fails e (judge_dropped (number_form width) bytes)
+unfolding judge_dropped judge_form
+reserved_number_fails width bytes view e h = fails_next e (judge_form (number_form width) bytes) _ (fails_next e (judge_number width bytes) _ (fully view e (judge_number width bytes) h))
+
+-- the arm of a reserved slot
+pub reserved_arm : (shape other : Shape) (constant : List Item) (written bytes : List ℕ) (r : Result Judgement ParserError) → shape ≡ other → slot_of other ≡ reserved_slot (form_of other) constant → is_least (form_of other) constant ≡ true
+    → written ≡ form_bytes (form_of other) constant
+    → ((items : List Item) → is_least (form_of shape) items ≡ true → written ≡ form_bytes (form_of shape) items → JudgesLevels (λ level. SpellsReserved level (form_of shape) items) bytes r (judge_dropped (form_of shape) bytes))
+    → JudgesLevels (λ level. SpellsSlot level (slot_of shape)) bytes r (judge_slot (slot_of shape) bytes)
+reserved_arm shape other constant written bytes r same slot least is h =
+    let P : Shape → Type 0 = λ s.
+    ((items : List Item) → is_least (form_of s) items ≡ true → written ≡ form_bytes (form_of s) items → JudgesLevels (λ level. SpellsReserved level (form_of s) items) bytes r (judge_dropped (form_of s) bytes))
+    → JudgesLevels (λ level. SpellsSlot level (slot_of s)) bytes r (judge_slot (slot_of s) bytes)
+    in
+    let Q : Slot → Type 0 = λ s. JudgesLevels (λ level. SpellsSlot level s) bytes r (judge_slot s bytes) in
+    subst P (sym same) (λ k. subst Q (sym slot) (k constant least is)) h

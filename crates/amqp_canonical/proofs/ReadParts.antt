@@ -1,0 +1,219 @@
+-- What was read, by its parts.
+use Rattle.std.proofs.Common.{◌≡◌, ℕ, zero, suc, ◌+◌, ◌<◌, ◌≤◌, nat_lt, List, [], ◌∷◌, length, get_or, take, drop, Some, None, Result, Ok, Err, refl, sym, ap, ap₂, subst, ◌∙◌, arith}
+use Rattle.std.proofs.lemmas.Bool.Decides.{nat_tests}
+use Rattle.std.proofs.lemmas.List.{length-take-le}
+use Rattle.std.specs.Str.{is_utf8}
+use Rattle.amqp_types.specs.Judging.{Fault, Judged, Judge, took, past, fault, not_utf8, ◌>>=◌, IsBytes, IsExact}
+use Rattle.amqp_types.specs.Strings.{short_string_bytes, judge_short_string}
+use Rattle.amqp_types.specs.Tags.{tag_at, tag_byte, tag_of}
+use Rattle.amqp_types.specs.Values.{FieldValue, Entry}
+use Rattle.amqp_types.specs.ValueBytes.{value_bytes, tagged_bytes}
+use Rattle.amqp_types.specs.ValueJudging.{filled, next_item, read_map, judge_entry, judge_behind, judge_value, nested}
+use Rattle.amqp_types.specs.ValueSpelling.{SpellsEntry, SpellsValue}
+use Rattle.amqp_types.specs.Levels.{plain}
+use Rattle.amqp_types.specs.declared.tag.FieldTag.{FieldTag}
+use Rattle.amqp_types.specs.declared.errors.ParserError.{ParserError}
+use Rattle.amqp_types.specs.declared.errors.ParserError.TheVariants as errors
+use Rattle.amqp_types.proofs.Took.{bind_took, guard_took, test_took, value_took, count_took}
+use Rattle.amqp_values.proofs.Filling.{filled_next}
+use Rattle.amqp_values.proofs.Filled.{HasBytes, entry_exact}
+use Rattle.amqp_values.proofs.Exactly.{value_exact, value_some}
+use Rattle.amqp_canonical.specs.Writes.{IsRead, used_of, canonical_of, IsFilled, items_of, key_in, after_key}
+use Rattle.amqp_canonical.specs.Marks.{entry_of}
+use Rattle.amqp_canonical.proofs.Refusing.{Fails}
+use Rattle.amqp_canonical.proofs.AfterTag.{tag_behind, judged_tag, value_empty, value_unknown}
+use Rattle.amqp_canonical.proofs.Whole.{entry_some}
+
+pub took_of : {A : Type 0} (j : Judged A) → IsRead j → (x : A) × (n : ℕ) × (j ≡ took x n)
+took_of (took x n) h = (x, n, refl)
+took_of past h = absurd h
+took_of (fault bad) h = absurd h
+
+pub is_read : {A : Type 0} (j : Judged A) (x : A) (n : ℕ) → j ≡ took x n → IsRead j
+is_read j x n h = let P : Judged _ → Type 0 = λ k. IsRead k in subst P (sym h) tt
+
+-- what is refused was not read
+refused_took : {A : Type 0} (e : ParserError) (x : A) (n : ℕ) → Fails e (took x n) → ⊥
+refused_took errors.Incomplete x n h = let e = h.1 in cc
+refused_took errors.UnknownFrameType x n h = let e = h.1 in cc
+refused_took errors.BadProtocolHeader x n h = let e = h.1 in cc
+refused_took errors.BadFrameEnd x n h = let e = h.1 in cc
+refused_took errors.UnknownClass x n h = let e = h.1 in cc
+refused_took errors.UnknownMethod x n h = let e = h.1 in cc
+refused_took errors.ShortPayload x n h = let e = h.1 in cc
+refused_took errors.TrailingBytes x n h = let e = h.1 in cc
+refused_took errors.NotUtf8 x n h = let e = h.1 in cc
+refused_took errors.UnknownTag x n h = let e = h.1 in cc
+refused_took errors.TooDeep x n h = let e = h.1 in cc
+refused_took errors.NoMemory x n h = h.0 refl
+
+pub unread : {A : Type 0} (e : ParserError) (j : Judged A) → Fails e j → IsRead j → ⊥
+unread e (took x n) h r = refused_took e x n h
+unread e past h r = r
+unread e (fault bad) h r = r
+
+-- ---- a tag and its value
+
+-- what is taken after a tag, and with it
+pub record TagParts (room : ℕ) (bytes : List ℕ) (t : FieldTag) : Type 0 where
+  pub read : IsRead (judge_behind (nested room) t (drop 1 bytes))
+  pub used : used_of (judge_value room bytes) ≡ 1 + used_of (judge_behind (nested room) t (drop 1 bytes))
+  pub bytes_are : canonical_of tagged_bytes (judge_value room bytes) ≡ tag_byte t ∷ canonical_of value_bytes (judge_behind (nested room) t (drop 1 bytes))
+
+abbrev with_tag : Judged FieldValue → Judged FieldValue
+with_tag j = j >>= λ v. took v.0 (1 + v.1)
+
+with_tag_read : (j : Judged FieldValue) → IsRead (with_tag j) → IsRead j
+with_tag_read (took v n) h = tt
+with_tag_read past h = h
+with_tag_read (fault bad) h = h
+
+with_tag_used : (j : Judged FieldValue) → IsRead (with_tag j) → used_of (with_tag j) ≡ 1 + used_of j
+with_tag_used (took v n) h = refl
+with_tag_used past h = absurd h
+with_tag_used (fault bad) h = absurd h
+
+with_tag_bytes : (j : Judged FieldValue) (t : FieldTag) → ((v : FieldValue) (n : ℕ) → j ≡ took v n → tag_of v ≡ t) → IsRead (with_tag j) → canonical_of tagged_bytes (with_tag j) ≡ tag_byte t ∷ canonical_of value_bytes j
+with_tag_bytes (took v n) t kind h = ap (λ u. tag_byte u ∷ value_bytes v) (kind v n refl)
+with_tag_bytes past t kind h = absurd h
+with_tag_bytes (fault bad) t kind h = absurd h
+
+pub tag_parts : (room : ℕ) (bytes : List ℕ) (t : FieldTag) → 0 < length bytes → tag_at (get_or bytes 0 0) ≡ Some t → IsRead (judge_value room bytes) → TagParts room bytes t
+tag_parts room bytes t some is h =
+    let j = judge_behind (nested room) t (drop 1 bytes) in
+    let same : judge_value room bytes ≡ with_tag j = judged_tag room bytes (Some t) some is in
+    let P : Judged FieldValue → Type 0 = λ k. IsRead k in
+    let read : IsRead (with_tag j) = subst P same h in
+    record {
+      read = with_tag_read j read;
+      used = ap (λ k. used_of k) same ∙ with_tag_used j read;
+      bytes_are = ap (λ k. canonical_of tagged_bytes k) same ∙ with_tag_bytes j t (λ v n is. tag_behind (nested room) t (drop 1 bytes) v n is) read;
+    }
+
+-- no value was read where there is none
+pub none_read : (room : ℕ) (bytes : List ℕ) → length bytes < 1 → IsRead (judge_value room bytes) → ⊥
+none_read room bytes few h = let P : Judged FieldValue → Type 0 = λ k. IsRead k in subst P (value_empty room bytes few) h
+
+pub unknown_read : (room : ℕ) (bytes : List ℕ) → 0 < length bytes → tag_at (get_or bytes 0 0) ≡ None → IsRead (judge_value room bytes) → ⊥
+unknown_read room bytes some is h = let P : Judged FieldValue → Type 0 = λ k. IsRead k in subst P (value_unknown room bytes some is) h
+
+-- ---- a key and its value
+
+pub record EntryParts (room : ℕ) (bytes : List ℕ) : Type 0 where
+  pub value : FieldValue
+  pub count : ℕ
+  pub value_is : judge_value room (after_key bytes) ≡ took value count
+  pub is : judge_entry (judge_value room) bytes ≡ took (key_in bytes, value) (1 + length (key_in bytes) + count)
+  pub within : 1 + length (key_in bytes) ≤ length bytes
+  pub front : take (1 + length (key_in bytes)) bytes ≡ short_string_bytes (key_in bytes)
+
+-- what a short string was read of
+pub text_parts : (bytes text : List ℕ) (n : ℕ) → judge_short_string bytes ≡ took text n → (text ≡ key_in bytes) × (n ≡ 1 + length (key_in bytes)) × (drop n bytes ≡ after_key bytes) × (1 + length (key_in bytes) ≤ length bytes) × (take (1 + length (key_in bytes)) bytes ≡ short_string_bytes (key_in bytes))
+unfolding judge_short_string
+text_parts [] text n h = absurd cc
+text_parts (k ∷ bytes) text n h =
+    let long = guard_took (nat_lt (length bytes) k) _ text n h in
+    let right = test_took (is_utf8 (take k bytes)) _ not_utf8 text n long.1 in
+    let less : k ≤ length bytes = let f = long.0 in grind (arith, nat_tests) in
+    let count : length (take k bytes) ≡ k = length-take-le k bytes less in
+    let size : n ≡ suc k = sym (count_took (take k bytes) text (1 + k) n right.1) ∙ omega arith in
+    let one : 1 + length (take k bytes) ≡ suc k = omega (arith, count) in (
+      sym (value_took (take k bytes) text (1 + k) n right.1),
+      size ∙ sym one,
+      ap (λ m. drop m (k ∷ bytes)) size,
+      omega (arith, one, less),
+      ap (λ m. take m (k ∷ bytes)) one ∙ ap (λ m. m ∷ take k bytes) (sym count),
+    )
+
+pub entry_parts : (room : ℕ) (bytes : List ℕ) → IsRead (judge_entry (judge_value room) bytes) → EntryParts room bytes
+unfolding judge_entry
+entry_parts room bytes h =
+    let all = took_of (judge_entry (judge_value room) bytes) h in
+    let text = bind_took (judge_short_string bytes) _ all.0 all.1 all.2 in
+    let t = text_parts bytes text.0 text.1 text.2 in
+    let value = bind_took (judge_value room (drop text.1 bytes)) _ all.0 all.1 text.3 in
+    let entry : all.0 ≡ (text.0, value.0) = sym (value_took (text.0, value.0) all.0 (text.1 + value.1) all.1 value.3) in
+    let count : all.1 ≡ text.1 + value.1 = sym (count_took (text.0, value.0) all.0 (text.1 + value.1) all.1 value.3) in
+    let Q : List ℕ → Type 0 = λ bs. judge_value room bs ≡ took value.0 value.1 in
+    record {
+      value = value.0;
+      count = value.1;
+      value_is = subst Q t.2 value.2;
+      is = all.2 ∙ ap₂ (λ (e : Entry) m. took e m) (entry ∙ ap (λ k. (k, value.0)) t.0) (count ∙ ap (λ m. m + value.1) t.1);
+      within = t.3;
+      front = t.4;
+    }
+
+-- ---- what fills a table or an array
+
+pub record First {A : Type 0} (item : Judge A) (bytes : List ℕ) : Type 0 where
+  pub thing : A
+  pub size : ℕ
+  pub is : item bytes ≡ took thing size
+  pub some : 0 < size
+  pub within : size ≤ length bytes
+  pub left : IsFilled (filled item 0 (drop size bytes))
+  pub all : items_of (filled item 0 bytes) ≡ thing ∷ items_of (filled item 0 (drop size bytes))
+
+filled_of : {A : Type 0} (r : Result (List A) Fault) → IsFilled r → (xs : List A) × (r ≡ Ok xs)
+filled_of (Ok xs) h = (xs, refl)
+filled_of (Err bad) h = absurd h
+
+filled_rest : {A : Type 0} (x : A) (r : Result (List A) Fault) → IsFilled (read_map (λ xs. x ∷ xs) r) → IsFilled r × (items_of (read_map (λ xs. x ∷ xs) r) ≡ x ∷ items_of r)
+filled_rest x (Ok xs) h = (tt, refl)
+filled_rest x (Err bad) h = absurd h
+
+first_read : {A : Type 0} (j : Judged A) (others : ℕ → Result (List A) Fault) → IsFilled (next_item j others) → (x : A) × (n : ℕ) × (j ≡ took x n)
+first_read (took x n) others h = (x, n, refl)
+first_read past others h = absurd h
+first_read (fault bad) others h = absurd h
+
+first_taken : {A : Type 0} (item : Judge A) (bytes : List ℕ) → 0 < length bytes → IsFilled (filled item 0 bytes) → (x : A) × (n : ℕ) × (item bytes ≡ took x n)
+unfolding filled
+first_taken item [] some h = absurd (omega arith)
+first_taken item (b ∷ bytes) some h = first_read (item (b ∷ bytes)) _ h
+
+first_of_filled : {A : Type 0} (item : Judge A) (Spells : List ℕ → A → Type 0) → IsExact item Spells → HasBytes Spells → (bytes : List ℕ) → IsBytes bytes → 0 < length bytes → IsFilled (filled item 0 bytes) → First item bytes
+first_of_filled item Spells exact some bytes fits more h =
+    let one = first_taken item bytes more h in
+    let x = one.0 in
+    let n = one.1 in
+    let spelled = exact.spelled bytes x n fits one.2 in
+    let up : 0 < n = omega (arith, some (take n bytes) x spelled.0, length-take-le n bytes spelled.1) in
+    let next = filled_next item bytes x n more one.2 up spelled.1 in
+    let P : Result _ Fault → Type 0 = λ r. IsFilled r in
+    let rest = filled_rest x (filled item 0 (drop n bytes)) (subst P next h) in
+    record { thing = x; size = n; is = one.2; some = up; within = spelled.1; left = rest.0; all = ap (λ r. items_of r) next ∙ rest.1 }
+
+pub first_value : (room : ℕ) (bytes : List ℕ) → IsBytes bytes → 0 < length bytes → IsFilled (filled (judge_value room) 0 bytes) → First (judge_value room) bytes
+first_value room = first_of_filled (judge_value room) (SpellsValue plain room) (value_exact room) (value_some plain room)
+
+pub first_entry : (room : ℕ) (bytes : List ℕ) → IsBytes bytes → 0 < length bytes → IsFilled (filled (judge_entry (judge_value room)) 0 bytes) → First (judge_entry (judge_value room)) bytes
+first_entry room = first_of_filled (judge_entry (judge_value room)) (SpellsEntry (SpellsValue plain room)) (entry_exact (judge_value room) (SpellsValue plain room) (value_exact room)) (entry_some (SpellsValue plain room))
+
+none_left : (at : ℕ) (bytes : List ℕ) → length bytes ≤ at → drop at bytes ≡ []
+none_left zero [] h = refl
+none_left zero (b ∷ bytes) h = absurd (omega arith)
+none_left (suc at) [] h = refl
+none_left (suc at) (b ∷ bytes) h = none_left at bytes (omega arith)
+
+-- nothing fills what stands after the end
+pub none_filled : {A : Type 0} (item : Judge A) (bytes : List ℕ) (at : ℕ) → length bytes ≤ at → items_of (filled item 0 (drop at bytes)) ≡ []
+unfolding filled
+none_filled item bytes at long = ap (λ bs. items_of (filled item 0 bs)) (none_left at bytes long)
+
+-- ---- sizes and keys of entries
+
+-- the size of an entry is that of its key and its value
+pub entry_used : (room : ℕ) (bytes : List ℕ) (k n : ℕ) → k ≡ length (key_in bytes) → (IsRead (judge_value room (after_key bytes)) → n ≡ used_of (judge_value room (after_key bytes))) → IsRead (judge_entry (judge_value room) bytes)
+    → 1 + k + n ≡ used_of (judge_entry (judge_value room) bytes)
+entry_used room bytes k n key value h =
+    let p = entry_parts room bytes h in
+    let all = ap (λ j. used_of j) p.is in
+    let count = ap (λ j. used_of j) p.value_is in
+    let n_is = value (is_read (judge_value room (after_key bytes)) p.value p.count p.value_is) in
+    omega (arith, all, count, n_is, key)
+
+-- the key of an entry stands in front
+pub entry_key : (room : ℕ) (bytes : List ℕ) → IsRead (judge_entry (judge_value room) bytes) → key_in bytes ≡ (entry_of (judge_entry (judge_value room) bytes)).0
+entry_key room bytes h = let p = entry_parts room bytes h in sym (ap (λ j. (entry_of j).0) p.is)

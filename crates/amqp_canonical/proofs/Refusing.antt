@@ -1,0 +1,45 @@
+-- What is refused.
+use Rattle.std.proofs.Common.{◌≡◌, ℕ, List, Result, Ok, Err, subst, sym}
+use Rattle.std.specs.Result.{IsErrAnd}
+use Rattle.amqp_types.specs.Judging.{Judged, Fault, ◌>>=◌}
+use Rattle.amqp_types.specs.Values.{Entry}
+use Rattle.amqp_types.specs.Answers.{AnswersFully, Refuses, RefusesWhole}
+use Rattle.amqp_types.specs.ValueJudging.{whole}
+use Rattle.amqp_types.specs.declared.errors.ParserError.{ParserError}
+use Rattle.amqp_types.specs.declared.errors.ParserError.TheVariants as errors
+use Rattle.amqp_types.proofs.Judged.{refuses_next}
+use Rattle.amqp_values.proofs.Filling.{refuses_whole}
+use Rattle.amqp_canonical.specs.declared.values.ValueJudgement.{ValueJudgement}
+use Rattle.amqp_canonical.specs.Judgements.{MayRefuse, Judges, JudgesEntry}
+
+-- a refusal that is no want of memory
+abbrev pub Fails : {A : Type 0} → ParserError → Judged A → Type 0
+Fails error judged = MayRefuse error × Refuses error judged
+
+pub fully : {A B : Type 0} (view : A → B) (e : ParserError) (j : Judged B) → AnswersFully view (Err e) j → Fails e j
+fully view errors.Incomplete j h = (λ e. cc, h)
+fully view errors.UnknownFrameType j h = (λ e. cc, h)
+fully view errors.BadProtocolHeader j h = (λ e. cc, h)
+fully view errors.BadFrameEnd j h = (λ e. cc, h)
+fully view errors.UnknownClass j h = (λ e. cc, h)
+fully view errors.UnknownMethod j h = (λ e. cc, h)
+fully view errors.ShortPayload j h = (λ e. cc, h)
+fully view errors.TrailingBytes j h = (λ e. cc, h)
+fully view errors.NotUtf8 j h = (λ e. cc, h)
+fully view errors.UnknownTag j h = (λ e. cc, h)
+fully view errors.TooDeep j h = (λ e. cc, h)
+fully view errors.NoMemory j h = absurd h
+
+pub fails_next : {A B : Type 0} (e : ParserError) (j : Judged A) (f : A × ℕ → Judged B) → Fails e j → Fails e (j >>= f)
+fails_next e j f h = (h.0, refuses_next e j f h.1)
+
+pub fails_whole : {A : Type 0} (e : ParserError) (n : ℕ) (r : Result A Fault) → MayRefuse e × RefusesWhole e r → Fails e (whole n r)
+fails_whole e n r h = (h.0, refuses_whole e n r h.1)
+
+pub err_judged : {A : Type 0} (IsCanonical : List ℕ → A → Type 0) (bytes : List ℕ) (r : Result ValueJudgement ParserError) (e : ParserError) (j : Judged A) → IsErrAnd r (λ x. x ≡ e) → Fails e j → Judges IsCanonical bytes r j
+err_judged IsCanonical bytes (Ok w) e j is h = absurd is
+err_judged IsCanonical bytes (Err x) e j is h = let P : ParserError → Type 0 = λ y. Fails y j in subst P (sym is) h
+
+pub entry_err : {K : Type 0} (view : K → List ℕ) (bytes : List ℕ) (r : Result (ValueJudgement × K) ParserError) (e : ParserError) (j : Judged Entry) → IsErrAnd r (λ x. x ≡ e) → Fails e j → JudgesEntry view bytes r j
+entry_err view bytes (Ok w) e j is h = absurd is
+entry_err view bytes (Err x) e j is h = let P : ParserError → Type 0 = λ y. Fails y j in subst P (sym is) h

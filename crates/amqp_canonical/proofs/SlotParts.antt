@@ -1,0 +1,368 @@
+-- What slots were read of, and the bytes in which they are put.
+use Rattle.std.proofs.Common.{◌≡◌, ◌⊎◌, inl, inr, ◌<◌, ◌≤◌, ◌^◌, ◌*◌, ◌/◌, ◌%◌, ◌-◌, ℕ, zero, suc, ◌+◌, nat_lt, eqb, cond, Bool, true, false, List, [], ◌∷◌, ◌++◌, length, get_or, take, drop, map, refl, sym, ap, ap₂, subst, ◌∙◌, arith}
+use Rattle.std.proofs.lemmas.Bool.{le-ltb}
+use Rattle.std.proofs.lemmas.List.{take_at, drop_at}
+use Rattle.std.proofs.lemmas.Nat.{div-add-mod', pow_pos, pow_below}
+use Rattle.std.proofs.lemmas.Nat.Bits.{bit_at_cat_low}
+use Rattle.std.specs.Int.{bit_at}
+use Rattle.amqp_types.specs.Levels.{plain}
+use Rattle.amqp_types.specs.Judging.{Judged, took, past, fault, ◌>>=◌, IsBytes}
+use Rattle.amqp_types.specs.Numbers.{NumberWidth, bytes1, bytes2, bytes4, bytes8, byte_count, number_bytes, judge_number}
+use Rattle.amqp_types.specs.Flags.{flags_from, flags_byte, judge_flags}
+use Rattle.amqp_types.specs.Strings.{judge_short_string, judge_long_string}
+use Rattle.amqp_types.specs.ValueBytes.{table_bytes}
+use Rattle.amqp_types.specs.ValueJudging.{judge_field_table, judge_value}
+use Rattle.amqp_types.specs.Slots.{Item, number_item, flag_item, text_item, bytes_item, entries_item, Form, number_form, flags_form, short_string_form, long_string_form, table_form, Slot, kept_slot, reserved_slot}
+use Rattle.amqp_types.specs.SlotJudging.{judge_form, judge_dropped, judge_slot, judge_slots}
+use Rattle.amqp_types.specs.SlotBytes.{item_count, form_bytes, slots_bytes}
+use Rattle.amqp_types.specs.SlotSpelling.{SpellsForm}
+use Rattle.amqp_types.specs.Writing.{Puts}
+use Rattle.amqp_types.proofs.FormLaws.{flags_byte_back}
+use Rattle.amqp_types.proofs.Took.{bind_took, value_took, count_took}
+use Rattle.amqp_values.proofs.SlotForms.{flags_of-map, forms_lawful, form_gives}
+use Rattle.amqp_canonical.specs.declared.shapes.Shape.{Shape}
+use Rattle.amqp_canonical.specs.declared.shapes.Shape.TheVariants as shapes
+use Rattle.amqp_canonical.specs.Shapes.{form_of, slot_of, slots_of}
+use Rattle.amqp_canonical.specs.Writes.{IsRead, used_of, canonical_of, slot_bytes, key_in}
+use Rattle.amqp_canonical.proofs.ReadParts.{took_of, is_read, text_parts}
+use Rattle.amqp_canonical.proofs.InTurn.{FirstOf, PutInTurn, HereInTurn, turn_none, turn_here, turn_end}
+use Rattle.amqp_canonical.proofs.Sizes.{table_length}
+
+-- ---- what is made of what was read
+
+map_read : {A B : Type 0} (f : A → B) (j : Judged A) → IsRead (j >>= λ x. took (f x.0) x.1) → IsRead j
+map_read f (took x n) h = tt
+map_read f past h = h
+map_read f (fault bad) h = h
+
+map_used : {A B : Type 0} (f : A → B) (j : Judged A) → used_of (j >>= λ x. took (f x.0) x.1) ≡ used_of j
+map_used f (took x n) = refl
+map_used f past = refl
+map_used f (fault bad) = refl
+
+map_bytes : {A B : Type 0} (f : A → B) (canonical : B → List ℕ) (j : Judged A) → canonical_of canonical (j >>= λ x. took (f x.0) x.1) ≡ canonical_of (λ x. canonical (f x)) j
+map_bytes f canonical (took x n) = refl
+map_bytes f canonical past = refl
+map_bytes f canonical (fault bad) = refl
+
+-- whatever was read is written as the same
+constant_bytes : {A : Type 0} (bytes : List ℕ) (j : Judged A) → IsRead j → canonical_of (λ x. bytes) j ≡ bytes
+constant_bytes bytes (took x n) h = refl
+constant_bytes bytes past h = absurd h
+constant_bytes bytes (fault bad) h = absurd h
+
+-- ---- sizes
+
+number_by : (b : Bool) (x n : ℕ) → IsRead (cond b past (took x n)) → n ≡ used_of (cond b past (took x n))
+number_by true x n h = absurd h
+number_by false x n h = refl
+
+number_used : (width : NumberWidth) (bytes : List ℕ) → IsRead (judge_form (number_form width) bytes) → byte_count width ≡ used_of (judge_form (number_form width) bytes)
+unfolding judge_form
+number_used width bytes h = number_by (nat_lt (length bytes) (byte_count width)) _ _ (map_read (λ n. number_item n ∷ []) (judge_number width bytes) h) ∙ sym (map_used (λ n. number_item n ∷ []) (judge_number width bytes))
+
+flags_used : (count : ℕ) (bytes : List ℕ) → IsRead (judge_form (flags_form count) bytes) → 1 ≡ used_of (judge_form (flags_form count) bytes)
+unfolding judge_form judge_flags
+flags_used count bytes h =
+    let read = map_read (map flag_item) (judge_flags count bytes) h in
+    number_by (nat_lt (length bytes) 1) _ _ (map_read (flags_from count 0) (judge_number bytes1 bytes) read) ∙ sym (map_used (flags_from count 0) (judge_number bytes1 bytes)) ∙ sym (map_used (map flag_item) (judge_flags count bytes))
+
+text_used : (bytes : List ℕ) (k : ℕ) → k ≡ length (key_in bytes) → IsRead (judge_form short_string_form bytes) → 1 + k ≡ used_of (judge_form short_string_form bytes)
+unfolding judge_form
+text_used bytes k is h =
+    let one = took_of (judge_short_string bytes) (map_read (λ text. text_item text ∷ []) (judge_short_string bytes) h) in
+    let parts = text_parts bytes one.0 one.1 one.2 in
+    omega (arith, is, parts.1, ap (λ j. used_of j) one.2, map_used (λ text. text_item text ∷ []) (judge_short_string bytes))
+
+abbrev LongUsed : List ℕ → ℕ → Type 0
+LongUsed bytes n = IsRead (judge_long_string bytes) → n ≡ used_of (judge_long_string bytes)
+
+long_used : (bytes : List ℕ) (n : ℕ) → LongUsed bytes n → IsRead (judge_form long_string_form bytes) → n ≡ used_of (judge_form long_string_form bytes)
+unfolding judge_form
+long_used bytes n used h = used (map_read (λ content. bytes_item content ∷ []) (judge_long_string bytes) h) ∙ sym (map_used (λ content. bytes_item content ∷ []) (judge_long_string bytes))
+
+table_used : (bytes : List ℕ) (n : ℕ) → LongUsed bytes n → IsRead (judge_form table_form bytes) → n ≡ used_of (judge_form table_form bytes)
+unfolding judge_form
+table_used bytes n used h =
+    let long = table_length (judge_value 63) bytes (map_read (λ es. entries_item es ∷ []) (judge_field_table bytes) h) in
+    used long.0 ∙ long.1 ∙ sym (map_used (λ es. entries_item es ∷ []) (judge_field_table bytes))
+
+-- by the arms of the code
+module _ (s : Shape) (bytes : List ℕ) where
+  abbrev pub UsedOf : ℕ → Type 0
+  UsedOf n = IsRead (judge_form (form_of s) bytes) → n ≡ used_of (judge_form (form_of s) bytes)
+
+  abbrev FormUsed : ℕ → Form → Type 0
+  FormUsed n form = IsRead (judge_form form bytes) → n ≡ used_of (judge_form form bytes)
+
+  as_form : (n : ℕ) (form : Form) → form_of s ≡ form → FormUsed n form → UsedOf n
+  as_form n form is = subst (λ f. FormUsed n f) (sym is)
+
+  pub octet_size : s ≡ shapes.Octet → UsedOf 1
+  octet_size is = as_form 1 (number_form bytes1) (ap form_of is) (number_used bytes1 bytes)
+
+  pub flags_size : ((count : ℕ) × (s ≡ shapes.Flags count)) ⊎ (s ≡ shapes.ReservedFlag) → UsedOf 1
+  flags_size (inl is) = as_form 1 (flags_form is.0) (ap form_of is.1) (flags_used is.0 bytes)
+  flags_size (inr is) = as_form 1 (flags_form 1) (ap form_of is) (flags_used 1 bytes)
+
+  pub short_size : (s ≡ shapes.Short) ⊎ ((n : ℕ) × (s ≡ shapes.ReservedShort n)) → UsedOf 2
+  short_size (inl is) = as_form 2 (number_form bytes2) (ap form_of is) (number_used bytes2 bytes)
+  short_size (inr is) = as_form 2 (number_form bytes2) (ap form_of is.1) (number_used bytes2 bytes)
+
+  pub long_size : (s ≡ shapes.Long) ⊎ ((n : ℕ) × (s ≡ shapes.ReservedLong n)) → UsedOf 4
+  long_size (inl is) = as_form 4 (number_form bytes4) (ap form_of is) (number_used bytes4 bytes)
+  long_size (inr is) = as_form 4 (number_form bytes4) (ap form_of is.1) (number_used bytes4 bytes)
+
+  pub long_long_size : s ≡ shapes.LongLong → UsedOf 8
+  long_long_size is = as_form 8 (number_form bytes8) (ap form_of is) (number_used bytes8 bytes)
+
+  pub text_size : (k : ℕ) → k ≡ length (key_in bytes) → (s ≡ shapes.ShortString) ⊎ (s ≡ shapes.ReservedShortString) → UsedOf (1 + k)
+  text_size k count (inl is) = as_form (1 + k) short_string_form (ap form_of is) (text_used bytes k count)
+  text_size k count (inr is) = as_form (1 + k) short_string_form (ap form_of is) (text_used bytes k count)
+
+  pub counted_size : (n : ℕ) → LongUsed bytes n → (s ≡ shapes.LongString) ⊎ (s ≡ shapes.ReservedLongString) → UsedOf n
+  counted_size n used (inl is) = as_form n long_string_form (ap form_of is) (long_used bytes n used)
+  counted_size n used (inr is) = as_form n long_string_form (ap form_of is) (long_used bytes n used)
+
+  pub table_size : (n : ℕ) → LongUsed bytes n → s ≡ shapes.Table → UsedOf n
+  table_size n used is = as_form n table_form (ap form_of is) (table_used bytes n used)
+
+-- ---- flags
+
+same_flags : (count k a b : ℕ) → ((i : ℕ) → i < k + count → bit_at a i ≡ bit_at b i) → flags_from count k a ≡ flags_from count k b
+same_flags zero k a b h = refl
+same_flags (suc count) k a b h = ap₂ (λ f fs. f ∷ fs) (ap (λ n. eqb n 1) (h k (omega arith))) (same_flags count (k + 1) a b (λ i less. h i (omega (arith, less))))
+
+-- the flags of a byte are those of its lowest bits, which are all bits of their byte
+pub lowest_flags : (count byte : ℕ) → byte % 2 ^ count ≡ flags_byte (flags_from count 0 byte)
+lowest_flags count byte =
+    let low = byte % 2 ^ count in
+    let parts : (byte / 2 ^ count) * 2 ^ count + low ≡ byte = div-add-mod' byte (2 ^ count) in
+    let same : flags_from count 0 low ≡ flags_from count 0 byte = same_flags count 0 low byte (λ i less. sym (bit_at_cat_low (byte / 2 ^ count) count low i (omega (arith, less))) ∙ ap (λ n. bit_at n i) parts) in
+    sym (flags_byte_back count low (omega (arith, pow_pos count))) ∙ ap flags_byte same
+
+-- ---- what a slot is put as
+
+-- a form whose bytes are copied
+abbrev is_copied : Form → Bool
+is_copied (number_form width) = true
+is_copied (flags_form count) = false
+is_copied short_string_form = true
+is_copied long_string_form = true
+is_copied table_form = false
+
+copied_spelled : (form : Form) (bytes : List ℕ) (items : List Item) → is_copied form ≡ true → SpellsForm plain form bytes items → bytes ≡ form_bytes form items
+unfolding form_bytes
+copied_spelled (number_form width) bytes items is h = h.spelled.bytes_are ∙ ap (λ xs. form_bytes (number_form width) xs) (sym h.made)
+copied_spelled (flags_form count) bytes items is h = absurd cc
+copied_spelled short_string_form bytes items is h = h.spelled.bytes_are ∙ ap (λ xs. form_bytes short_string_form xs) (sym h.made)
+copied_spelled long_string_form bytes items is h = h.spelled.bytes_are ∙ ap (λ xs. form_bytes long_string_form xs) (sym h.made)
+copied_spelled table_form bytes items is h = absurd cc
+
+-- so many bytes in front are the canonical bytes
+pub record CopiedForm (bytes : List ℕ) (n : ℕ) (form : Form) : Type 0 where
+  pub within : n ≤ length bytes
+  pub bytes_are : take n bytes ≡ canonical_of (form_bytes form) (judge_form form bytes)
+
+pub copied_form : (form : Form) (bytes : List ℕ) (n : ℕ) → is_copied form ≡ true → IsBytes bytes → IsRead (judge_form form bytes) → n ≡ used_of (judge_form form bytes) → CopiedForm bytes n form
+copied_form form bytes n is fits read used =
+    let one = took_of (judge_form form bytes) read in
+    let laws = forms_lawful form in
+    let spelled = laws.exact.spelled bytes one.0 one.1 fits one.2 in
+    let count : n ≡ one.1 = used ∙ ap (λ j. used_of j) one.2 in
+    record {
+      within = omega (arith, count, spelled.1);
+      bytes_are = ap (λ k. take k bytes) count ∙ copied_spelled form (take one.1 bytes) one.0 is spelled.0 ∙ sym (ap (λ j. canonical_of (form_bytes form) j) one.2);
+    }
+
+-- shapes whose bytes are copied
+pub other_form : (s : Shape) → (s ≡ shapes.Table → ⊥) → ((n : ℕ) → s ≡ shapes.Flags n → ⊥) → (s ≡ shapes.ReservedFlag → ⊥) → is_copied (form_of s) ≡ true
+other_form shapes.Octet a b c = refl
+other_form shapes.Short a b c = refl
+other_form shapes.Long a b c = refl
+other_form shapes.LongLong a b c = refl
+other_form (shapes.Flags n) a b c = absurd (b n refl)
+other_form shapes.ShortString a b c = refl
+other_form shapes.LongString a b c = refl
+other_form shapes.Table a b c = absurd (a refl)
+other_form (shapes.ReservedShort n) a b c = refl
+other_form (shapes.ReservedLong n) a b c = refl
+other_form shapes.ReservedFlag a b c = absurd (c refl)
+other_form shapes.ReservedShortString a b c = refl
+other_form shapes.ReservedLongString a b c = refl
+
+-- shapes of slots that are kept
+pub other_slot : (s : Shape) → ((n : ℕ) → s ≡ shapes.ReservedShort n → ⊥) → ((n : ℕ) → s ≡ shapes.ReservedLong n → ⊥) → (s ≡ shapes.ReservedFlag → ⊥) → (s ≡ shapes.ReservedShortString → ⊥) → (s ≡ shapes.ReservedLongString → ⊥) → slot_of s ≡ kept_slot (form_of s)
+other_slot shapes.Octet c d e f g = refl
+other_slot shapes.Short c d e f g = refl
+other_slot shapes.Long c d e f g = refl
+other_slot shapes.LongLong c d e f g = refl
+other_slot (shapes.Flags n) c d e f g = refl
+other_slot shapes.ShortString c d e f g = refl
+other_slot shapes.LongString c d e f g = refl
+other_slot shapes.Table c d e f g = refl
+other_slot (shapes.ReservedShort n) c d e f g = absurd (c n refl)
+other_slot (shapes.ReservedLong n) c d e f g = absurd (d n refl)
+other_slot shapes.ReservedFlag c d e f g = absurd (e refl)
+other_slot shapes.ReservedShortString c d e f g = absurd (f refl)
+other_slot shapes.ReservedLongString c d e f g = absurd (g refl)
+
+-- ---- the other slots
+
+-- this is put for the slot, and for what is spelled as it is
+abbrev pub PutAs : Shape → List ℕ → List ℕ → Type 0
+PutAs s bytes put = canonical_of (slot_bytes (slot_of s)) (judge_slot (slot_of s) bytes) ≡ put
+
+abbrev pub FormPutAs : Shape → List ℕ → List ℕ → Type 0
+FormPutAs s bytes put = canonical_of (form_bytes (form_of s)) (judge_form (form_of s) bytes) ≡ put
+
+number_first : (b : ℕ) (bytes : List ℕ) → judge_number bytes1 (b ∷ bytes) ≡ took b 1
+number_first b bytes = let long : 1 ≤ length (b ∷ bytes) = omega arith in rw (le-ltb (length (b ∷ bytes)) 1 long) refl
+
+flags_taken : (count b : ℕ) (bytes : List ℕ) → judge_form (flags_form count) (b ∷ bytes) ≡ took (map flag_item (flags_from count 0 b)) 1
+unfolding judge_form judge_flags
+flags_taken count b bytes = ap (λ j. (j >>= λ byte. took (flags_from count 0 byte.0) byte.1) >>= λ x. took (map flag_item x.0) x.1) (number_first b bytes)
+
+no_flags : (count : ℕ) → judge_form (flags_form count) [] ≡ past
+unfolding judge_form judge_flags
+no_flags count = refl
+
+pub flags_slot : (count : ℕ) (bytes : List ℕ) → IsRead (judge_form (flags_form count) bytes) → (0 < length bytes) × (canonical_of (form_bytes (flags_form count)) (judge_form (flags_form count) bytes) ≡ flags_byte (flags_from count 0 (get_or bytes 0 0)) ∷ [])
+unfolding form_bytes
+flags_slot count [] h = let P : Judged (List Item) → Type 0 = λ j. IsRead j in absurd (subst P (no_flags count) h)
+flags_slot count (b ∷ bytes) h = (omega arith, ap (λ j. canonical_of (form_bytes (flags_form count)) j) (flags_taken count b bytes) ∙ ap (λ fs. flags_byte fs ∷ []) (flags_of-map (flags_from count 0 b)))
+
+pub table_slot : (bytes : List ℕ) → IsRead (judge_form table_form bytes) → IsRead (judge_field_table bytes) × FormPutAs shapes.Table bytes (canonical_of table_bytes (judge_field_table bytes))
+unfolding judge_form form_bytes
+table_slot bytes h = (map_read (λ es. entries_item es ∷ []) (judge_field_table bytes) h, map_bytes (λ es. entries_item es ∷ []) (form_bytes table_form) (judge_field_table bytes))
+
+reserved_read : (form : Form) (bytes : List ℕ) → IsRead (judge_dropped form bytes) → IsRead (judge_form form bytes)
+unfolding judge_dropped
+reserved_read form bytes h = map_read (λ items. []) (judge_form form bytes) h
+
+-- a reserved slot is put as its constant
+reserved_slot_put : (form : Form) (constant : List Item) (bytes : List ℕ) → IsRead (judge_dropped form bytes) → canonical_of (slot_bytes (reserved_slot form constant)) (judge_slot (reserved_slot form constant) bytes) ≡ form_bytes form constant
+reserved_slot_put form constant bytes h = constant_bytes (form_bytes form constant) (judge_dropped form bytes) h
+
+pub reserved_short_put : (n : ℕ) (bytes : List ℕ) → IsRead (judge_dropped (number_form bytes2) bytes) → PutAs (shapes.ReservedShort n) bytes (number_bytes bytes2 n)
+unfolding form_bytes
+reserved_short_put n bytes h = reserved_slot_put (number_form bytes2) (number_item n ∷ []) bytes h
+
+pub reserved_long_put : (n : ℕ) (bytes : List ℕ) → IsRead (judge_dropped (number_form bytes4) bytes) → PutAs (shapes.ReservedLong n) bytes (number_bytes bytes4 n)
+unfolding form_bytes
+reserved_long_put n bytes h = reserved_slot_put (number_form bytes4) (number_item n ∷ []) bytes h
+
+pub reserved_flag_put : (bytes : List ℕ) → IsRead (judge_dropped (flags_form 1) bytes) → PutAs shapes.ReservedFlag bytes (0 ∷ [])
+unfolding form_bytes
+reserved_flag_put bytes h = reserved_slot_put (flags_form 1) (flag_item false ∷ []) bytes h
+
+pub reserved_text_put : (bytes : List ℕ) → IsRead (judge_dropped short_string_form bytes) → PutAs shapes.ReservedShortString bytes (0 ∷ [])
+unfolding form_bytes
+reserved_text_put bytes h = reserved_slot_put short_string_form (text_item [] ∷ []) bytes h
+
+pub reserved_bytes_put : (bytes : List ℕ) → IsRead (judge_dropped long_string_form bytes) → PutAs shapes.ReservedLongString bytes (0 ∷ 0 ∷ 0 ∷ 0 ∷ [])
+unfolding form_bytes
+reserved_bytes_put bytes h = reserved_slot_put long_string_form (bytes_item [] ∷ []) bytes h
+
+-- a slot is read as its form is
+pub slot_read : (s : Shape) (bytes : List ℕ) → IsRead (judge_slot (slot_of s) bytes) → IsRead (judge_form (form_of s) bytes) × (used_of (judge_form (form_of s) bytes) ≡ used_of (judge_slot (slot_of s) bytes))
+unfolding judge_dropped
+slot_read shapes.Octet bytes h = (h, refl)
+slot_read shapes.Short bytes h = (h, refl)
+slot_read shapes.Long bytes h = (h, refl)
+slot_read shapes.LongLong bytes h = (h, refl)
+slot_read (shapes.Flags n) bytes h = (h, refl)
+slot_read shapes.ShortString bytes h = (h, refl)
+slot_read shapes.LongString bytes h = (h, refl)
+slot_read shapes.Table bytes h = (h, refl)
+slot_read (shapes.ReservedShort n) bytes h = (reserved_read (number_form bytes2) bytes h, sym (map_used (λ items. []) (judge_form (number_form bytes2) bytes)))
+slot_read (shapes.ReservedLong n) bytes h = (reserved_read (number_form bytes4) bytes h, sym (map_used (λ items. []) (judge_form (number_form bytes4) bytes)))
+slot_read shapes.ReservedFlag bytes h = (reserved_read (flags_form 1) bytes h, sym (map_used (λ items. []) (judge_form (flags_form 1) bytes)))
+slot_read shapes.ReservedShortString bytes h = (reserved_read short_string_form bytes h, sym (map_used (λ items. []) (judge_form short_string_form bytes)))
+slot_read shapes.ReservedLongString bytes h = (reserved_read long_string_form bytes h, sym (map_used (λ items. []) (judge_form long_string_form bytes)))
+
+-- ---- slots one after another
+
+-- the items of the first slot are told from the others by their number
+both_bytes : (slot : Slot) (slots : List Slot) (bytes : List ℕ) (xs ys : List Item) (n : ℕ) → IsBytes bytes → judge_slot slot bytes ≡ took xs n → slots_bytes (slot ∷ slots) (xs ++ ys) ≡ slot_bytes slot xs ++ slots_bytes slots ys
+unfolding slots_bytes judge_dropped
+both_bytes (kept_slot form) slots bytes xs ys n fits is =
+    let laws = forms_lawful form in
+    let spelled = laws.exact.spelled bytes xs n fits is in
+    let gives = form_gives form (take n bytes) xs spelled.0 in
+    ap₂ (λ a b. form_bytes form a ++ slots_bytes slots b) (take_at xs ys (item_count form) gives.count) (drop_at xs ys (item_count form) gives.count)
+both_bytes (reserved_slot form constant) slots bytes xs ys n fits is =
+    let one = bind_took (judge_form form bytes) _ xs n is in
+    let none : xs ≡ [] = sym (value_took [] xs _ n one.3) in
+    ap (λ items. form_bytes form constant ++ slots_bytes slots (items ++ ys)) none
+
+pub first_slot : (slot : Slot) (slots : List Slot) (bytes : List ℕ) (n : ℕ) → IsBytes bytes → IsRead (judge_slots (slot ∷ slots) bytes) → (IsRead (judge_slot slot bytes) → n ≡ used_of (judge_slot slot bytes)) → FirstOf judge_slot judge_slots slot_bytes slots_bytes slot slots bytes n
+unfolding judge_slots
+first_slot slot slots bytes n fits h sized =
+    let all = took_of (judge_slots (slot ∷ slots) bytes) h in
+    let one = bind_took (judge_slot slot bytes) _ all.0 all.1 all.2 in
+    let two = bind_took (judge_slots slots (drop one.1 bytes)) _ all.0 all.1 one.3 in
+    let read = is_read (judge_slot slot bytes) one.0 one.1 one.2 in
+    let count : n ≡ one.1 = sized read ∙ ap (λ j. used_of j) one.2 in
+    let items : one.0 ++ two.0 ≡ all.0 = value_took (one.0 ++ two.0) all.0 (one.1 + two.1) all.1 two.3 in
+    let size : one.1 + two.1 ≡ all.1 = count_took (one.0 ++ two.0) all.0 (one.1 + two.1) all.1 two.3 in
+    let rest : judge_slots slots (drop n bytes) ≡ took two.0 two.1 = ap (λ m. judge_slots slots (drop m bytes)) count ∙ two.2 in
+    record {
+      first = read;
+      others = is_read (judge_slots slots (drop n bytes)) two.0 two.1 rest;
+      bytes_are = ap (λ j. canonical_of (slots_bytes (slot ∷ slots)) j) all.2 ∙ ap (λ xs. slots_bytes (slot ∷ slots) xs) (sym items) ∙ both_bytes slot slots bytes one.0 two.0 one.1 fits one.2
+          ∙ ap₂ (λ a b. a ++ b) (sym (ap (λ j. canonical_of (slot_bytes slot) j) one.2)) (sym (ap (λ j. canonical_of (slots_bytes slots) j) rest));
+    }
+
+-- a byte has no bits from the eighth on
+byte_by : (more count byte : ℕ) → count ≡ 8 + more → byte < 2 ^ 8 → byte < 2 ^ count
+byte_by zero count byte is h = let P : ℕ → Type 0 = λ n. byte < 2 ^ n in let e : 8 ≡ count = omega (arith, is) in subst P e h
+byte_by (suc more) count byte is h = omega (arith, pow_below 8 count (omega (arith, is)), h)
+
+pub byte_below : (count byte : ℕ) → 8 ≤ count → byte < 2 ^ 8 → byte < 2 ^ count
+byte_below count byte up h = byte_by (count - 8) count byte (omega (arith, up)) h
+
+-- ---- by the arms of the code
+
+pub form_read_as : (s t : Shape) (bytes : List ℕ) → s ≡ t → IsRead (judge_form (form_of s) bytes) → IsRead (judge_form (form_of t) bytes)
+form_read_as s t bytes is h = let P : Shape → Type 0 = λ u. IsRead (judge_form (form_of u) bytes) in subst P is h
+
+pub form_put_as : (s t : Shape) (bytes put : List ℕ) → s ≡ t → FormPutAs t bytes put → FormPutAs s bytes put
+form_put_as s t bytes put is h = let P : Shape → Type 0 = λ u. FormPutAs u bytes put in subst P (sym is) h
+
+-- a kept slot is what its form is
+pub kept_read : (s : Shape) (bytes : List ℕ) → slot_of s ≡ kept_slot (form_of s) → IsRead (judge_slot (slot_of s) bytes) → IsRead (judge_form (form_of s) bytes) × PutAs s bytes (canonical_of (form_bytes (form_of s)) (judge_form (form_of s) bytes))
+kept_read s bytes is h =
+    let P : Slot → Type 0 = λ slot. IsRead (judge_slot slot bytes) in
+    (subst P is h, ap (λ slot. canonical_of (slot_bytes slot) (judge_slot slot bytes)) is)
+
+pub read_as : (s t : Shape) (bytes : List ℕ) → s ≡ t → IsRead (judge_slot (slot_of s) bytes) → IsRead (judge_slot (slot_of t) bytes)
+read_as s t bytes is h = let P : Shape → Type 0 = λ u. IsRead (judge_slot (slot_of u) bytes) in subst P is h
+
+pub put_as : (s t : Shape) (bytes put : List ℕ) → s ≡ t → PutAs t bytes put → PutAs s bytes put
+put_as s t bytes put is h = let P : Shape → Type 0 = λ u. PutAs u bytes put in subst P (sym is) h
+
+pub slots_from : (shapes : List Shape) (k : ℕ) (d : Shape) → k < length shapes → drop k (slots_of shapes) ≡ slot_of (get_or shapes k d) ∷ drop (k + 1) (slots_of shapes)
+slots_from [] k d h = absurd (omega arith)
+slots_from (s ∷ shapes) zero d h = refl
+slots_from (s ∷ shapes) (suc k) d h = let next : suc (k + 1) ≡ suc k + 1 = omega arith in slots_from shapes k d (omega arith) ∙ ap (λ n. slot_of (get_or shapes k d) ∷ drop n (slot_of s ∷ slots_of shapes)) next
+
+pub slot_sized : (s : Shape) (bytes : List ℕ) (n : ℕ) → UsedOf s bytes n → IsRead (judge_slot (slot_of s) bytes) → n ≡ used_of (judge_slot (slot_of s) bytes)
+slot_sized s bytes n used read = let h = slot_read s bytes read in used h.0 ∙ h.1
+
+no_slots : (bytes : List ℕ) → canonical_of (slots_bytes []) (judge_slots [] bytes) ≡ []
+unfolding judge_slots slots_bytes
+no_slots bytes = refl
+
+abbrev pub SlotsPut : List Slot → List ℕ → List ℕ → ℕ → List ℕ → List ℕ → ℕ → ℕ → Type 0
+SlotsPut = PutInTurn judge_slot judge_slots slot_bytes slots_bytes
+
+pub slots_none : (slots : List Slot) (bytes buf : List ℕ) (at : ℕ) → IsBytes bytes → IsRead (judge_slots slots bytes) → SlotsPut slots bytes bytes 0 buf buf at at
+slots_none = turn_none judge_slot judge_slots slot_bytes slots_bytes
+
+pub slot_here : (slots : List Slot) (slot : Slot) (bytes left : List ℕ) (k n : ℕ) (old mid : List ℕ) (at end : ℕ) → drop k slots ≡ slot ∷ drop (k + 1) slots → (IsRead (judge_slot slot left) → n ≡ used_of (judge_slot slot left))
+    → at + length (canonical_of (slots_bytes slots) (judge_slots slots bytes)) ≤ length old → SlotsPut slots bytes left k old mid at end → HereInTurn judge_slot judge_slots slot_bytes slots_bytes slots slot bytes left k n old mid at end
+slot_here = turn_here judge_slot judge_slots slot_bytes slots_bytes first_slot
+
+pub slots_end : (slots : List Slot) (bytes left : List ℕ) (k : ℕ) (old new : List ℕ) (at end : ℕ) → length slots ≤ k → SlotsPut slots bytes left k old new at end → Puts old new at (canonical_of (slots_bytes slots) (judge_slots slots bytes)) end
+slots_end = turn_end judge_slot judge_slots slot_bytes slots_bytes no_slots

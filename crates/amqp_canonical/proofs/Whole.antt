@@ -1,0 +1,126 @@
+-- What fills an array or a table, and the length in front of it.
+use Rattle.std.proofs.Common.{◌≡◌, ℕ, Bool, List, [], ◌∷◌, ◌++◌, length, take, drop, Result, Ok, Err, refl, sym, ap, subst, ◌∙◌, append-nil, append_assoc, arith}
+use Rattle.std.proofs.lemmas.List.{length-append, drop_at}
+use Rattle.amqp_types.specs.Levels.{plain, strict}
+use Rattle.amqp_types.specs.Judging.{Fault, Judged, Judge, took, ◌>>=◌, IsBytes, IsExact}
+use Rattle.amqp_types.specs.Answers.{AnswersFully, RefusesWhole}
+use Rattle.amqp_types.specs.Settling.{IsRising, settled, settled_on}
+use Rattle.amqp_types.specs.Strings.{with_length, judge_long_string}
+use Rattle.amqp_types.specs.Values.{FieldValue, Entry, values_of, entries_of}
+use Rattle.amqp_types.specs.ValueBytes.{values_bytes, entries_bytes}
+use Rattle.amqp_types.specs.ValueJudging.{whole, read_map, filled, judge_value, judge_entry, judge_array, judge_table}
+use Rattle.amqp_types.specs.ValueSpelling.{SpellsEach, SpellsEntry, SpellsValue}
+use Rattle.amqp_types.specs.declared.errors.ParserError.{ParserError}
+use Rattle.amqp_types.proofs.Texts.{long_string_exact}
+use Rattle.amqp_values.proofs.Parts.{insert_last}
+use Rattle.amqp_values.proofs.Settling.{settles}
+use Rattle.amqp_values.proofs.Filling.{filled_next, RefusesWhole-map}
+use Rattle.amqp_values.proofs.Filled.{HasBytes, entry_exact, table_exact}
+use Rattle.amqp_values.proofs.Exactly.{value_exact, value_some}
+use Rattle.amqp_values.proofs.Bounded.{value_bounded, table_bounded}
+use Rattle.amqp_values.proofs.Strictly.{each_into, entry_into, table_again, value_again}
+use Rattle.amqp_values.proofs.ValueLaws.{value_is_plain}
+use Rattle.amqp_canonical.specs.Judgements.{MayRefuse, AreCanonicalValues, AreCanonicalEntries, IsCanonicalArray, IsCanonicalTable, Takes, Fills}
+use Rattle.amqp_canonical.proofs.Refusing.{Fails, fully, fails_next, fails_whole}
+use Rattle.amqp_canonical.proofs.Children.{told_as}
+
+-- ---- the length in front
+
+same_inner : (a b : List ℕ) → with_length a ≡ with_length b → a ≡ b
+same_inner a b h = ap (drop 4) h
+
+framed : (bytes content : List ℕ) (n : ℕ) → IsBytes bytes → judge_long_string bytes ≡ took content n → take n bytes ≡ with_length content
+framed bytes content n fits h = let one = long_string_exact.spelled bytes content n fits h in one.0.bytes_are
+
+-- ---- arrays
+
+pub array_unread : {A : Type 0} (room : ℕ) (bytes : List ℕ) (view : A → List ℕ) (e : ParserError) → AnswersFully view (Err e) (judge_long_string bytes) → Fails e (judge_array (judge_value room) bytes)
+unfolding judge_array
+array_unread room bytes view e h = fails_next e (judge_long_string bytes) _ (fully view e (judge_long_string bytes) h)
+
+pub array_fails : (room : ℕ) (bytes content : List ℕ) (n : ℕ) (e : ParserError) → judge_long_string bytes ≡ took content n → MayRefuse e × RefusesWhole e (filled (judge_value room) 0 content) → Fails e (judge_array (judge_value room) bytes)
+unfolding judge_array
+array_fails room bytes content n e is h =
+    let P : Judged (List ℕ) → Type 0 = λ j. Fails e (j >>= λ c. whole c.1 (filled (judge_value room) 0 c.0)) in
+    subst P (sym is) (fails_whole e n (filled (judge_value room) 0 content) h)
+
+pub array_took : (room : ℕ) (bytes content : List ℕ) (n : ℕ) (canonical : Bool) → IsBytes bytes → judge_long_string bytes ≡ took content n → Fills AreCanonicalValues canonical content (filled (judge_value room) 0 content)
+    → Takes IsCanonicalArray (record { used = n; canonical = canonical }) bytes (judge_array (judge_value room) bytes)
+unfolding judge_array
+array_took room bytes content n canonical fits is h =
+    let front = framed bytes content n fits is in
+    record {
+      thing = h.thing;
+      is = ap (λ j. j >>= λ c. whole c.1 (filled (judge_value room) 0 c.0)) is ∙ ap (whole n) h.is;
+      told = told_as canonical _ _ h.told (λ e. front ∙ ap with_length e) (λ q. same_inner content (values_bytes (values_of h.thing)) (sym front ∙ q));
+    }
+
+-- ---- tables
+
+pub table_unread : {A : Type 0} (room : ℕ) (bytes : List ℕ) (view : A → List ℕ) (e : ParserError) → AnswersFully view (Err e) (judge_long_string bytes) → Fails e (judge_table (judge_value room) bytes)
+unfolding judge_table
+table_unread room bytes view e h = fails_next e (judge_long_string bytes) _ (fully view e (judge_long_string bytes) h)
+
+pub table_fails : (room : ℕ) (bytes content : List ℕ) (n : ℕ) (e : ParserError) → judge_long_string bytes ≡ took content n → MayRefuse e × RefusesWhole e (filled (judge_entry (judge_value room)) 0 content) → Fails e (judge_table (judge_value room) bytes)
+unfolding judge_table
+table_fails room bytes content n e is h =
+    let read = filled (judge_entry (judge_value room)) 0 content in
+    let P : Judged (List ℕ) → Type 0 = λ j. Fails e (j >>= λ c. whole c.1 (read_map settled (filled (judge_entry (judge_value room)) 0 c.0))) in
+    subst P (sym is) (fails_whole e n (read_map settled read) (h.0, RefusesWhole-map e settled read h.1))
+
+in_order : (found es : List Entry) → IsRising (found ++ es) → settled_on found es ≡ found ++ es
+in_order found [] s = sym (append-nil found)
+in_order found (e ∷ es) s =
+    let P : List Entry → Type 0 = λ xs. IsRising xs in
+    let next : found ++ e ∷ es ≡ (found ++ e ∷ []) ++ es = sym (append_assoc found (e ∷ []) es) in
+    ap (λ xs. settled_on xs es) (insert_last found e es s) ∙ in_order (found ++ e ∷ []) es (subst P next s) ∙ sym next
+
+pub entry_some : (Spells : List ℕ → FieldValue → Type 0) → HasBytes (SpellsEntry Spells)
+entry_some Spells bytes e h = omega (arith, ap length h.bytes_are, length-append h.front h.behind, ap length h.first_is.bytes_are)
+
+filled_taken : {A : Type 0} (item : Judge A) (Spells : List ℕ → A → Type 0) → IsExact item Spells → HasBytes Spells → (bytes : List ℕ) (xs : List A) → SpellsEach Spells bytes xs → filled item 0 bytes ≡ Ok xs
+unfolding filled
+filled_taken item Spells exact some bytes [] h = ap (filled item 0) h
+filled_taken item Spells exact some bytes (x ∷ xs) h =
+    let here = h.0 in
+    let behind = h.1 in
+    let up = some here x h.3 in
+    let next = filled_next item (here ++ behind) x (length here) (omega (arith, length-append here behind)) (exact.taken here behind x h.3) up (omega (arith, length-append here behind)) in
+    ap (filled item 0) h.2 ∙ next ∙ ap (λ bs. read_map (λ ys. x ∷ ys) (filled item 0 bs)) (drop_at here behind (length here) refl)
+    ∙ ap (read_map (λ ys. x ∷ ys)) (filled_taken item Spells exact some behind xs h.4)
+
+-- a table that was taken is read back from its canonical entries
+read_back : (room : ℕ) (bytes : List ℕ) (es : List Entry) (n : ℕ) → IsBytes bytes → judge_table (judge_value room) bytes ≡ took es n → filled (judge_entry (judge_value room)) 0 (entries_bytes (entries_of es)) ≡ Ok es
+read_back room bytes es n fits h =
+    let Plain = SpellsValue plain room in
+    let Strict = SpellsValue strict room in
+    let tables = table_exact (judge_value room) Plain (value_exact room) (value_some plain room) in
+    let one = tables.spelled bytes es n fits h in
+    let b = table_bounded room Plain (value_bounded room) (take n bytes) es one.0 in
+    let st = table_again Plain Strict (value_again room) (take n bytes) es b.not_long one.0 in
+    let each = each_into (SpellsEntry Strict) (SpellsEntry Plain) (entry_into Strict Plain (λ bs v s. value_is_plain strict room bs v s)) st.inner st.entries st.each in
+    let inner : entries_bytes (entries_of es) ≡ st.inner = same_inner (entries_bytes (entries_of es)) st.inner st.framed.bytes_are in
+    ap (filled (judge_entry (judge_value room)) 0) inner ∙ filled_taken (judge_entry (judge_value room)) (SpellsEntry Plain) (entry_exact (judge_value room) Plain (value_exact room)) (entry_some Plain) st.inner st.entries each
+    ∙ ap Ok st.once
+
+ok_is : {A : Type 0} (r : Result A Fault) (x y : A) → r ≡ Ok x → r ≡ Ok y → x ≡ y
+ok_is r x y h k = cc
+
+pub table_took : (room : ℕ) (bytes content : List ℕ) (n : ℕ) (canonical : Bool) → IsBytes bytes → judge_long_string bytes ≡ took content n → Fills AreCanonicalEntries canonical content (filled (judge_entry (judge_value room)) 0 content)
+    → Takes IsCanonicalTable (record { used = n; canonical = canonical }) bytes (judge_table (judge_value room) bytes)
+unfolding judge_table
+table_took room bytes content n canonical fits is h =
+    let front = framed bytes content n fits is in
+    let es = h.thing in
+    let judged : judge_table (judge_value room) bytes ≡ took (settled es) n =
+    ap (λ j. j >>= λ c. whole c.1 (read_map settled (filled (judge_entry (judge_value room)) 0 c.0))) is ∙ ap (λ r. whole n (read_map settled r)) h.is in
+    let R : List Entry → Type 0 = λ xs. IsRising xs in
+    record {
+      thing = settled es;
+      is = judged;
+      told = told_as canonical _ _ h.told (λ p. front ∙ ap with_length (p.0 ∙ ap (λ xs. entries_bytes (entries_of xs)) (sym (in_order [] es p.1)))) (λ q.
+          let inner : content ≡ entries_bytes (entries_of (settled es)) = same_inner content _ (sym front ∙ q) in
+          let same : es ≡ settled es = ok_is (filled (judge_entry (judge_value room)) 0 content) es (settled es) h.is (ap (filled (judge_entry (judge_value room)) 0) inner ∙ read_back room bytes (settled es) n fits judged) in
+          let s = settles es in
+          (inner ∙ ap (λ xs. entries_bytes (entries_of xs)) (sym same), subst R (sym same) s.rising));
+    }

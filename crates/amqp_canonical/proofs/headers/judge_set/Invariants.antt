@@ -1,0 +1,6 @@
+use Rattle.std.proofs.Common.{◌≤◌, length}
+use Rattle.amqp_canonical.proofs.Properties.{ArePropertiesReached}
+use Rattle.amqp_canonical.proofs.headers.judge_set.Given as goal
+
+abbrev pub invariant-loop-shape : goal.invariant-loop-shape
+invariant-loop-shape l = (l.at ≤ length l.i) × ArePropertiesReached l.mask l.shapes l.i l.shape-index l.at l.canonical l.tidy

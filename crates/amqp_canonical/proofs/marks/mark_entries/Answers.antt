@@ -1,0 +1,29 @@
+use Rattle.std.proofs.Common.{rules, ◌≡◌, ◌+◌, ◌∙◌, ◌<◌, List, length, take, sym, subst, arith}
+use Rattle.std.proofs.lemmas.List.{take_more_set, length-set, take_rest}
+use Rattle.amqp_canonical.specs.declared.marks.Mark.{Mark}
+use Rattle.amqp_canonical.proofs.Marking.{MarkedTo, marked_next, marked_end}
+use Rattle.amqp_canonical.proofs.marks.mark_entries.Goals as goal
+
+pub loop-at-smaller : goal.loop-at-smaller
+loop-at-smaller c = omega (arith, c.loop-at-test.true, c.entry_size-at.ensures.some)
+
+pub loop-at-preserved : goal.loop-at-preserved
+loop-at-preserved c =
+    let at = c.loop-at.at in
+    let count = c.loop-at.count in
+    let marks = c.loop-at.marks in
+    let content = c.args.content.now in
+    let size = c.entry_size-at.result in
+    let mark : Mark = record { lead = c.leading_bytes.result; place = c.in_ok-place.place } in
+    let is : c.in_ok-place.place ≡ at = search rules in
+    let more : count < length marks = omega (arith, c.loop-at.invariant.1, c.if-count-marks.false) in
+    let sized = rw take_rest at c.entry_size-at.ensures.used in (
+      length-set marks count mark ∙ c.loop-at.invariant.0,
+      omega (arith, more, length-set marks count mark),
+      λ room read.
+          let P : List Mark → Type 0 = λ ms. MarkedTo room content (at + size) ms in
+          subst P (sym (take_more_set marks count mark more)) (marked_next room content at size (take count marks) mark (λ k. omega (arith, c.type_inv.content k)) c.loop-at-test.true (sized room) is (c.loop-at.invariant.2 room read)),
+    )
+
+pub returns-clause-marked : goal.returns-clause-marked
+returns-clause-marked c = λ room read. marked_end room c.args.content.now c.loop-at.at (take c.loop-at.count c.loop-at.marks) c.loop-at-test.false (c.loop-at.invariant.2 room read)

@@ -1,0 +1,18 @@
+use Rattle.std.proofs.Common.{◌≡◌, List, length, take, drop, sym, subst, arith}
+use Rattle.std.proofs.lemmas.List.{take_at, length-take-le}
+use Rattle.std.proofs.lemmas.List.Sorted.{length_permutation}
+use Rattle.amqp_canonical.specs.Marks.{AreOfTable}
+use Rattle.amqp_canonical.specs.declared.marks.Mark.{Mark}
+use Rattle.amqp_canonical.proofs.InOrder.{marks_of_table}
+use Rattle.amqp_canonical.proofs.marks.mark_in_order.Goals as goal
+
+pub returns-then-put_in_order-clause-table : goal.returns-then-put_in_order-clause-table
+returns-then-put_in_order-clause-table c = λ room read.
+    let count = c.in_ok-count.count in
+    let old = take count c.mark_entries.new.marks in
+    let new = c.put_in_order.new.marks in
+    let rest = drop count c.mark_entries.new.marks in
+    let long = length_permutation old new c.put_in_order.ensures.permuted in
+    let same : length new ≡ count = omega (arith, long, length-take-le count c.mark_entries.new.marks c.in_ok-count.ensures.within) in
+    let P : List Mark → Type 0 = λ ms. AreOfTable room c.args.content.now ms in
+    subst P (sym (take_at new rest count same)) (marks_of_table room c.args.content.now old new (c.in_ok-count.ensures.marked room read) c.put_in_order.ensures.permuted (c.put_in_order.ensures.order c.if-put_in_order.true))

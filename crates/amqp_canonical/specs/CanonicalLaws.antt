@@ -1,0 +1,38 @@
+-- Of what was taken, canonical bytes and the strict spelling are the same.
+use Rattle.std.specs.Prelude.{◌≡◌, ◌↔◌, ℕ, List, take, true}
+use Rattle.amqp_types.specs.Levels.{Level, strict}
+use Rattle.amqp_types.specs.Judging.{Judge, IsBytes, took}
+use Rattle.amqp_types.specs.ValueJudging.{judge_value, judge_array, judge_table}
+use Rattle.amqp_types.specs.ValueSpelling.{SpellsValue, SpellsArray, SpellsTable}
+use Rattle.amqp_types.specs.Slots.{Slot}
+use Rattle.amqp_types.specs.SlotJudging.{judge_slots}
+use Rattle.amqp_types.specs.SlotSpelling.{SpellsSlots}
+use Rattle.amqp_types.specs.SlotLaws.{are_least}
+use Rattle.amqp_types.specs.Methods.{judge_payload}
+use Rattle.amqp_types.specs.MethodSpelling.{SpellsPayload}
+use Rattle.amqp_types.specs.ContentHeaders.{judge_content_header, SpellsContentHeader}
+use Rattle.amqp_canonical.specs.Judgements.{IsCanonicalValue, IsCanonicalArray, IsCanonicalTable}
+use Rattle.amqp_canonical.specs.SlotJudgements.{AreCanonicalSlots, IsCanonicalPayload, IsCanonicalContentHeader}
+
+-- of what is taken from the front of some bytes
+abbrev pub CanonicalIsStrict : {A : Type 0} → Judge A → (Level → List ℕ → A → Type 0) → (List ℕ → A → Type 0) → Type 0
+CanonicalIsStrict {A} judge Spells IsCanonical = (bytes : List ℕ) (x : A) (n : ℕ) → IsBytes bytes → judge bytes ≡ took x n → IsCanonical (take n bytes) x ↔ Spells strict (take n bytes) x
+
+abbrev pub CanonicalValuesAreStrict : Type 0
+CanonicalValuesAreStrict = (room : ℕ) → CanonicalIsStrict (judge_value room) (λ level. SpellsValue level room) IsCanonicalValue
+
+abbrev pub CanonicalArraysAreStrict : Type 0
+CanonicalArraysAreStrict = (room : ℕ) → CanonicalIsStrict (judge_array (judge_value room)) (λ level. SpellsArray (SpellsValue level room)) IsCanonicalArray
+
+abbrev pub CanonicalTablesAreStrict : Type 0
+CanonicalTablesAreStrict = (room : ℕ) → CanonicalIsStrict (judge_table (judge_value room)) (λ level. SpellsTable level (SpellsValue level room)) IsCanonicalTable
+
+-- where the constants of reserved slots are the least of their forms
+abbrev pub CanonicalSlotsAreStrict : Type 0
+CanonicalSlotsAreStrict = (slots : List Slot) → are_least slots ≡ true → CanonicalIsStrict (judge_slots slots) (λ level. SpellsSlots level slots) (AreCanonicalSlots slots)
+
+abbrev pub CanonicalPayloadsAreStrict : Type 0
+CanonicalPayloadsAreStrict = CanonicalIsStrict judge_payload SpellsPayload IsCanonicalPayload
+
+abbrev pub CanonicalContentHeadersAreStrict : Type 0
+CanonicalContentHeadersAreStrict = CanonicalIsStrict judge_content_header SpellsContentHeader IsCanonicalContentHeader

@@ -1,0 +1,102 @@
+-- What judging bytes without memory returns: what is judged, and whether it stands in its canonical bytes.
+use Rattle.std.specs.Prelude.{◌≡◌, ◌≢◌, ◌↔◌, ℕ, List, ◌++◌, take, Bool, IsTrue, Result, Ok, Err}
+use Rattle.std.specs.declared.cmp.Ordering.TheVariants.{Less}
+use Rattle.std.specs.Ordering.{nat_cmp}
+use Rattle.std.specs.Cmp.Lexicographic.{slice_cmp}
+use Rattle.amqp_types.specs.Booleans.{boolean_bytes}
+use Rattle.amqp_types.specs.Strings.{short_string_bytes, with_length}
+use Rattle.amqp_types.specs.Values.{FieldValue, Entry, values_of, entries_of}
+use Rattle.amqp_types.specs.ValueBytes.{value_bytes, values_bytes, entries_bytes, tagged_bytes}
+use Rattle.amqp_types.specs.Settling.{IsRising}
+use Rattle.amqp_types.specs.Judging.{Judged, Fault, took}
+use Rattle.amqp_types.specs.Answers.{Refuses, RefusesWhole}
+use Rattle.amqp_types.specs.declared.errors.ParserError.{ParserError}
+use Rattle.amqp_types.specs.declared.errors.ParserError.TheVariants as errors
+use Rattle.amqp_types.specs.declared.tag.FieldTag.{FieldTag}
+use Rattle.amqp_types.specs.declared.tag.FieldTag.TheVariants as tag
+use Rattle.amqp_canonical.specs.declared.values.Layout.{Layout}
+use Rattle.amqp_canonical.specs.declared.values.Layout.TheVariants as layout
+use Rattle.amqp_canonical.specs.declared.values.ValueJudgement.{ValueJudgement}
+
+abbrev pub layout_at : FieldTag → Layout
+layout_at tag.Boolean = layout.OneBoolean
+layout_at tag.ShortShortInt = layout.Fixed 1
+layout_at tag.ShortShortUInt = layout.Fixed 1
+layout_at tag.ShortInt = layout.Fixed 2
+layout_at tag.ShortUInt = layout.Fixed 2
+layout_at tag.LongInt = layout.Fixed 4
+layout_at tag.LongUInt = layout.Fixed 4
+layout_at tag.LongLongInt = layout.Fixed 8
+layout_at tag.Float = layout.Fixed 4
+layout_at tag.Double = layout.Fixed 8
+layout_at tag.DecimalValue = layout.Fixed 5
+layout_at tag.LongString = layout.Counted
+layout_at tag.FieldArray = layout.Values
+layout_at tag.Timestamp = layout.Fixed 8
+layout_at tag.FieldTable = layout.Entries
+layout_at tag.ByteArray = layout.Counted
+layout_at tag.Void = layout.Fixed 0
+
+-- a key comes before another in the order of their bytes
+abbrev pub IsBelow : List ℕ → List ℕ → Type 0
+IsBelow key next = slice_cmp nat_cmp key next ≡ Less
+
+-- nothing here takes memory
+abbrev pub MayRefuse : ParserError → Type 0
+MayRefuse error = error ≢ errors.NoMemory
+
+-- ---- the bytes are the canonical bytes of a thing
+
+abbrev pub IsCanonicalBoolean : List ℕ → Bool → Type 0
+IsCanonicalBoolean bytes b = bytes ≡ boolean_bytes b
+
+abbrev pub IsCanonicalAfterTag : List ℕ → FieldValue → Type 0
+IsCanonicalAfterTag bytes v = bytes ≡ value_bytes v
+
+abbrev pub IsCanonicalValue : List ℕ → FieldValue → Type 0
+IsCanonicalValue bytes v = bytes ≡ tagged_bytes v
+
+abbrev pub AreCanonicalValues : List ℕ → List FieldValue → Type 0
+AreCanonicalValues bytes vs = bytes ≡ values_bytes (values_of vs)
+
+-- these entries, one after another, of which each key is above the one before it
+abbrev pub AreCanonicalEntries : List ℕ → List Entry → Type 0
+AreCanonicalEntries bytes es = (bytes ≡ entries_bytes (entries_of es)) × IsRising es
+
+abbrev pub IsCanonicalArray : List ℕ → List FieldValue → Type 0
+IsCanonicalArray bytes vs = bytes ≡ with_length (values_bytes (values_of vs))
+
+abbrev pub IsCanonicalTable : List ℕ → List Entry → Type 0
+IsCanonicalTable bytes es = bytes ≡ with_length (entries_bytes (entries_of es))
+
+-- ---- what is returned
+
+-- Something is taken, in so many bytes, and it is told exactly whether they are its canonical bytes.
+pub record Takes {A : Type 0} (IsCanonical : List ℕ → A → Type 0) (judgement : ValueJudgement) (bytes : List ℕ) (judged : Judged A) : Type 0 where
+  pub thing : A
+  pub is : judged ≡ took thing judgement.used
+  pub told : IsTrue judgement.canonical ↔ IsCanonical (take judgement.used bytes) thing
+
+abbrev pub Judges : {A : Type 0} → (List ℕ → A → Type 0) → List ℕ → Result ValueJudgement ParserError → Judged A → Type 0
+Judges IsCanonical bytes (Ok judgement) judged = Takes IsCanonical judgement bytes judged
+Judges IsCanonical bytes (Err error) judged = MayRefuse error × Refuses error judged
+
+-- the same of an entry with this key
+pub record TakesEntry (judgement : ValueJudgement) (key bytes : List ℕ) (judged : Judged Entry) : Type 0 where
+  pub value : FieldValue
+  pub is : judged ≡ took (key, value) judgement.used
+  pub told : IsTrue judgement.canonical ↔ (take judgement.used bytes ≡ short_string_bytes key ++ tagged_bytes value)
+
+abbrev pub JudgesEntry : {K : Type 0} → (K → List ℕ) → List ℕ → Result (ValueJudgement × K) ParserError → Judged Entry → Type 0
+JudgesEntry view bytes (Ok found) judged = TakesEntry found.0 (view found.1) bytes judged
+JudgesEntry view bytes (Err error) judged = MayRefuse error × Refuses error judged
+
+-- the same of what fills some bytes
+pub record Fills {A : Type 0} (IsCanonical : List ℕ → A → Type 0) (canonical : Bool) (bytes : List ℕ) (read : Result A Fault) : Type 0 where
+  pub thing : A
+  pub is : read ≡ Ok thing
+  pub told : IsTrue canonical ↔ IsCanonical bytes thing
+
+abbrev pub JudgesWhole : {A : Type 0} → (List ℕ → A → Type 0) → List ℕ → Result Bool ParserError → Result A Fault → Type 0
+JudgesWhole IsCanonical bytes (Ok canonical) read = Fills IsCanonical canonical bytes read
+JudgesWhole IsCanonical bytes (Err error) read = MayRefuse error × RefusesWhole error read

@@ -1,0 +1,8 @@
+pub mod Judgements
+pub mod CanonicalLaws
+pub mod Shapes
+pub mod SlotJudgements
+pub mod Writes
+pub mod Marks
+pub mod Places
+pub mod WritingLaws

@@ -1,0 +1,111 @@
+-- The entries of a table in the order of their keys.
+use Rattle.std.specs.Prelude.{◌≡◌, ◌≢◌, ◌<◌, ◌⊎◌, ℕ, suc, List, [], ◌∷◌, length, map, drop, slice_index_or, Bool, false, if◌then◌else◌, All, Option, Some, None}
+use Rattle.std.specs.declared.cmp.Ordering.TheVariants.{Greater}
+use Rattle.std.specs.Ordering.{nat_cmp}
+use Rattle.std.specs.Cmp.Lexicographic.{slice_cmp}
+use Rattle.std.specs.BTreeMap.{is_at}
+use Rattle.amqp_types.specs.Judging.{Judged, took, past, fault}
+use Rattle.amqp_types.specs.Settling.{last_at, settled}
+use Rattle.amqp_types.specs.Values.{Entry, FieldValue, void_value}
+use Rattle.amqp_types.specs.ValueJudging.{filled, judge_entry, judge_value}
+use Rattle.amqp_canonical.specs.Judgements.{IsBelow}
+use Rattle.amqp_canonical.specs.Writes.{IsRead, IsFilled, items_of, key_in}
+use Rattle.amqp_canonical.specs.Places.{ArePlaced}
+use Rattle.amqp_canonical.specs.declared.marks.Mark.{Mark}
+
+-- the entry at a place of a table's content
+abbrev pub entry_at : ℕ → List ℕ → ℕ → Judged Entry
+entry_at room content place = judge_entry (judge_value room) (drop place content)
+
+abbrev pub entry_of : Judged Entry → Entry
+entry_of (took e n) = e
+entry_of past = ([], void_value)
+entry_of (fault bad) = ([], void_value)
+
+abbrev pub marked_entry : ℕ → List ℕ → Mark → Entry
+marked_entry room content mark = entry_of (entry_at room content mark.place)
+
+-- all entries of a table's content
+abbrev pub entries_in : ℕ → List ℕ → List Entry
+entries_in room content = items_of (filled (judge_entry (judge_value room)) 0 content)
+
+-- what fills a table, where values nest so deep
+abbrev pub AreEntries : ℕ → List ℕ → Type 0
+AreEntries room content = IsFilled (filled (judge_entry (judge_value room)) 0 content)
+
+-- ---- marks
+
+-- an entry was read at each mark's place
+abbrev pub AreRead : ℕ → List ℕ → List Mark → Type 0
+AreRead room content marks = All (λ mark. IsRead (entry_at room content mark.place)) marks
+
+-- the marks are those of all entries, as they stand
+pub record AreMarks (room : ℕ) (content : List ℕ) (marks : List Mark) : Type 0 where
+  pub read : AreRead room content marks
+  pub entries : map (marked_entry room content) marks ≡ entries_in room content
+  pub placed : ArePlaced (λ mark. (marked_entry room content mark).0) (λ mark. mark.place) marks
+
+-- ---- marks in order
+
+-- the key at a mark's place
+abbrev pub key_at : List ℕ → Mark → List ℕ
+key_at content mark = key_in (drop mark.place content)
+
+-- the key comes after the previous one, or is the same at a later place
+abbrev pub Follows : List ℕ → Mark → Mark → Type 0
+Follows content previous mark = IsBelow (key_at content previous) (key_at content mark) ⊎ ((key_at content previous ≡ key_at content mark) × (previous.place < mark.place))
+
+-- what is found where there is no mark
+abbrev pub blank : Mark
+blank = record { lead = 0; place = 0 }
+
+-- each follows the one before it
+abbrev pub AreInOrder : List ℕ → List Mark → Type 0
+AreInOrder content marks = (k : ℕ) → suc k < length marks → Follows content (slice_index_or marks k blank) (slice_index_or marks (suc k) blank)
+
+-- the next entry has the same key
+abbrev pub ties : Entry → List Entry → Bool
+ties e [] = false
+ties e (next ∷ es) = is_at (slice_cmp nat_cmp e.0) next.0
+
+-- of neighbours with one key the last
+abbrev pub last_of_ties : List Entry → List Entry
+last_of_ties [] = []
+last_of_ties (e ∷ es) = if ties e es then last_of_ties es else e ∷ last_of_ties es
+
+-- The marks stand at entries, and of neighbours with one key the last ones are the table that the content is.
+pub record AreOfTable (room : ℕ) (content : List ℕ) (marks : List Mark) : Type 0 where
+  pub read : AreRead room content marks
+  pub table : last_of_ties (map (marked_entry room content) marks) ≡ settled (entries_in room content)
+
+-- ---- the next key
+
+-- the key comes after the last one, where there is a last one
+abbrev pub IsAfter : Option (List ℕ) → List ℕ → Type 0
+IsAfter None key = Unit {0}
+IsAfter (Some last) key = IsBelow last key
+
+-- no key was found, or this key is not above it
+abbrev pub ComesFirst : {K : Type 0} → (K → List ℕ) → List ℕ → Option (ℕ × K) → Type 0
+ComesFirst view key None = Unit {0}
+ComesFirst view key (Some found) = slice_cmp nat_cmp key (view found.1) ≢ Greater
+
+-- The key is the least one after the last, and the value that of the last entry with this key.
+pub record IsNext (last : Option (List ℕ)) (es : List Entry) (key : List ℕ) (v : FieldValue) : Type 0 where
+  pub after : IsAfter last key
+  pub value : last_at key es ≡ Some v
+  pub least : (other : List ℕ) (w : FieldValue) → IsAfter last other → last_at other es ≡ Some w → IsBelow other key → ⊥
+
+-- no key comes after the last one
+abbrev pub HasNoNext : Option (List ℕ) → List Entry → Type 0
+HasNoNext last es = (other : List ℕ) (w : FieldValue) → IsAfter last other → last_at other es ≡ Some w → ⊥
+
+-- the place of the next entry, with its key
+pub record IsNextAt (room : ℕ) (content : List ℕ) (last : Option (List ℕ)) (es : List Entry) (place : ℕ) (key : List ℕ) : Type 0 where
+  pub read : IsRead (entry_at room content place)
+  pub key_is : (entry_of (entry_at room content place)).0 ≡ key
+  pub next : IsNext last es key (entry_of (entry_at room content place)).1
+
+abbrev pub FindsNext : {K : Type 0} → (K → List ℕ) → ℕ → List ℕ → Option (List ℕ) → List Entry → Option (ℕ × K) → Type 0
+FindsNext view room content last es None = HasNoNext last es
+FindsNext view room content last es (Some found) = IsNextAt room content last es found.0 (view found.1)

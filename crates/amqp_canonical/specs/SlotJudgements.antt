@@ -1,0 +1,84 @@
+-- What judging slots, methods and content headers without memory returns.
+use Rattle.std.specs.Prelude.{◌≡◌, ◌↔◌, ◌+◌, ◌&&◌, ℕ, Bool, true, List, take, IsTrue, Result, Ok, Err}
+use Rattle.amqp_types.specs.Levels.{Level, tidy, strict}
+use Rattle.amqp_types.specs.Judging.{Judged, took}
+use Rattle.amqp_types.specs.Answers.{Refuses}
+use Rattle.amqp_types.specs.Slots.{Item, Form, Slot}
+use Rattle.amqp_types.specs.SlotBytes.{form_bytes, slots_bytes}
+use Rattle.amqp_types.specs.SlotJudging.{judge_form, judge_dropped, judge_slot, judge_slots}
+use Rattle.amqp_types.specs.SlotSpelling.{SpellsForm, SpellsReserved, SpellsSlot, SpellsSlots}
+use Rattle.amqp_types.specs.SlotLaws.{is_least}
+use Rattle.amqp_types.specs.Methods.{Method, judge_payload, payload_bytes}
+use Rattle.amqp_types.specs.MethodSpelling.{SpellsPayload}
+use Rattle.amqp_types.specs.Properties.{properties}
+use Rattle.amqp_types.specs.PropertyJudging.{judge_optional, judge_set}
+use Rattle.amqp_types.specs.PropertySpelling.{SpellsOptional, SpellsSet}
+use Rattle.amqp_types.specs.ContentHeaders.{ContentHeader, judge_content_header, SpellsContentHeader, content_header_bytes}
+use Rattle.amqp_types.specs.declared.errors.ParserError.{ParserError}
+use Rattle.amqp_canonical.specs.declared.slots.Judgement.{Judgement}
+use Rattle.amqp_canonical.specs.Judgements.{MayRefuse}
+
+-- ---- the bytes are the canonical bytes of a thing
+
+abbrev pub AreCanonicalSlots : List Slot → List ℕ → List Item → Type 0
+AreCanonicalSlots slots bytes items = bytes ≡ slots_bytes slots items
+
+abbrev pub IsCanonicalPayload : List ℕ → Method → Type 0
+IsCanonicalPayload bytes m = bytes ≡ payload_bytes m
+
+abbrev pub IsCanonicalContentHeader : List ℕ → ContentHeader → Type 0
+IsCanonicalContentHeader bytes header = bytes ≡ content_header_bytes header
+
+-- ---- what is returned
+
+-- Something is taken, in so many bytes, and it is told exactly whether they are its canonical bytes, and whether they spell it at level tidy.
+pub record TakesTidily {A : Type 0} (IsCanonical IsTidy : List ℕ → A → Type 0) (judgement : Judgement) (bytes : List ℕ) (judged : Judged A) : Type 0 where
+  pub thing : A
+  pub is : judged ≡ took thing judgement.used
+  pub canonical : IsTrue judgement.canonical ↔ IsCanonical (take judgement.used bytes) thing
+  pub tidy : IsTrue judgement.tidy ↔ IsTidy (take judgement.used bytes) thing
+
+abbrev pub JudgesTidily : {A : Type 0} → (List ℕ → A → Type 0) → (List ℕ → A → Type 0) → List ℕ → Result Judgement ParserError → Judged A → Type 0
+JudgesTidily IsCanonical IsTidy bytes (Ok judgement) judged = TakesTidily IsCanonical IsTidy judgement bytes judged
+JudgesTidily IsCanonical IsTidy bytes (Err error) judged = MayRefuse error × Refuses error judged
+
+-- the same, where to be canonical is to be spelled at level strict
+abbrev pub JudgesLevels : {A : Type 0} → (Level → List ℕ → A → Type 0) → List ℕ → Result Judgement ParserError → Judged A → Type 0
+JudgesLevels Spells bytes result judged = JudgesTidily (Spells strict) (Spells tidy) bytes result judged
+
+-- what a form holds
+abbrev pub JudgesForm : Form → List ℕ → Result Judgement ParserError → Type 0
+JudgesForm form bytes result = JudgesLevels (λ level. SpellsForm level form) bytes result (judge_form form bytes)
+
+-- a reserved slot
+abbrev pub JudgesReserved : Form → List Item → List ℕ → Result Judgement ParserError → Type 0
+JudgesReserved form constant bytes result = JudgesLevels (λ level. SpellsReserved level form constant) bytes result (judge_dropped form bytes)
+
+-- a reserved slot whose constant is written in these bytes
+abbrev pub JudgesConstant : Form → List ℕ → List ℕ → Result Judgement ParserError → Type 0
+JudgesConstant form written bytes result = (constant : List Item) → is_least form constant ≡ true → written ≡ form_bytes form constant → JudgesReserved form constant bytes result
+
+abbrev pub JudgesSlot : Slot → List ℕ → Result Judgement ParserError → Type 0
+JudgesSlot slot bytes result = JudgesLevels (λ level. SpellsSlot level slot) bytes result (judge_slot slot bytes)
+
+-- a property, where it is present
+abbrev pub JudgesOptional : Bool → Form → List ℕ → Result Judgement ParserError → Type 0
+JudgesOptional present form bytes result = JudgesLevels (λ level. SpellsOptional level present form) bytes result (judge_optional present form bytes)
+
+-- the properties whose bits are set in the mask
+abbrev pub JudgesSet : ℕ → List ℕ → Result Judgement ParserError → Type 0
+JudgesSet mask bytes result = JudgesLevels (λ level. SpellsSet level mask properties) bytes result (judge_set mask properties bytes)
+
+abbrev pub JudgesSlots : List Slot → List ℕ → Result Judgement ParserError → Type 0
+JudgesSlots slots bytes result = JudgesTidily (AreCanonicalSlots slots) (SpellsSlots tidy slots) bytes result (judge_slots slots bytes)
+
+abbrev pub JudgesPayload : List ℕ → Result Judgement ParserError → Type 0
+JudgesPayload bytes result = JudgesTidily IsCanonicalPayload (SpellsPayload tidy) bytes result (judge_payload bytes)
+
+abbrev pub JudgesContentHeader : List ℕ → Result Judgement ParserError → Type 0
+JudgesContentHeader bytes result = JudgesTidily IsCanonicalContentHeader (SpellsContentHeader tidy) bytes result (judge_content_header bytes)
+
+-- what is returned of a thing after others, which use so many bytes
+abbrev pub after_others : ℕ → Bool → Bool → Result Judgement ParserError → Result Judgement ParserError
+after_others at c t (Ok j) = Ok (record { used = at + j.used; canonical = c && j.canonical; tidy = t && j.tidy })
+after_others at c t (Err error) = Err error

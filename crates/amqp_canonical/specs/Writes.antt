@@ -1,0 +1,62 @@
+-- What is written in place of bytes that were read.
+use Rattle.std.specs.Prelude.{ℕ, List, [], ◌∷◌, ◌++◌, take, drop, Result, Ok, Err}
+use Rattle.amqp_types.specs.Judging.{Judged, Fault, took, past, fault}
+use Rattle.amqp_types.specs.Strings.{short_string_bytes}
+use Rattle.amqp_types.specs.Slots.{Item, Slot, kept_slot, reserved_slot}
+use Rattle.amqp_types.specs.SlotBytes.{form_bytes}
+use Rattle.amqp_types.specs.Values.{FieldValue, Entry, values_of, entries_of}
+use Rattle.amqp_types.specs.ValueBytes.{values_bytes, entries_bytes, tagged_bytes}
+
+-- something was taken
+abbrev pub IsRead : {A : Type 0} → Judged A → Type 0
+IsRead (took x n) = Unit {0}
+IsRead past = ⊥
+IsRead (fault bad) = ⊥
+
+-- how many bytes were used
+abbrev pub used_of : {A : Type 0} → Judged A → ℕ
+used_of (took x n) = n
+used_of past = 0
+used_of (fault bad) = 0
+
+-- the canonical bytes of what was taken
+abbrev pub canonical_of : {A : Type 0} → (A → List ℕ) → Judged A → List ℕ
+canonical_of canonical (took x n) = canonical x
+canonical_of canonical past = []
+canonical_of canonical (fault bad) = []
+
+-- the bytes are items, one after another
+abbrev pub IsFilled : {A : Type 0} → Result (List A) Fault → Type 0
+IsFilled (Ok xs) = Unit {0}
+IsFilled (Err bad) = ⊥
+
+-- these items
+abbrev pub items_of : {A : Type 0} → Result (List A) Fault → List A
+items_of (Ok xs) = xs
+items_of (Err bad) = []
+
+-- the canonical bytes of a key and its value, of the values of an array, and of the entries of a table
+abbrev pub entry_bytes : Entry → List ℕ
+entry_bytes e = short_string_bytes e.0 ++ tagged_bytes e.1
+
+abbrev pub array_content : List FieldValue → List ℕ
+array_content vs = values_bytes (values_of vs)
+
+abbrev pub table_content : List Entry → List ℕ
+table_content es = entries_bytes (entries_of es)
+
+-- the canonical bytes of a slot that gives these items
+abbrev pub slot_bytes : Slot → List Item → List ℕ
+slot_bytes (kept_slot form) items = form_bytes form items
+slot_bytes (reserved_slot form constant) items = form_bytes form constant
+
+-- ---- what stands at the front of an entry
+
+-- the text of a short string
+abbrev pub key_in : List ℕ → List ℕ
+key_in [] = []
+key_in (n ∷ bytes) = take n bytes
+
+abbrev pub after_key : List ℕ → List ℕ
+after_key [] = []
+after_key (n ∷ bytes) = drop n bytes

@@ -1,0 +1,35 @@
+-- What is written is no longer than what was read.
+use Rattle.std.specs.Prelude.{◌≡◌, ◌≤◌, ℕ, List, length, true}
+use Rattle.amqp_types.specs.Judging.{Judge, IsBytes}
+use Rattle.amqp_types.specs.ValueBytes.{array_bytes, table_bytes, tagged_bytes}
+use Rattle.amqp_types.specs.ValueJudging.{judge_value, judge_array, judge_table}
+use Rattle.amqp_types.specs.Slots.{Slot}
+use Rattle.amqp_types.specs.SlotJudging.{judge_slots}
+use Rattle.amqp_types.specs.SlotBytes.{slots_bytes}
+use Rattle.amqp_types.specs.SlotLaws.{are_least}
+use Rattle.amqp_types.specs.Methods.{judge_payload, payload_bytes}
+use Rattle.amqp_types.specs.ContentHeaders.{judge_content_header, content_header_bytes}
+use Rattle.amqp_canonical.specs.Writes.{IsRead, canonical_of, used_of}
+
+-- canonical bytes are no more than the bytes that were used
+abbrev pub IsNoLonger : {A : Type 0} → Judge A → (A → List ℕ) → Type 0
+IsNoLonger judge canonical = (bytes : List ℕ) → IsBytes bytes → IsRead (judge bytes) → length (canonical_of canonical (judge bytes)) ≤ used_of (judge bytes)
+
+abbrev pub ValuesAreNoLonger : Type 0
+ValuesAreNoLonger = (room : ℕ) → IsNoLonger (judge_value room) tagged_bytes
+
+abbrev pub ArraysAreNoLonger : Type 0
+ArraysAreNoLonger = (room : ℕ) → IsNoLonger (judge_array (judge_value room)) array_bytes
+
+abbrev pub TablesAreNoLonger : Type 0
+TablesAreNoLonger = (room : ℕ) → IsNoLonger (judge_table (judge_value room)) table_bytes
+
+-- where the constants of reserved slots are the least of their forms
+abbrev pub SlotsAreNoLonger : Type 0
+SlotsAreNoLonger = (slots : List Slot) → are_least slots ≡ true → IsNoLonger (judge_slots slots) (slots_bytes slots)
+
+abbrev pub PayloadsAreNoLonger : Type 0
+PayloadsAreNoLonger = IsNoLonger judge_payload payload_bytes
+
+abbrev pub ContentHeadersAreNoLonger : Type 0
+ContentHeadersAreNoLonger = IsNoLonger judge_content_header content_header_bytes

@@ -1,0 +1,32 @@
+//! Payloads, tables and values of AMQP 0-9-1 judged and written where they stand, without taking memory: how many
+//! bytes they use, which fault they have, whether they stand in their canonical bytes, and these bytes.
+#![tactic(auto)]
+
+mod headers;
+mod laws;
+mod marks;
+mod payload_writing;
+mod payloads;
+mod selection;
+mod shapes;
+mod slot_writing;
+mod slots;
+mod spans;
+mod values;
+mod writing;
+mod writing_laws;
+
+pub use headers::judge_content_header;
+pub use laws::{
+    canonical_content_headers_are_strict, canonical_payloads_are_strict,
+    canonical_slots_are_strict, canonical_values_are_strict,
+};
+pub use marks::Mark;
+pub use payload_writing::{put_content_header, put_payload};
+pub use payloads::judge_payload;
+pub use shapes::{Shape, header_shapes, property_shapes, shapes_of};
+pub use slot_writing::put_slots;
+pub use slots::{Judgement, judge_slots};
+pub use values::{ValueJudgement, judge_array, judge_table, judge_value};
+pub use writing::{put_array, put_table, put_value};
+pub use writing_laws::written_is_no_longer;

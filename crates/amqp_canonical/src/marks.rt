@@ -1,0 +1,157 @@
+//! Marks of the entries of a table, by which they are put in order.
+
+ghost use Rattle.std.specs.Prelude.{◌≡◌, ◌≤◌, ◌<◌, ◌+◌, ℕ, length, map, take, drop, slice_index_or, IfSome, IsTrue};
+ghost use Rattle.std.specs.List.Sorted.{IsPermutation};
+ghost use Rattle.amqp_canonical.specs.Marks.{AreEntries, AreInOrder, AreMarks, AreOfTable, AreRead, Follows, blank, marked_entry, ties};
+
+use crate::spans::{bytes_from, entry_size, split_key};
+use std::cmp::Ordering;
+
+/// What an entry of a table is sorted by, and where it stands. For n bytes the calls that write want n / 2 of them,
+/// and write a table of no order in quadratic time where they are given fewer.
+#[derive(Clone, Copy, Debug, Default)]
+pub struct Mark {
+    /// The first eight bytes of the key as a number, with zeros after a shorter key.
+    lead: u64,
+
+    /// Where the entry begins in the content of its table.
+    place: u32,
+}
+
+/// The first eight bytes of a key as a number, with zeros after a shorter key.
+fn leading_bytes(key: &[u8]) -> u64 {
+    match key {
+        [a, b, c, d, e, f, g, h, ..] => u64::from_be_bytes([*a, *b, *c, *d, *e, *f, *g, *h]),
+        _ => {
+            let mut bytes = [0; 8];
+            for (to, from) in bytes.iter_mut().zip(key) {
+                *to = *from;
+            }
+            u64::from_be_bytes(bytes)
+        }
+    }
+}
+
+/// The bytes from a mark's place on.
+pub(crate) fn marked(content: &[u8], mark: Mark) -> &[u8]
+    ensures { result.now ≡ drop mark.place content.now }
+{
+    bytes_from(content, mark.place as usize)
+}
+
+/// Marks the entries that fill a table, as they stand, and returns how many there are. None where there are more than
+/// marks.
+fn mark_entries(marks: &mut [Mark], content: &[u8]) -> Option<usize>
+    ensures len { length marks.new ≡ length marks.old }
+    ensures within { IfSome result (λ count. count ≤ length marks.new) }
+    ensures marked { IfSome result (λ count. (room : ℕ) → AreEntries room content.now → AreMarks room content.now (take count marks.new)) }
+{
+    let mut count = 0;
+    let mut at = 0;
+    while at < content.len() {
+        if count == marks.len() {
+            return None;
+        }
+        let place = u32::try_from(at).ok()?;
+        let entry = &content[at..];
+        let (key, _) = split_key(entry);
+        marks[count] = Mark {
+            lead: leading_bytes(key),
+            place,
+        };
+        count += 1;
+        at += entry_size(entry);
+    }
+    Some(count)
+}
+
+/// How two marks stand: by their keys, and where those are equal, by their places.
+fn order(content: &[u8], a: &Mark, b: &Mark) -> Ordering {
+    match a.lead.cmp(&b.lead) {
+        Ordering::Equal => {
+            let (a_key, _) = split_key(marked(content, *a));
+            let (b_key, _) = split_key(marked(content, *b));
+            match a_key.cmp(b_key) {
+                Ordering::Equal => a.place.cmp(&b.place),
+                unequal => unequal,
+            }
+        }
+        unequal => unequal,
+    }
+}
+
+/// Sorts marks. Nothing rests on which order that is, since it is looked at again.
+fn sort(marks: &mut [Mark], content: &[u8])
+    ensures { IsPermutation marks.old marks.new }
+{
+    marks.sort_unstable_by(|a, b| order(content, a, b));
+}
+
+/// Whether a key comes after the previous one, or is the same at a later place.
+fn follows(content: &[u8], previous: Mark, mark: Mark) -> bool
+    ensures { IsTrue result → Follows content.now previous mark }
+{
+    let (previous_key, _) = split_key(marked(content, previous));
+    let (key, _) = split_key(marked(content, mark));
+    match previous_key.cmp(key) {
+        Ordering::Less => true,
+        Ordering::Equal => previous.place < mark.place,
+        Ordering::Greater => false,
+    }
+}
+
+/// Whether each mark follows the one before it.
+fn are_in_order(marks: &[Mark], content: &[u8]) -> bool
+    ensures { IsTrue result → AreInOrder content.now marks.now }
+{
+    let mut k = 1;
+    while k < marks.len() {
+        if !follows(content, marks[k - 1], marks[k]) {
+            return false;
+        }
+        k += 1;
+    }
+    true
+}
+
+/// Puts marks in order, where they are not, and returns whether they are.
+fn put_in_order(marks: &mut [Mark], content: &[u8]) -> bool
+    ensures permuted { IsPermutation marks.old marks.new }
+    ensures order { IsTrue result → AreInOrder content.now marks.new }
+{
+    if are_in_order(marks, content) {
+        return true;
+    }
+    sort(marks, content);
+    are_in_order(marks, content)
+}
+
+/// Marks the entries that fill a table in the order of their keys, and returns how many there are. None where there are
+/// more than marks.
+pub(crate) fn mark_in_order(marks: &mut [Mark], content: &[u8]) -> Option<usize>
+    ensures within { IfSome result (λ count. count ≤ length marks.new) }
+    ensures table { IfSome result (λ count. (room : ℕ) → AreEntries room content.now → AreOfTable room content.now (take count marks.new)) }
+{
+    let count = mark_entries(marks, content)?;
+    if put_in_order(&mut marks[..count], content) {
+        Some(count)
+    } else {
+        None
+    }
+}
+
+/// Whether the next mark has the same key as this one.
+pub(crate) fn is_tied(marks: &[Mark], content: &[u8], k: usize) -> bool
+    requires { k < length marks.now }
+    ensures { (room : ℕ) → AreRead room content.now marks.now → result ≡ ties (marked_entry room content.now (slice_index_or marks.now k blank)) (map (marked_entry room content.now) (drop (k + 1) marks.now)) }
+{
+    if k + 1 == marks.len() {
+        return false;
+    }
+    let (key, _) = split_key(marked(content, marks[k]));
+    let (next, _) = split_key(marked(content, marks[k + 1]));
+    match key.cmp(next) {
+        Ordering::Equal => true,
+        _ => false,
+    }
+}

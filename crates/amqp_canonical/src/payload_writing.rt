@@ -1,0 +1,90 @@
+//! Writing the canonical bytes of methods and content headers that were read, without taking memory.
+
+ghost use Rattle.std.specs.Prelude.{◌≡◌, ◌≤◌, ◌+◌, ◌%◌, ◌-◌, length};
+ghost use Rattle.amqp_types.specs.Judging.{took};
+ghost use Rattle.amqp_types.specs.Numbers.{bytes2, judge_number};
+ghost use Rattle.amqp_types.specs.Methods.{judge_payload, payload_bytes};
+ghost use Rattle.amqp_types.specs.Properties.{properties};
+ghost use Rattle.amqp_types.specs.PropertyJudging.{judge_properties, judge_set};
+ghost use Rattle.amqp_types.specs.PropertyBytes.{properties_bytes, set_bytes};
+ghost use Rattle.amqp_types.specs.ContentHeaders.{judge_content_header, content_header_bytes};
+ghost use Rattle.amqp_types.specs.Writing.{Puts};
+ghost use Rattle.amqp_canonical.specs.Writes.{IsRead, canonical_of};
+
+use crate::headers::has_bit;
+use crate::marks::Mark;
+use crate::shapes::{header_shapes, property_shapes, shapes_of};
+use crate::slot_writing::{put_form, put_slots, slot_size};
+use crate::spans::bytes_from;
+use amqp_types::{parse_short_uint, put_short_uint};
+
+/// The number in the first 2 bytes, where there are 2.
+fn short_at(i: &[u8]) -> u16
+    ensures { IsRead (judge_number bytes2 i.now) → judge_number bytes2 i.now ≡ took result 2 }
+{
+    match parse_short_uint(i) {
+        Ok((_, number)) => number,
+        Err(_) => 0,
+    }
+}
+
+/// Puts the canonical bytes of a class id, a method id and the slots of that method at a place of a slice, and returns the
+/// place after them (AMQP 0-9-1, section 4.2.4).
+pub fn put_payload(buf: &mut [u8], at: usize, scratch: &mut [Mark], i: &[u8]) -> usize
+    requires read { IsRead (judge_payload i.now) }
+    requires room { at + length (canonical_of payload_bytes (judge_payload i.now)) ≤ length buf.old }
+    ensures { Puts buf.old buf.new at (canonical_of payload_bytes (judge_payload i.now)) result }
+{
+    let class = short_at(i);
+    let id = short_at(bytes_from(i, 2));
+    let id_place = put_short_uint(buf, at, &class);
+    let place = put_short_uint(buf, id_place, &id);
+    match shapes_of(class, id) {
+        Some(shapes) => put_slots(buf, place, scratch, shapes, bytes_from(i, 4)),
+        None => place,
+    }
+}
+
+/// Puts the canonical bytes of the properties whose bits are set in the mask, one after another.
+fn put_set(buf: &mut [u8], at: usize, scratch: &mut [Mark], mask: u16, i: &[u8]) -> usize
+    requires read { IsRead (judge_set mask properties i.now) }
+    requires room { at + length (canonical_of (set_bytes properties) (judge_set mask properties i.now)) ≤ length buf.old }
+    ensures { Puts buf.old buf.new at (canonical_of (set_bytes properties) (judge_set mask properties i.now)) result }
+{
+    let shapes = property_shapes();
+    let mut end = at;
+    let mut rest = i;
+    for shape in shapes {
+        if has_bit(mask, shape.0) {
+            end = put_form(buf, end, scratch, shape.1, rest);
+            rest = bytes_from(rest, slot_size(shape.1, rest));
+        }
+    }
+    end
+}
+
+/// Puts the canonical bytes of a mask and of the properties whose bits are set in it. The two bits that no property has
+/// are put as zero.
+fn put_properties(buf: &mut [u8], at: usize, scratch: &mut [Mark], i: &[u8]) -> usize
+    requires read { IsRead (judge_properties i.now) }
+    requires room { at + length (canonical_of properties_bytes (judge_properties i.now)) ≤ length buf.old }
+    ensures { Puts buf.old buf.new at (canonical_of properties_bytes (judge_properties i.now)) result }
+{
+    let mask = short_at(i);
+    let place = put_short_uint(buf, at, &(mask - mask % 4));
+    put_set(buf, place, scratch, mask, bytes_from(i, 2))
+}
+
+/// Puts the canonical bytes of a content header at a place of a slice, and returns the place after them: a class id, a
+/// weight of 0, the size of the body, and the properties (AMQP 0-9-1, section 4.2.6.1).
+pub fn put_content_header(buf: &mut [u8], at: usize, scratch: &mut [Mark], i: &[u8]) -> usize
+    requires read { IsRead (judge_content_header i.now) }
+    requires room { at + length (canonical_of content_header_bytes (judge_content_header i.now)) ≤ length buf.old }
+    ensures { Puts buf.old buf.new at (canonical_of content_header_bytes (judge_content_header i.now)) result }
+{
+    let place = put_slots(buf, at, scratch, header_shapes(), i);
+    put_properties(buf, place, scratch, bytes_from(i, 12))
+}
+
+#[cfg(test)]
+mod tests;

@@ -1,0 +1,209 @@
+//! Judging slots by their shapes.
+
+ghost use Rattle.std.specs.Prelude.{◌≡◌, ◌≤◌, ◌<◌, ◌^◌, ◌↔◌, [], ◌∷◌, true, length, IfOk, IsTrue};
+ghost use Rattle.amqp_types.specs.Numbers.{NumberWidth, bytes2, bytes4, byte_count};
+ghost use Rattle.amqp_types.specs.Slots.{number_item, number_form, flags_form, short_string_form, long_string_form, table_form};
+ghost use Rattle.amqp_types.specs.SlotLaws.{are_least};
+ghost use Rattle.amqp_canonical.specs.Shapes.{form_of, slot_of, slots_of};
+ghost use Rattle.amqp_canonical.specs.SlotJudgements.{JudgesForm, JudgesReserved, JudgesConstant, JudgesSlot, JudgesSlots};
+
+use crate::shapes::Shape;
+use crate::values::judge_table;
+use amqp_types::{
+    ParserError, parse_long_bytes, parse_long_uint, parse_short_str, parse_short_uint,
+};
+
+/// Slots, a method or a content header that stand at the front of a slice.
+#[derive(Clone, Copy, Debug, PartialEq, Eq)]
+pub struct Judgement {
+    /// How many bytes it uses.
+    pub used: usize,
+
+    /// Whether these bytes are its canonical bytes.
+    pub canonical: bool,
+
+    /// Whether these bytes are tidy: reserved slots hold their constants, and no unused bit is set.
+    pub tidy: bool,
+}
+
+/// Judges a number of so many bytes.
+fn judge_number(count: usize, i: &[u8]) -> Result<Judgement, ParserError>
+    ensures judged { (width : NumberWidth) → byte_count width ≡ count → JudgesForm (number_form width) i.now result }
+    ensures used { IfOk result (λ j. j.used ≤ length i.now) }
+{
+    if i.len() < count {
+        return Err(ParserError::Incomplete);
+    }
+    Ok(Judgement {
+        used: count,
+        canonical: true,
+        tidy: true,
+    })
+}
+
+/// Whether a byte has no bit above the first `count` ones.
+fn fits_flags(count: u8, byte: u8) -> bool
+    ensures { IsTrue result ↔ (byte < 2 ^ count) }
+{
+    count >= 8 || byte >> count == 0
+}
+
+/// Judges a byte of so many flags.
+fn judge_flags(count: u8, i: &[u8]) -> Result<Judgement, ParserError>
+    ensures judged { JudgesForm (flags_form count) i.now result }
+    ensures used { IfOk result (λ j. j.used ≤ length i.now) }
+{
+    match i {
+        [] => Err(ParserError::Incomplete),
+        [byte, ..] => {
+            let fits = fits_flags(count, *byte);
+            Ok(Judgement {
+                used: 1,
+                canonical: fits,
+                tidy: fits,
+            })
+        }
+    }
+}
+
+/// Judges a short string.
+fn judge_short_string(i: &[u8]) -> Result<Judgement, ParserError>
+    ensures judged { JudgesForm short_string_form i.now result }
+    ensures used { IfOk result (λ j. j.used ≤ length i.now) }
+{
+    let (used, _) = parse_short_str(i)?;
+    Ok(Judgement {
+        used,
+        canonical: true,
+        tidy: true,
+    })
+}
+
+/// Judges a long string.
+fn judge_long_string(i: &[u8]) -> Result<Judgement, ParserError>
+    ensures judged { JudgesForm long_string_form i.now result }
+    ensures used { IfOk result (λ j. j.used ≤ length i.now) }
+{
+    let (used, _) = parse_long_bytes(i)?;
+    Ok(Judgement {
+        used,
+        canonical: true,
+        tidy: true,
+    })
+}
+
+/// Judges a table, at most 64 levels deep.
+fn judge_field_table(i: &[u8]) -> Result<Judgement, ParserError>
+    ensures judged { JudgesForm table_form i.now result }
+    ensures used { IfOk result (λ j. j.used ≤ length i.now) }
+{
+    let table = judge_table(i, 63)?;
+    Ok(Judgement {
+        used: table.used,
+        canonical: table.canonical,
+        tidy: true,
+    })
+}
+
+/// Judges what a slot of this shape holds, whether it is reserved or not.
+pub(crate) fn judge_form(shape: Shape, i: &[u8]) -> Result<Judgement, ParserError>
+    ensures judged { JudgesForm (form_of shape) i.now result }
+    ensures used { IfOk result (λ j. j.used ≤ length i.now) }
+{
+    match shape {
+        Shape::Octet => judge_number(1, i),
+        Shape::Short | Shape::ReservedShort(_) => judge_number(2, i),
+        Shape::Long | Shape::ReservedLong(_) => judge_number(4, i),
+        Shape::LongLong => judge_number(8, i),
+        Shape::Flags(count) => judge_flags(count, i),
+        Shape::ReservedFlag => judge_flags(1, i),
+        Shape::ShortString | Shape::ReservedShortString => judge_short_string(i),
+        Shape::LongString | Shape::ReservedLongString => judge_long_string(i),
+        Shape::Table => judge_field_table(i),
+    }
+}
+
+/// Judges a reserved number of 2 bytes.
+fn judge_reserved_short(constant: u16, i: &[u8]) -> Result<Judgement, ParserError>
+    ensures judged { JudgesReserved (number_form bytes2) (number_item constant ∷ []) i.now result }
+    ensures used { IfOk result (λ j. j.used ≤ length i.now) }
+{
+    let (used, number) = parse_short_uint(i)?;
+    let as_written = number == constant;
+    Ok(Judgement {
+        used,
+        canonical: as_written,
+        tidy: as_written,
+    })
+}
+
+/// Judges a reserved number of 4 bytes.
+fn judge_reserved_long(constant: u32, i: &[u8]) -> Result<Judgement, ParserError>
+    ensures judged { JudgesReserved (number_form bytes4) (number_item constant ∷ []) i.now result }
+    ensures used { IfOk result (λ j. j.used ≤ length i.now) }
+{
+    let (used, number) = parse_long_uint(i)?;
+    let as_written = number == constant;
+    Ok(Judgement {
+        used,
+        canonical: as_written,
+        tidy: as_written,
+    })
+}
+
+/// Judges a reserved slot, whose constant is written in these bytes.
+fn judge_reserved(shape: Shape, constant: &[u8], i: &[u8]) -> Result<Judgement, ParserError>
+    ensures judged { JudgesConstant (form_of shape) constant.now i.now result }
+    ensures used { IfOk result (λ j. j.used ≤ length i.now) }
+{
+    let found = judge_form(shape, i)?;
+    let as_written = &i[..found.used] == constant;
+    Ok(Judgement {
+        used: found.used,
+        canonical: as_written,
+        tidy: as_written,
+    })
+}
+
+/// Judges a slot of this shape.
+fn judge_slot(shape: Shape, i: &[u8]) -> Result<Judgement, ParserError>
+    ensures judged { JudgesSlot (slot_of shape) i.now result }
+    ensures least { are_least (slot_of shape ∷ []) ≡ true }
+    ensures used { IfOk result (λ j. j.used ≤ length i.now) }
+{
+    match shape {
+        Shape::ReservedShort(constant) => judge_reserved_short(constant, i),
+        Shape::ReservedLong(constant) => judge_reserved_long(constant, i),
+        Shape::ReservedFlag => judge_reserved(shape, &[0], i),
+        Shape::ReservedShortString => judge_reserved(shape, &[0], i),
+        Shape::ReservedLongString => judge_reserved(shape, &[0, 0, 0, 0], i),
+        kept => judge_form(kept, i),
+    }
+}
+
+/// Judges slots of these shapes, one after another (AMQP 0-9-1, section 4.2.4).
+pub fn judge_slots(shapes: &[Shape], i: &[u8]) -> Result<Judgement, ParserError>
+    ensures judged { JudgesSlots (slots_of shapes.now) i.now result }
+    ensures used { IfOk result (λ j. j.used ≤ length i.now) }
+{
+    let mut at = 0;
+    let mut canonical = true;
+    let mut tidy = true;
+    for shape in shapes {
+        let slot = match judge_slot(*shape, &i[at..]) {
+            Ok(slot) => slot,
+            Err(error) => return Err(error),
+        };
+        at += slot.used;
+        canonical = canonical & slot.canonical;
+        tidy = tidy & slot.tidy;
+    }
+    Ok(Judgement {
+        used: at,
+        canonical,
+        tidy,
+    })
+}
+
+#[cfg(test)]
+mod tests;

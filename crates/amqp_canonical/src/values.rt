@@ -1,0 +1,233 @@
+//! Judging values, arrays and tables at the front of a slice.
+
+ghost use Rattle.std.specs.Prelude.{◌≡◌, ◌≤◌, ◌<◌, ◌↔◌, length, IfOk, IsTrue};
+ghost use Rattle.amqp_types.specs.Booleans.{judge_boolean};
+ghost use Rattle.amqp_types.specs.ValueJudging.{filled, nested, inside_error, judge_entry, judge_array, judge_table, judge_behind, judge_value};
+ghost use Rattle.amqp_canonical.specs.Judgements.{layout_at, IsBelow, MayRefuse, IsCanonicalBoolean, IsCanonicalAfterTag, IsCanonicalValue, AreCanonicalValues, AreCanonicalEntries, IsCanonicalArray, IsCanonicalTable, Judges, JudgesEntry, JudgesWhole};
+
+use amqp_types::{FieldTag, ParserError, parse_long_bytes, parse_short_str};
+use std::cmp::Ordering;
+
+/// A value, an array or a table that stands at the front of a slice.
+#[derive(Clone, Copy, Debug, PartialEq, Eq)]
+pub struct ValueJudgement {
+    /// How many bytes it uses.
+    pub used: usize,
+
+    /// Whether these bytes are its canonical bytes.
+    pub canonical: bool,
+}
+
+/// How what stands after a tag is laid out.
+#[derive(Clone, Copy)]
+pub(crate) enum Layout {
+    /// So many bytes, whatever they are.
+    Fixed(usize),
+
+    /// A truth value.
+    OneBoolean,
+
+    /// A length, and as many bytes.
+    Counted,
+
+    /// An array.
+    Values,
+
+    /// A table.
+    Entries,
+}
+
+/// How what stands after this tag is laid out.
+pub(crate) fn layout_of(tag: FieldTag) -> Layout
+    ensures { result ≡ layout_at tag }
+{
+    match tag {
+        FieldTag::Void => Layout::Fixed(0),
+        FieldTag::ShortShortInt | FieldTag::ShortShortUInt => Layout::Fixed(1),
+        FieldTag::ShortInt | FieldTag::ShortUInt => Layout::Fixed(2),
+        FieldTag::LongInt | FieldTag::LongUInt | FieldTag::Float => Layout::Fixed(4),
+        FieldTag::DecimalValue => Layout::Fixed(5),
+        FieldTag::LongLongInt | FieldTag::Double | FieldTag::Timestamp => Layout::Fixed(8),
+        FieldTag::Boolean => Layout::OneBoolean,
+        FieldTag::LongString | FieldTag::ByteArray => Layout::Counted,
+        FieldTag::FieldArray => Layout::Values,
+        FieldTag::FieldTable => Layout::Entries,
+    }
+}
+
+/// An error of what stands inside a table or an array whose bytes are all there.
+fn inside(error: ParserError) -> ParserError
+    requires { MayRefuse error }
+    ensures is { result ≡ inside_error error }
+    ensures memory { MayRefuse result }
+{
+    match error {
+        ParserError::Incomplete => ParserError::ShortPayload,
+        error => error,
+    }
+}
+
+/// Whether the key comes after the previous one, in the order of their bytes.
+fn is_above(key: &[u8], previous: &[u8]) -> bool
+    ensures { IsTrue result ↔ IsBelow previous.now key.now }
+{
+    match previous.cmp(key) {
+        Ordering::Less => true,
+        _ => false,
+    }
+}
+
+/// Judges a truth value.
+fn judge_boolean(i: &[u8]) -> Result<ValueJudgement, ParserError>
+    ensures judged { Judges IsCanonicalBoolean i.now result (judge_boolean i.now) }
+    ensures used { IfOk result (λ w. w.used ≤ length i.now) }
+{
+    match i {
+        [] => Err(ParserError::Incomplete),
+        [byte, ..] => Ok(ValueJudgement {
+            used: 1,
+            canonical: *byte <= 1,
+        }),
+    }
+}
+
+/// Judges a tag and its value, in which tables and arrays may nest `room` deep (AMQP 0-9-1, section 4.2.5.5).
+#[cycle(judge)]
+pub fn judge_value(i: &[u8], room: usize) -> Result<ValueJudgement, ParserError>
+    ensures judged { Judges IsCanonicalValue i.now result (judge_value room i.now) }
+    ensures used { IfOk result (λ w. (0 < w.used) × (w.used ≤ length i.now)) }
+{
+    match i {
+        [] => Err(ParserError::Incomplete),
+        [byte, rest @ ..] => match FieldTag::from_byte(*byte) {
+            None => Err(ParserError::UnknownTag),
+            Some(tag) => {
+                let value = judge_after_tag(tag, rest, room)?;
+                Ok(ValueJudgement {
+                    used: 1 + value.used,
+                    canonical: value.canonical & (tag.to_byte() == *byte),
+                })
+            }
+        },
+    }
+}
+
+/// Judges the value after a tag.
+#[cycle(judge)]
+fn judge_after_tag(tag: FieldTag, i: &[u8], room: usize) -> Result<ValueJudgement, ParserError>
+    ensures judged { Judges IsCanonicalAfterTag i.now result (judge_behind (nested room) tag i.now) }
+    ensures used { IfOk result (λ w. w.used ≤ length i.now) }
+{
+    match layout_of(tag) {
+        Layout::Fixed(n) => {
+            if i.len() < n {
+                return Err(ParserError::Incomplete);
+            }
+            Ok(ValueJudgement {
+                used: n,
+                canonical: true,
+            })
+        }
+        Layout::OneBoolean => judge_boolean(i),
+        Layout::Counted => {
+            let (n, _) = parse_long_bytes(i)?;
+            Ok(ValueJudgement {
+                used: n,
+                canonical: true,
+            })
+        }
+        Layout::Values => {
+            if room == 0 {
+                return Err(ParserError::TooDeep);
+            }
+            judge_array(i, room - 1)
+        }
+        Layout::Entries => {
+            if room == 0 {
+                return Err(ParserError::TooDeep);
+            }
+            judge_table(i, room - 1)
+        }
+    }
+}
+
+/// Judges an array, in whose values tables and arrays may nest `room` deep.
+#[cycle(judge)]
+pub fn judge_array(i: &[u8], room: usize) -> Result<ValueJudgement, ParserError>
+    ensures judged { Judges IsCanonicalArray i.now result (judge_array (judge_value room) i.now) }
+    ensures used { IfOk result (λ w. w.used ≤ length i.now) }
+{
+    let (n, content) = parse_long_bytes(i)?;
+    let canonical = judge_values(content, room)?;
+    Ok(ValueJudgement { used: n, canonical })
+}
+
+/// Judges a table, in whose values tables and arrays may nest `room` deep (AMQP 0-9-1, section 4.2.5.5).
+#[cycle(judge)]
+pub fn judge_table(i: &[u8], room: usize) -> Result<ValueJudgement, ParserError>
+    ensures judged { Judges IsCanonicalTable i.now result (judge_table (judge_value room) i.now) }
+    ensures used { IfOk result (λ w. w.used ≤ length i.now) }
+{
+    let (n, content) = parse_long_bytes(i)?;
+    let canonical = judge_entries(content, room)?;
+    Ok(ValueJudgement { used: n, canonical })
+}
+
+/// Judges the values that fill an array, and returns whether these are their canonical bytes.
+#[cycle(judge)]
+fn judge_values(content: &[u8], room: usize) -> Result<bool, ParserError>
+    ensures { JudgesWhole AreCanonicalValues content.now result (filled (judge_value room) 0 content.now) }
+{
+    let mut canonical = true;
+    let mut at = 0;
+    while at < content.len() {
+        let item = match judge_value(&content[at..], room) {
+            Ok(item) => item,
+            Err(error) => return Err(inside(error)),
+        };
+        canonical = canonical & item.canonical;
+        at += item.used;
+    }
+    Ok(canonical)
+}
+
+/// Judges the entries that fill a table, and returns whether these are their canonical bytes and each key is above the previous one.
+#[cycle(judge)]
+fn judge_entries(content: &[u8], room: usize) -> Result<bool, ParserError>
+    ensures { JudgesWhole AreCanonicalEntries content.now result (filled (judge_entry (judge_value room)) 0 content.now) }
+{
+    let mut previous: &[u8] = &[];
+    let mut canonical = true;
+    let mut at = 0;
+    while at < content.len() {
+        let (item, key) = match judge_entry(&content[at..], room) {
+            Ok(found) => found,
+            Err(error) => return Err(inside(error)),
+        };
+        let above = at == 0 || is_above(key, previous);
+        canonical = canonical & item.canonical & above;
+        previous = key;
+        at += item.used;
+    }
+    Ok(canonical)
+}
+
+/// Judges a key and its value, and lends the key.
+#[cycle(judge)]
+fn judge_entry(i: &[u8], room: usize) -> Result<(ValueJudgement, &[u8]), ParserError>
+    ensures judged { JudgesEntry (λ key. key.now) i.now result (judge_entry (judge_value room) i.now) }
+    ensures used { IfOk result (λ found. (0 < found.0.used) × (found.0.used ≤ length i.now)) }
+{
+    let (n, key) = parse_short_str(i)?;
+    let value = judge_value(&i[n..], room)?;
+    Ok((
+        ValueJudgement {
+            used: n + value.used,
+            canonical: value.canonical,
+        },
+        key.as_bytes(),
+    ))
+}
+
+#[cfg(test)]
+mod tests;

@@ -1,0 +1,185 @@
+//! Writing the canonical bytes of values, arrays and tables that were read, without taking memory.
+
+ghost use Rattle.std.specs.Prelude.{◌≤◌, ◌<◌, ◌+◌, length, map, All};
+ghost use Rattle.amqp_types.specs.Settling.{settled};
+ghost use Rattle.amqp_types.specs.ValueBytes.{array_bytes, table_bytes, tagged_bytes, value_bytes};
+ghost use Rattle.amqp_types.specs.ValueJudging.{filled, nested, judge_array, judge_behind, judge_entry, judge_table, judge_value};
+ghost use Rattle.amqp_types.specs.Writing.{Puts};
+ghost use Rattle.amqp_canonical.specs.Writes.{IsRead, IsFilled, array_content, canonical_of, entry_bytes, items_of, table_content};
+ghost use Rattle.amqp_canonical.specs.Marks.{AreEntries, entries_in, entry_at, last_of_ties, marked_entry};
+
+use crate::marks::{Mark, is_tied, mark_in_order, marked};
+use crate::selection::next_entry;
+use crate::spans::{bytes_from, content_of, size_after_tag, split_key, value_size};
+use crate::values::{Layout, layout_of};
+use amqp_types::{FieldTag, put_boolean, put_bytes, put_long_uint};
+
+/// Puts the canonical bytes of a value at a place of a slice, and returns the place after them. Tables and arrays may
+/// nest `room` deep in it. Its tag stands in front of it, in what is read and in what is put.
+#[cycle(write)]
+pub fn put_value(buf: &mut [u8], at: usize, scratch: &mut [Mark], i: &[u8], room: usize) -> usize
+    requires read { IsRead (judge_value room i.now) }
+    requires room { at + length (canonical_of tagged_bytes (judge_value room i.now)) ≤ length buf.old }
+    ensures { Puts buf.old buf.new at (canonical_of tagged_bytes (judge_value room i.now)) result }
+{
+    match i {
+        [] => at,
+        [byte, rest @ ..] => match FieldTag::from_byte(*byte) {
+            Some(tag) => {
+                let place = put_bytes(buf, at, &[tag.to_byte()]);
+                put_after_tag(buf, place, scratch, tag, rest, room)
+            }
+            None => at,
+        },
+    }
+}
+
+/// Puts the canonical bytes of the value after a tag.
+#[cycle(write)]
+fn put_after_tag(
+    buf: &mut [u8],
+    at: usize,
+    scratch: &mut [Mark],
+    tag: FieldTag,
+    i: &[u8],
+    room: usize,
+) -> usize
+    requires read { IsRead (judge_behind (nested room) tag i.now) }
+    requires room { at + length (canonical_of value_bytes (judge_behind (nested room) tag i.now)) ≤ length buf.old }
+    ensures { Puts buf.old buf.new at (canonical_of value_bytes (judge_behind (nested room) tag i.now)) result }
+{
+    match layout_of(tag) {
+        Layout::Fixed(_) | Layout::Counted => put_bytes(buf, at, &i[..size_after_tag(tag, i)]),
+        Layout::OneBoolean => put_boolean(buf, at, &(i[0] != 0)),
+        Layout::Values => put_array(buf, at, scratch, i, room - 1),
+        Layout::Entries => put_table(buf, at, scratch, i, room - 1),
+    }
+}
+
+/// Puts the canonical bytes of an array at a place of a slice, and returns the place after them. Tables and arrays may
+/// nest `room` deep in its values.
+#[cycle(write)]
+pub fn put_array(buf: &mut [u8], at: usize, scratch: &mut [Mark], i: &[u8], room: usize) -> usize
+    requires read { IsRead (judge_array (judge_value room) i.now) }
+    requires room { at + length (canonical_of array_bytes (judge_array (judge_value room) i.now)) ≤ length buf.old }
+    ensures { Puts buf.old buf.new at (canonical_of array_bytes (judge_array (judge_value room) i.now)) result }
+{
+    let end = put_values(buf, at + 4, scratch, content_of(i), room);
+    put_long_uint(buf, at, &((end - at - 4) as u32));
+    end
+}
+
+/// Puts the canonical bytes of a table at a place of a slice, and returns the place after them. Tables and arrays may
+/// nest `room` deep in its values.
+#[cycle(write)]
+pub fn put_table(buf: &mut [u8], at: usize, scratch: &mut [Mark], i: &[u8], room: usize) -> usize
+    requires read { IsRead (judge_table (judge_value room) i.now) }
+    requires room { at + length (canonical_of table_bytes (judge_table (judge_value room) i.now)) ≤ length buf.old }
+    ensures { Puts buf.old buf.new at (canonical_of table_bytes (judge_table (judge_value room) i.now)) result }
+{
+    let end = put_entries(buf, at + 4, scratch, content_of(i), room);
+    put_long_uint(buf, at, &((end - at - 4) as u32));
+    end
+}
+
+/// Puts the canonical bytes of the values that fill an array.
+#[cycle(write)]
+fn put_values(buf: &mut [u8], at: usize, scratch: &mut [Mark], content: &[u8], room: usize) -> usize
+    requires read { IsFilled (filled (judge_value room) 0 content.now) }
+    requires room { at + length (array_content (items_of (filled (judge_value room) 0 content.now))) ≤ length buf.old }
+    ensures { Puts buf.old buf.new at (array_content (items_of (filled (judge_value room) 0 content.now))) result }
+{
+    let mut end = at;
+    let mut start = 0;
+    while start < content.len() {
+        let item = &content[start..];
+        end = put_value(buf, end, scratch, item, room);
+        start += value_size(item);
+    }
+    end
+}
+
+/// Puts the canonical bytes of the entries that fill a table.
+#[cycle(write)]
+fn put_entries(
+    buf: &mut [u8],
+    at: usize,
+    scratch: &mut [Mark],
+    content: &[u8],
+    room: usize,
+) -> usize
+    requires read { AreEntries room content.now }
+    requires room { at + length (table_content (settled (entries_in room content.now))) ≤ length buf.old }
+    ensures { Puts buf.old buf.new at (table_content (settled (entries_in room content.now))) result }
+{
+    match mark_in_order(scratch, content) {
+        Some(count) => {
+            let (marks, rest) = scratch.split_at_mut(count);
+            put_marked(buf, at, rest, content, marks, room)
+        }
+        None => put_selected(buf, at, scratch, content, room),
+    }
+}
+
+/// Puts the canonical bytes of marked entries, of neighbours with one key those of the last.
+#[cycle(write)]
+fn put_marked(
+    buf: &mut [u8],
+    at: usize,
+    scratch: &mut [Mark],
+    content: &[u8],
+    marks: &[Mark],
+    room: usize,
+) -> usize
+    requires read { All (λ mark. IsRead (entry_at room content.now mark.place)) marks.now }
+    requires room { at + length (table_content (last_of_ties (map (marked_entry room content.now) marks.now))) ≤ length buf.old }
+    ensures { Puts buf.old buf.new at (table_content (last_of_ties (map (marked_entry room content.now) marks.now))) result }
+{
+    let mut end = at;
+    let mut k = 0;
+    while k < marks.len() {
+        if !is_tied(marks, content, k) {
+            end = put_entry(buf, end, scratch, marked(content, marks[k]), room);
+        }
+        k += 1;
+    }
+    end
+}
+
+/// Puts the canonical bytes of the entries that fill a table, each found by its key. This takes quadratic time, and no
+/// marks for the entries of this table.
+#[cycle(write)]
+fn put_selected(
+    buf: &mut [u8],
+    at: usize,
+    scratch: &mut [Mark],
+    content: &[u8],
+    room: usize,
+) -> usize
+    requires read { AreEntries room content.now }
+    requires room { at + length (table_content (settled (entries_in room content.now))) ≤ length buf.old }
+    ensures { Puts buf.old buf.new at (table_content (settled (entries_in room content.now))) result }
+{
+    let mut end = at;
+    let mut next = next_entry(content, None);
+    while let Some((place, key)) = next {
+        end = put_entry(buf, end, scratch, bytes_from(content, place), room);
+        next = next_entry(content, Some(key));
+    }
+    end
+}
+
+/// Puts the canonical bytes of an entry.
+#[cycle(write)]
+fn put_entry(buf: &mut [u8], at: usize, scratch: &mut [Mark], i: &[u8], room: usize) -> usize
+    requires read { IsRead (judge_entry (judge_value room) i.now) }
+    requires room { at + length (canonical_of entry_bytes (judge_entry (judge_value room) i.now)) ≤ length buf.old }
+    ensures { Puts buf.old buf.new at (canonical_of entry_bytes (judge_entry (judge_value room) i.now)) result }
+{
+    let (key, value) = split_key(i);
+    let place = put_bytes(buf, at, &i[..1 + key.len()]);
+    put_value(buf, place, scratch, value, room)
+}
+
+#[cfg(test)]
+mod tests;
