@@ -141,7 +141,8 @@ impl Assembler {
 
     /// Takes a method between messages: an opening is kept, any other comes back.
     fn take_method(&mut self, channel_id: ChannelId, class: AMQPClass) -> Result<Outcome, NoMemory>
-        ensures takes { IfOk result (λ outcome. TakesIn self.old self.new (Meth channel_id (method_of class)) (method_mark (method_of class).class (method_of class).id) (told outcome)) }
+        ensures takes { IfOk result (λ outcome. TakesIn self.old self.new (Meth channel_id (method_of class))
+            (method_mark (method_of class).class (method_of class).id) (told outcome)) }
         ensures others { OthersStay channel_id self.old.channels self.new.channels }
         ensures max_body { self.new.max_body ≡ self.old.max_body }
         ensures err { OnErr result (self.new ≡ self.old) }
@@ -266,7 +267,8 @@ impl Assembler {
     /// and the frame is dropped.
     pub fn push(&mut self, frame: AMQPFrame) -> Result<Outcome, NoMemory>
         ensures outside { is_content (outline_of (frame_of frame)) ≡ false → (result ≡ Ok (Outcome.Passed frame)) × (self.new ≡ self.old) }
-        ensures pushes { IsTrue (is_content (outline_of (frame_of frame))) → IfOk result (λ outcome. PushesIn self.old self.new (frame_of frame) (told outcome)) }
+        ensures pushes { IsTrue (is_content (outline_of (frame_of frame)))
+            → IfOk result (λ outcome. PushesIn self.old self.new (frame_of frame) (told outcome)) }
         ensures others { OthersStay (channel_id_of (frame_of frame)) self.old.channels self.new.channels }
         ensures max_body { self.new.max_body ≡ self.old.max_body }
         ensures err { OnErr result (self.new ≡ self.old) }

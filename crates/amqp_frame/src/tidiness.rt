@@ -161,7 +161,8 @@ fn is_tidy_whole(frame_type: AMQPFrameType, channel_id: ChannelId, payload: &[u8
     requires whole { IsOk (whole_as frame_type channel_id payload.now) }
     requires few { length payload.now < 2 ^ 32 }
     ensures value { result ≡ is_tidy_as frame_type payload.now }
-    ensures spelled { (frame : Frame) → whole_as frame_type channel_id payload.now ≡ Ok frame → IsTrue result ↔ Spells tidy (bytes_as frame_type channel_id payload.now) frame }
+    ensures spelled { (frame : Frame) → whole_as frame_type channel_id payload.now ≡ Ok frame
+        → IsTrue result ↔ Spells tidy (bytes_as frame_type channel_id payload.now) frame }
 {
     is_tidy_by_type(AMQPRawFrame {
         frame_type,

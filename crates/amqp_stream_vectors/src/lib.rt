@@ -1,6 +1,8 @@
 //! Tests of streams that cross crates: worked rows, hostile cases, ends that fail, the generated stream, names of
-//! faults, and memory that is refused.
+//! faults, writers of one's own, and memory that is refused.
 #![tactic(auto)]
+
+pub mod counting;
 
 #[cfg(test)]
 mod asking;
@@ -18,3 +20,5 @@ mod rows;
 mod streams;
 #[cfg(test)]
 mod tidy;
+#[cfg(test)]
+mod writers;

@@ -46,7 +46,7 @@ const SLOTS: [(Shape, &[u8], Option<usize>); 25] = [
 #[test]
 fn strict_slots_are_told(rt: HostRuntime) {
     for (shape, bytes, size) in &SLOTS {
-        assert_eq!(rt; strict_slot(*shape, bytes), *size, "{bytes:?}");
+        assert_eq!(rt; strict_slot(shape, bytes), *size, "{bytes:?}");
     }
 }
 

@@ -1,0 +1,40 @@
+//! A writer with a state of its own: it counts the frames that it writes for.
+
+use amqp_frame::AMQPRawFrame;
+use amqp_stream::{FrameWriter, OutputBuffer, RunError, Sink, write_canonical};
+use std::alloc::Global;
+use std::convert::Infallible;
+
+/// Writes the canonical bytes of each frame, and counts them.
+#[derive(Drop)]
+pub struct Counting {
+    pub alloc: Global,
+    pub frames: u64,
+}
+
+impl FrameWriter for Counting {
+    ghost use Rattle.amqp_stream_vectors.specs.Counting.{counting};
+
+    type Refusal = Infallible;
+
+    ghost manner = { counting };
+
+    fn write_frame<K: Sink>(
+        &mut self,
+        out: &mut OutputBuffer,
+        sink: &mut K,
+        raw: AMQPRawFrame<'_>,
+    ) -> Result<(), RunError<Infallible>> {
+        match write_canonical(self.alloc, out, sink, raw) {
+            Ok(()) => {
+                self.frames = self.frames.saturating_add(1);
+                Ok(())
+            }
+            Err(error) => Err(RunError::Stream(error)),
+        }
+    }
+
+    fn finish(&self) -> Result<(), Infallible> {
+        Ok(())
+    }
+}
