@@ -2,7 +2,6 @@
 use Rattle.std.specs.Prelude.{true, ◌+◌, min, None, Ok}
 use Rattle.std.specs.declared.string.ParseError.{Infallible}
 use Rattle.amqp_types.specs.Levels.{plain}
-use Rattle.amqp_frame.specs.Frames.{Frame}
 use Rattle.amqp_frame.specs.Canonical.{canon}
 use Rattle.amqp_stream.specs.Ends.{last}
 use Rattle.amqp_stream.specs.Steps.{Manner}

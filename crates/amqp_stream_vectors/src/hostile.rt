@@ -244,10 +244,10 @@ fn a_reader_goes_on_after_a_failed_read(rt: HostRuntime) -> Result<(), Fail> {
     let mut reader = FrameReader::open(rt.alloc(), LIMIT)?;
     let mut source = PieceSource::new(&HEARTBEAT, &[3], &[1]);
     let mut turns = 100;
-    let read = reader.next(&mut source, &mut turns);
-    same(read, Err(ReadError::ReadFault))?;
-    same(reader.next(&mut source, &mut turns), Ok(Some(BEAT)))?;
-    same(reader.next(&mut source, &mut turns), Ok(None))
+    for wanted in [Err(ReadError::ReadFault), Ok(Some(BEAT)), Ok(None)] {
+        same(reader.next(&mut source, &mut turns), wanted)?;
+    }
+    Ok(())
 }
 
 /// A fault is returned again without a read, until it is cleared.

@@ -2,10 +2,9 @@
 //! faults, writers of one's own, and memory that is refused.
 #![tactic(auto)]
 
-pub mod counting;
-
 #[cfg(test)]
 mod asking;
+pub mod counting;
 #[cfg(test)]
 mod faults;
 #[cfg(test)]
