@@ -41,25 +41,25 @@ pub record AreWhole (max : ℕ) (frames : List Frame) (messages : List Parts) : 
 
 abbrev pub SplitsAreWhole : Type 0
 SplitsAreWhole =
-  (max m : ℕ) (messages : List Parts)
-  → 1 ≤ m
-  → AllByRecursion (λ message. length message.body ≤ max) messages
-  → AreWhole max (flat_map (split_of m) messages) messages
+    (max m : ℕ) (messages : List Parts)
+    → 1 ≤ m
+    → AllByRecursion (λ message. length message.body ≤ max) messages
+    → AreWhole max (flat_map (split_of m) messages) messages
 
 -- What the content of a channel gives is a function of that channel's frames alone, in whatever way other frames come between.
 abbrev pub ChannelsAreApart : Type 0
 ChannelsAreApart =
-  (max channel : ℕ) (frames others : List Frame) (outcomes given : List Told)
-  → AreGiven max [] frames outcomes
-  → AreGiven max [] others given
-  → of_channel outline_of channel frames ≡ of_channel outline_of channel others
-  → given_of channel frames outcomes ≡ given_of channel others given
+    (max channel : ℕ) (frames others : List Frame) (outcomes given : List Told)
+    → AreGiven max [] frames outcomes
+    → AreGiven max [] others given
+    → of_channel outline_of channel frames ≡ of_channel outline_of channel others
+    → given_of channel frames outcomes ≡ given_of channel others given
 
 -- what the content of a channel gives are the answers to that channel's frames
 abbrev pub ChannelsAreAnswered : Type 0
 ChannelsAreAnswered =
-  (max channel : ℕ) (frames : List Frame) (outcomes : List Told)
-  → AreGiven max [] frames outcomes
-  → (answers : List (Answer Frame))
-  → Answers outline_of max (of_channel outline_of channel frames) answers
-  → given_of channel frames outcomes ≡ map told_of answers
+    (max channel : ℕ) (frames : List Frame) (outcomes : List Told)
+    → AreGiven max [] frames outcomes
+    → (answers : List (Answer Frame))
+    → Answers outline_of max (of_channel outline_of channel frames) answers
+    → given_of channel frames outcomes ≡ map told_of answers
