@@ -1,145 +1,21 @@
--- What canonicalizing a stream does: which bytes are taken, which are written, and why it ends.
-use Rattle.std.specs.Prelude.{◌≡◌, ℕ, ◌+◌, ◌<◌, ◌≤◌, List, [], ◌∷◌, ◌++◌, length, Some, Result, Ok, Err}
+-- What canonicalizing a stream does.
+use Rattle.std.specs.Prelude.{ℕ, ◌≤◌, List, length, Some, Result}
 use Rattle.amqp_types.specs.Levels.{Level}
-use Rattle.amqp_types.specs.Judging.{Judged, past, fault, took, IsBytes}
-use Rattle.amqp_frame.specs.Frames.{Frame, IsTyped}
-use Rattle.amqp_frame.specs.Outer.{BeginsWith}
-use Rattle.amqp_frame.specs.Verdicts.{verdict}
-use Rattle.amqp_frame.specs.Spelling.{Row}
 use Rattle.amqp_frame.specs.Canonical.{canon_row}
-use Rattle.amqp_frame.specs.Fronts.{front, place, IsUndecided}
+use Rattle.amqp_frame.specs.Fronts.{front}
 use Rattle.amqp_stream.specs.declared.errors.StreamError.{StreamError}
-use Rattle.amqp_stream.specs.declared.errors.StreamError.TheVariants as errors
-use Rattle.amqp_stream.specs.Errors.{error_of, Cause, faulty, cut_short, turns_spent, read_failed, write_failed, out_of_memory, cause_of}
-use Rattle.amqp_stream.specs.Ends.{Supply, Store, Takes, Gains, Rises, IsEmpty, last}
-use Rattle.amqp_stream.specs.Writing.{IsPrefix, AsksTidy}
+use Rattle.amqp_stream.specs.Ends.{Supply, Store}
+use Rattle.amqp_stream.specs.Transcribing.{Transcribes, TranscribesExactly}
 
--- the canonical bytes of the row at the front of some bytes
+-- the canonical bytes of the sequence of frames at the front of some bytes
 abbrev pub canon_of : Level → ℕ → List ℕ → List ℕ
 canon_of level m bytes = canon_row (front level (Some m) bytes)
 
--- what the place of some bytes is judged to be
-abbrev pub place_verdict : Level → ℕ → List ℕ → Judged Frame
-place_verdict level m bytes = verdict level (Some m) (place level (Some m) bytes)
-
--- the bytes are a row of frames within the limit
-abbrev pub IsRow : Level → ℕ → List ℕ → Type 0
-IsRow level m bytes = (frames : List Frame) × Row level (Some m) bytes frames
-
--- A row and then a whole method or content header have come, and the canonical bytes of just that row were written.
-pub record AtTypedFrame (level : Level) (m : ℕ) (taken written : List ℕ) : Type 0 where
-  pub row : List ℕ
-  pub rest : List ℕ
-  pub parts : taken ≡ row ++ rest
-  pub is_row : IsRow level m row
-  pub typed : BeginsWith IsTyped (Some m) rest
-  pub written_is : written ≡ canon_of level m row
-
--- At most n of the bytes taken lie behind a row whose canonical bytes were written.
-pub record IsBehindBy (level : Level) (m : ℕ) (taken written : List ℕ) (n : ℕ) : Type 0 where
-  pub row : List ℕ
-  pub rest : List ℕ
-  pub parts : taken ≡ row ++ rest
-  pub is_row : IsRow level m row
-  pub written_begins : IsPrefix (canon_of level m row) written
-  pub few : length rest ≤ n
-
--- When a stream ends early by each cause: by the bytes taken, the read budget, what the source has left, and the counts of faults.
--- A fault of bytes comes exactly where the place of the bytes taken has it, a failed read only where that place is empty or undecided.
-abbrev pub IsCausedBy : Level → ℕ → ℕ → List ℕ → Supply → Supply → Store → Store → Type 0 → Cause → Type 0
-IsCausedBy level m turns taken a b k l AtMemory (faulty bad) = place_verdict level m taken ≡ fault bad
-IsCausedBy level m turns taken a b k l AtMemory cut_short = IsUndecided level (Some m) (place level (Some m) taken) × IsEmpty b.left
-IsCausedBy level m turns taken a b k l AtMemory turns_spent = (place_verdict level m taken ≡ past) × (turns ≤ length taken)
-IsCausedBy level m turns taken a b k l AtMemory read_failed = (place_verdict level m taken ≡ past) × Rises a.faults b.faults
-IsCausedBy level m turns taken a b k l AtMemory write_failed = Rises k.faults l.faults
-IsCausedBy level m turns taken a b k l AtMemory out_of_memory = AtMemory
-
--- when each answer comes
-abbrev pub HasCause : Level → ℕ → ℕ → List ℕ → List ℕ → Supply → Supply → Store → Store → Result (Unit {0}) StreamError → Type 0
-HasCause level m turns taken written a b k l (Ok done) = IsRow level m taken × IsEmpty b.left
-HasCause level m turns taken written a b k l (Err error) = IsCausedBy level m turns taken a b k l (AtTypedFrame level m taken written) (cause_of error)
-
--- What was written of a text by a stream that ended early: all of it, or a part of its front where a write or memory failed.
-abbrev pub IsWrittenUpTo : List ℕ → List ℕ → Cause → Type 0
-IsWrittenUpTo text written write_failed = IsPrefix written text
-IsWrittenUpTo text written out_of_memory = IsPrefix written text
-IsWrittenUpTo text written cause = written ≡ text
-
--- What was written: the canonical bytes of the whole front, or of a part of it where a write or memory failed.
-abbrev pub HasWritten : Level → ℕ → List ℕ → List ℕ → Result (Unit {0}) StreamError → Type 0
-HasWritten level m taken written (Ok done) = written ≡ canon_of level m taken
-HasWritten level m taken written (Err error) = IsWrittenUpTo (canon_of level m taken) written (cause_of error)
-
--- A whole call: a is the source before it and b after it, k and l the sink.
+-- A whole call, which writes the canonical bytes of the frames: a is the source before it and b after it, k and l the sink.
 pub record Canonicalizes (level : Level) (m turns : ℕ) (a b : Supply) (k l : Store) (result : Result (Unit {0}) StreamError) : Type 0 where
-  pub taken : List ℕ
-  pub are_bytes : IsBytes taken
-  pub reads : ℕ
-  pub takes : Takes a b taken reads
-  pub at_most : reads ≤ turns
-  pub all_turns : result ≡ Err errors.TurnsSpent → reads ≡ turns
-  pub written : List ℕ
-  pub gains : Gains k l written
-  pub writes : HasWritten level m taken written result
-  pub cause : HasCause level m turns taken written a b k l result
-  pub tidy_only : result ≡ Err errors.NotTidy → AsksTidy level
-  pub behind : IsBehindBy level m taken written (m + 8)
-  pub no_longer : length written ≤ length taken
+  pub run : Transcribes canon_row level m turns a b k l result
+  pub no_longer : length run.written ≤ length run.taken
 
--- memory ran out before anything was taken or written
-pub record NeverBegan (a b : Supply) (k l : Store) (result : Result (Unit {0}) StreamError) : Type 0 where
-  pub no_memory : result ≡ Err errors.NoMemory
-  pub source : b ≡ a
-  pub sink : l ≡ k
-
--- The answer to all the bytes of a source, by their place. (No frame is at a place.)
-abbrev pub answer_at : List ℕ → Judged Frame → Result (Unit {0}) StreamError
-answer_at [] judged = Ok tt
-answer_at (b ∷ bytes) past = Err errors.CutShort
-answer_at (b ∷ bytes) (fault bad) = Err (error_of bad)
-answer_at (b ∷ bytes) (took frame used) = Ok tt
-
-abbrev pub answer_to : Level → ℕ → List ℕ → Result (Unit {0}) StreamError
-answer_to level m bytes = answer_at (place level (Some m) bytes) (place_verdict level m bytes)
-
--- This is so, but for want of memory, a spent read budget, and faults of the two ends.
-abbrev pub UnlessStopped : Cause → Type 0 → Type 0
-UnlessStopped (faulty bad) So = So
-UnlessStopped cut_short So = So
-UnlessStopped cause So = Unit {0}
-
--- what is answered and written by the bytes alone
-abbrev pub IsExactly : Level → ℕ → List ℕ → List ℕ → Result (Unit {0}) StreamError → Type 0
-IsExactly level m bytes written result = (result ≡ answer_to level m bytes) × (written ≡ canon_of level m bytes)
-
--- that answer was given and all of the front written, unless the stream was stopped
-abbrev pub IsAnswerTo : Level → ℕ → List ℕ → List ℕ → Result (Unit {0}) StreamError → Type 0
-IsAnswerTo level m bytes written (Ok done) = IsExactly level m bytes written (Ok done)
-IsAnswerTo level m bytes written (Err error) = UnlessStopped (cause_of error) (IsExactly level m bytes written (Err error))
-
--- what a call answers over a source that tells its bytes
-pub record AnswersExactly (level : Level) (m : ℕ) (bytes : List ℕ) (k l : Store) (result : Result (Unit {0}) StreamError) : Type 0 where
-  pub written : List ℕ
-  pub gains : Gains k l written
-  pub answer : IsAnswerTo level m bytes written result
-
--- valid input: a row within the limit, and more turns than bytes
-pub record IsValid (level : Level) (m turns : ℕ) (bytes : List ℕ) : Type 0 where
-  pub row : IsRow level m bytes
-  pub enough : length bytes < turns
-
--- no count of faults rises or stands at its last value
-pub record NoFaults (a b : Supply) (k l : Store) : Type 0 where
-  pub source : b.faults ≡ a.faults
-  pub source_below : a.faults < last
-  pub sink : l.faults ≡ k.faults
-  pub sink_below : k.faults < last
-
--- memory ran out
-abbrev pub IsOutOfMemory : Cause → Type 0
-IsOutOfMemory out_of_memory = Unit {0}
-IsOutOfMemory cause = ⊥
-
-abbrev pub IsOkOrNoMemory : Result (Unit {0}) StreamError → Type 0
-IsOkOrNoMemory (Ok done) = Unit {0}
-IsOkOrNoMemory (Err error) = IsOutOfMemory (cause_of error)
+-- what a call answers and writes over a source that tells its bytes
+abbrev pub AnswersExactly : Level → ℕ → List ℕ → Store → Store → Result (Unit {0}) StreamError → Type 0
+AnswersExactly level m bytes k l result = TranscribesExactly canon_row level m bytes k l result

@@ -5,6 +5,7 @@ pub mod Spans
 pub mod Reading
 pub mod Buffers
 pub mod Writing
+pub mod Transcribing
 pub mod Canonicalizing
 pub mod Steps
 pub mod Streaming

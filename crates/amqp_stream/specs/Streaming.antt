@@ -15,7 +15,7 @@ use Rattle.amqp_stream.specs.declared.sink.SinkFault.{SinkFault}
 use Rattle.amqp_stream.specs.Errors.{Cause, faulty, cut_short, turns_spent, read_failed, write_failed, out_of_memory, cause_of}
 use Rattle.amqp_stream.specs.Ends.{Supply, Store, Takes, Gains, Rises, IsEmpty}
 use Rattle.amqp_stream.specs.Writing.{IsPrefix, WritesAll, Gathered, GatherFails, Keeps, IsFaulty, AsksTidy}
-use Rattle.amqp_stream.specs.Canonicalizing.{answer_to, IsRow, IsCausedBy, UnlessStopped, IsOutOfMemory}
+use Rattle.amqp_stream.specs.Transcribing.{answer_to, IsRow, IsCausedBy, UnlessStopped, IsOutOfMemory}
 use Rattle.amqp_stream.specs.Steps.{Manner, text, refused, state}
 
 -- ---- how a run ends

@@ -6,7 +6,7 @@ use Rattle.amqp_types.specs.declared.errors.ParserError.{ParserError}
 use Rattle.amqp_types.specs.declared.errors.ParserError.TheVariants as parser_errors
 use Rattle.amqp_frame.specs.declared.frame_type.AMQPFrameType.{AMQPFrameType}
 use Rattle.amqp_frame.specs.declared.frame_type.AMQPFrameType.TheVariants as kinds
-use Rattle.amqp_frame.specs.Frames.{Raw, Frame, IsTyped}
+use Rattle.amqp_frame.specs.Frames.{Raw, Frame}
 use Rattle.amqp_frame.specs.Verdicts.{whole, is_at, judged}
 use Rattle.amqp_frame.specs.Canonical.{canon}
 use Rattle.amqp_stream.specs.declared.errors.StreamError.{StreamError}
@@ -95,7 +95,6 @@ pub record IsFaulty (level : Level) (raw : Raw) (bad : Fault) : Type 0 where
 abbrev pub IsUnwritten : Raw → Store → Store → List ℕ → List ℕ → Cause → Type 0
 IsUnwritten raw old new before after (faulty bad) = (whole raw ≡ Err bad) × (bad ≢ not_tidy) × Keeps old new before after
 IsUnwritten raw old new before after write_failed = (frame : Frame) × (whole raw ≡ Ok frame) × GatherFails old new before after (canon frame)
-IsUnwritten raw old new before after out_of_memory = IsTyped raw.kind × Keeps old new before after
 IsUnwritten raw old new before after cause = ⊥
 
 -- the canonical bytes of a frame were gathered, or it is reported why not
@@ -103,10 +102,9 @@ abbrev pub WritesFrame : Raw → Store → Store → List ℕ → List ℕ → R
 WritesFrame raw old new before after (Ok done) = (frame : Frame) × (whole raw ≡ Ok frame) × Gathered old new before after (canon frame)
 WritesFrame raw old new before after (Err error) = IsUnwritten raw old new before after (cause_of error)
 
--- Why no method or content header was put at a level: a fault, or memory ran out. Nothing more is pending.
+-- why no method or content header was put at a level: a fault, and nothing more is pending
 abbrev pub IsUnread : Level → Raw → Store → Store → List ℕ → List ℕ → Cause → Type 0
 IsUnread level raw old new before after (faulty bad) = IsFaulty level raw bad × Keeps old new before after
-IsUnread level raw old new before after out_of_memory = IsTyped raw.kind × Keeps old new before after
 IsUnread level raw old new before after cause = ⊥
 
 -- the canonical bytes of a method or content header at a level were put after the pending ones, or it is reported why not

@@ -9,7 +9,6 @@ use crate::output::{push_tidy, write_canonical};
 use crate::output_buffer::OutputBuffer;
 use crate::sink::Sink;
 use amqp_frame::{AMQPFrameType, AMQPRawFrame};
-use std::alloc::Global;
 use std::convert::Infallible;
 
 /// An answer of a stream, as one of a run.
@@ -35,9 +34,7 @@ pub fn unrefused(answer: Result<(), RunError<Infallible>>) -> Result<(), StreamE
 
 /// Writes the canonical bytes of each frame.
 #[derive(Drop)]
-pub struct Canonical {
-    pub alloc: Global,
-}
+pub struct Canonical;
 
 impl FrameWriter for Canonical {
     ghost use Rattle.amqp_types.specs.Levels.{plain};
@@ -53,7 +50,7 @@ impl FrameWriter for Canonical {
         sink: &mut K,
         raw: AMQPRawFrame<'_>,
     ) -> Result<(), RunError<Infallible>> {
-        as_run(write_canonical(self.alloc, out, sink, raw))
+        as_run(write_canonical(out, sink, raw))
     }
 
     fn finish(&self) -> Result<(), Infallible> {
@@ -63,9 +60,7 @@ impl FrameWriter for Canonical {
 
 /// Writes the canonical bytes of each frame, and takes tidy frames alone.
 #[derive(Drop)]
-pub struct TidyCanonical {
-    pub alloc: Global,
-}
+pub struct TidyCanonical;
 
 impl FrameWriter for TidyCanonical {
     ghost use Rattle.amqp_types.specs.Levels.{tidy};
@@ -83,16 +78,16 @@ impl FrameWriter for TidyCanonical {
     ) -> Result<(), RunError<Infallible>> {
         match raw.frame_type {
             AMQPFrameType::Method | AMQPFrameType::Header => {
-                as_run(push_tidy(self.alloc, out, raw))
+                as_run(push_tidy(out, raw))
             }
             AMQPFrameType::Heartbeat => {
                 if !raw.payload.is_empty() {
                     return Err(RunError::Stream(StreamError::NotTidy));
                 }
-                as_run(write_canonical(self.alloc, out, sink, raw))
+                as_run(write_canonical(out, sink, raw))
             }
             AMQPFrameType::ProtocolHeader | AMQPFrameType::Body => {
-                as_run(write_canonical(self.alloc, out, sink, raw))
+                as_run(write_canonical(out, sink, raw))
             }
         }
     }

@@ -1,8 +1,9 @@
 //! A reader and an output buffer, reserved in full, and what runs over them.
 
-ghost use Rattle.std.specs.Prelude.{◌≡◌, ◌≢◌, ◌⊎◌, ℕ, List, Some, Err, IfOk};
+ghost use Rattle.std.specs.Prelude.{◌≡◌, ◌≢◌, ◌⊎◌, ℕ, List, Some, Ok, Err, IfOk};
 ghost use Rattle.amqp_types.specs.Levels.{plain, tidy, level_of};
-ghost use Rattle.amqp_stream.specs.Canonicalizing.{Canonicalizes, NeverBegan, AnswersExactly, IsValid, NoFaults, IsOkOrNoMemory};
+ghost use Rattle.amqp_stream.specs.Transcribing.{NeverBegan, IsValid, NoFaults, IsOkOrNoMemory};
+ghost use Rattle.amqp_stream.specs.Canonicalizing.{Canonicalizes, AnswersExactly};
 ghost use Rattle.amqp_stream.specs.Streaming.{Streams, StreamsExactly, RunNeverBegan, IsWelcome, IsDoneOrWanting, ending_of};
 
 use crate::canonical::{Canonical, TidyCanonical, unrefused};
@@ -35,7 +36,8 @@ impl Model for Codec {
 }
 
 impl Codec {
-    /// A codec for payloads of at most so many bytes. In contracts a codec is that limit.
+    /// A codec for payloads of at most so many bytes. In contracts a codec is that limit. It holds two buffers of the
+    /// largest frame's size, and the scratch in which entries of tables are sorted: eight times that size.
     pub fn open(alloc: Global, max_payload: ChunkSize) -> Result<Codec, NoMemory>
         ensures { IfOk result (λ codec. codec ≡ max_payload) }
     {
@@ -73,10 +75,9 @@ impl Codec {
 
     /// Writes the canonical bytes of each frame that is read in a profile, to the end of input or an
     /// error. Each read takes one of the read budget. What an earlier call left in the codec is
-    /// dropped.
-    pub fn canonicalize_in<S: Source, K: Sink>(
+    /// dropped. No memory is taken.
+    pub fn rewrite<S: Source, K: Sink>(
         &mut self,
-        alloc: Global,
         profile: Profile,
         source: &mut S,
         sink: &mut K,
@@ -86,6 +87,7 @@ impl Codec {
         ensures stream { Canonicalizes (level_of profile) self.old turns (S.supply source.old) (S.supply source.new)
             (K.store sink.old) (K.store sink.new) result }
         ensures unread { turns ≡ 0 → source.new ≡ source.old }
+        ensures memory { result ≢ Err StreamError.NoMemory }
 
         // Over a source that tells its bytes, the answer is by all of them, however they are cut.
         ensures exact { (bytes : List ℕ) → (S.supply source.old).left ≡ Some bytes
@@ -93,16 +95,45 @@ impl Codec {
         ensures complete { (bytes : List ℕ) → (S.supply source.old).left ≡ Some bytes
             → IsValid (level_of profile) self.old turns bytes
             → NoFaults (S.supply source.old) (S.supply source.new) (K.store sink.old) (K.store sink.new)
-            → IsOkOrNoMemory result }
+            → result ≡ Ok tt }
     {
         match profile {
-            Profile::Plain => unrefused(self.run(&mut Canonical { alloc }, source, sink, turns)),
-            Profile::Tidy => unrefused(self.run(&mut TidyCanonical { alloc }, source, sink, turns)),
+            Profile::Plain => unrefused(self.run(&mut Canonical, source, sink, turns)),
+            Profile::Tidy => unrefused(self.run(&mut TidyCanonical, source, sink, turns)),
         }
     }
 
+    /// Writes the canonical bytes of each frame that is read in a profile, to the end of input or an
+    /// error. Each read takes one of the read budget. What an earlier call left in the codec is
+    /// dropped. No memory is taken: the allocator is not asked.
+    pub fn canonicalize_in<S: Source, K: Sink>(
+        &mut self,
+        _alloc: Global,
+        profile: Profile,
+        source: &mut S,
+        sink: &mut K,
+        turns: u64,
+    ) -> Result<(), StreamError>
+        ensures limit { self.new ≡ self.old }
+        ensures stream { Canonicalizes (level_of profile) self.old turns (S.supply source.old) (S.supply source.new)
+            (K.store sink.old) (K.store sink.new) result }
+        ensures unread { turns ≡ 0 → source.new ≡ source.old }
+        ensures memory { result ≢ Err StreamError.NoMemory }
+
+        // Over a source that tells its bytes, the answer is by all of them, however they are cut.
+        ensures exact { (bytes : List ℕ) → (S.supply source.old).left ≡ Some bytes
+            → AnswersExactly (level_of profile) self.old bytes (K.store sink.old) (K.store sink.new) result }
+        ensures complete { (bytes : List ℕ) → (S.supply source.old).left ≡ Some bytes
+            → IsValid (level_of profile) self.old turns bytes
+            → NoFaults (S.supply source.old) (S.supply source.new) (K.store sink.old) (K.store sink.new)
+            → result ≡ Ok tt }
+    {
+        self.rewrite(profile, source, sink, turns)
+    }
+
     /// Writes the canonical bytes of each frame that can be read, to the end of input or an error.
-    /// Each read takes one of the read budget. What an earlier call left in the codec is dropped.
+    /// Each read takes one of the read budget. What an earlier call left in the codec is dropped. No
+    /// memory is taken: the allocator is not asked.
     pub fn canonicalize<S: Source, K: Sink>(
         &mut self,
         alloc: Global,
@@ -114,6 +145,7 @@ impl Codec {
         ensures stream { Canonicalizes plain self.old turns (S.supply source.old) (S.supply source.new)
             (K.store sink.old) (K.store sink.new) result }
         ensures unread { turns ≡ 0 → source.new ≡ source.old }
+        ensures memory { result ≢ Err StreamError.NoMemory }
         ensures never_untidy { result ≢ Err StreamError.NotTidy }
 
         // Over a source that tells its bytes, the answer is by all of them, however they are cut.
@@ -122,7 +154,7 @@ impl Codec {
         ensures complete { (bytes : List ℕ) → (S.supply source.old).left ≡ Some bytes
             → IsValid plain self.old turns bytes
             → NoFaults (S.supply source.old) (S.supply source.new) (K.store sink.old) (K.store sink.new)
-            → IsOkOrNoMemory result }
+            → result ≡ Ok tt }
     {
         self.canonicalize_in(alloc, Profile::Plain, source, sink, turns)
     }
@@ -173,6 +205,8 @@ pub fn canonicalize_in<S: Source, K: Sink>(
         (K.store sink.old) (K.store sink.new) result
         ⊎ NeverBegan (S.supply source.old) (S.supply source.new) (K.store sink.old) (K.store sink.new) result }
     ensures unread { turns ≡ 0 → source.new ≡ source.old }
+    ensures memory { result ≡ Err StreamError.NoMemory
+        → NeverBegan (S.supply source.old) (S.supply source.new) (K.store sink.old) (K.store sink.new) result }
 
     // Over a source that tells its bytes, the answer is by all of them, however they are cut.
     ensures exact { (bytes : List ℕ) → (S.supply source.old).left ≡ Some bytes
@@ -203,6 +237,8 @@ pub fn canonicalize<S: Source, K: Sink>(
         (K.store sink.old) (K.store sink.new) result
         ⊎ NeverBegan (S.supply source.old) (S.supply source.new) (K.store sink.old) (K.store sink.new) result }
     ensures unread { turns ≡ 0 → source.new ≡ source.old }
+    ensures memory { result ≡ Err StreamError.NoMemory
+        → NeverBegan (S.supply source.old) (S.supply source.new) (K.store sink.old) (K.store sink.new) result }
     ensures never_untidy { result ≢ Err StreamError.NotTidy }
 
     // Over a source that tells its bytes, the answer is by all of them, however they are cut.

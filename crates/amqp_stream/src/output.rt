@@ -17,7 +17,6 @@ use amqp_frame::{
     is_tidy,
 };
 use amqp_types::{ChannelId, ParserError};
-use std::alloc::Global;
 
 /// Bodies up to this size are pending with the small frames; larger ones are written from where they
 /// lie.
@@ -151,7 +150,6 @@ fn payload_error(error: ParserError) -> StreamError
 /// is not canonical.
 #[tactic(auto, using(crate::proofs::Writes::added_refused, crate::proofs::Writes::added))]
 fn write_typed(
-    alloc: Global,
     out: &mut OutputBuffer,
     raw: AMQPRawFrame<'_>,
 ) -> Result<(), StreamError>
@@ -162,7 +160,7 @@ fn write_typed(
     ensures writes { (store : Store) → WritesFrame (raw_of raw.entry) store store out.old.bytes out.new.bytes result }
     ensures compact { length out.new.bytes ≤ length out.old.bytes + (length raw.entry.payload.now + 8) }
 {
-    match out.push_raw(alloc, raw) {
+    match out.push_raw(raw) {
         Err(error) => Err(payload_error(error)),
         Ok(()) => Ok(()),
     }
@@ -171,7 +169,6 @@ fn write_typed(
 /// Puts the canonical bytes of a method or content header after the pending ones, where it is tidy.
 #[tactic(auto, using(crate::proofs::Tidying::tidy_refused, crate::proofs::Tidying::untidy, crate::proofs::Tidying::tidied))]
 pub(crate) fn push_tidy(
-    alloc: Global,
     out: &mut OutputBuffer,
     raw: AMQPRawFrame<'_>,
 ) -> Result<(), StreamError>
@@ -183,7 +180,7 @@ pub(crate) fn push_tidy(
     ensures compact { length out.new.bytes ≤ length out.old.bytes + (length raw.entry.payload.now + 8) }
 {
     let pending = out.bytes().len();
-    if let Err(error) = out.push_raw(alloc, raw) {
+    if let Err(error) = out.push_raw(raw) {
         return Err(payload_error(error));
     }
     if is_tidy(raw) {
@@ -196,7 +193,6 @@ pub(crate) fn push_tidy(
 /// Gathers the canonical bytes of a borrowed frame. A large body is written from where it lies.
 #[tactic(auto, unfolding(amqp_frame::specs::Verdicts::whole_as, amqp_frame::specs::Canonical::canon))]
 pub fn write_canonical<K: Sink>(
-    alloc: Global,
     out: &mut OutputBuffer,
     sink: &mut K,
     raw: AMQPRawFrame<'_>,
@@ -223,7 +219,7 @@ pub fn write_canonical<K: Sink>(
             [_, _, _, _, ..] => Err(StreamError::TrailingBytes),
             _ => Err(StreamError::ShortPayload),
         },
-        AMQPFrameType::Method | AMQPFrameType::Header => write_typed(alloc, out, raw),
+        AMQPFrameType::Method | AMQPFrameType::Header => write_typed(out, raw),
         AMQPFrameType::Body if raw.payload.len() <= SMALL_BODY => {
             push_body(out, raw.channel_id, raw.payload);
             Ok(())

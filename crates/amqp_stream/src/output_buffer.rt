@@ -1,12 +1,12 @@
 //! A buffer in which bytes are pending, to be written together.
 
-ghost use Rattle.std.specs.Prelude.{◌≡◌, ◌+◌, ◌++◌, ◌^◌, ◌<◌, ◌≤◌, [], length, take, IfOk, IfErr};
+ghost use Rattle.std.specs.Prelude.{◌≡◌, ◌≢◌, ◌+◌, ◌++◌, ◌^◌, ◌<◌, ◌≤◌, [], length, take, Err, IfOk, IfErr};
 ghost use Rattle.amqp_frame.specs.Frames.{raw_of};
 ghost use Rattle.amqp_frame.specs.Spelling.{framed, head};
 ghost use Rattle.amqp_frame.specs.Verdicts.{IsPayloadError, whole};
 ghost use Rattle.amqp_stream.specs.Buffers.{Adds, AddsAt};
 
-use amqp_frame::{AMQPRawFrame, put_canonical};
+use amqp_frame::{AMQPRawFrame, Mark, put_canonical};
 use amqp_types::{NoMemory, ParserError, put_bytes};
 use std::alloc::Global;
 use std::marker::Model;
@@ -23,9 +23,9 @@ fn put_after(buf: &mut [u8], len: usize, bytes: &[u8]) -> usize
 /// Puts the canonical bytes of a borrowed frame after the first `len` bytes of a buffer, and returns
 /// the place after them.
 fn put_raw_after(
-    alloc: Global,
     buf: &mut [u8],
     len: usize,
+    scratch: &mut [Mark],
     raw: AMQPRawFrame<'_>,
 ) -> Result<usize, ParserError>
     requires few { length raw.payload.now < 2 ^ 32 }
@@ -33,15 +33,17 @@ fn put_raw_after(
     ensures adds { AddsAt buf.old buf.new len (whole (raw_of raw.entry)) result }
     ensures place { IfOk result (λ end. end ≤ len + length raw.entry.payload.now + 8) }
     ensures inside { IfErr result IsPayloadError }
+    ensures memory { result ≢ Err ParserError.NoMemory }
 {
-    put_canonical(alloc, buf, len, raw)
+    put_canonical(buf, len, scratch, raw)
 }
 
-/// Bytes that are not written yet, in a buffer that is reserved in full.
+/// Bytes that are not written yet, in a buffer that is reserved in full, with the scratch that frames of this size want.
 #[derive(Drop)]
 pub struct OutputBuffer {
     buf: Vec<u8>,
     len: usize,
+    scratch: Vec<Mark>,
 }
 
 impl Model for OutputBuffer {
@@ -56,12 +58,17 @@ impl Model for OutputBuffer {
 }
 
 impl OutputBuffer {
-    /// An empty buffer of this size in bytes.
+    /// An empty buffer of this size in bytes. No later call takes memory.
     pub fn open(alloc: Global, room: usize) -> Result<OutputBuffer, NoMemory>
         ensures { IfOk result (λ out. out ≡ record { room = room; bytes = [] }) }
     {
         let buf = vec![in alloc; 0u8; room]?;
-        Ok(OutputBuffer { buf, len: 0 })
+        let scratch = vec![in alloc; Mark::default(); room / 2]?;
+        Ok(OutputBuffer {
+            buf,
+            len: 0,
+            scratch,
+        })
     }
 
     /// The pending bytes.
@@ -105,15 +112,16 @@ impl OutputBuffer {
     }
 
     /// Puts the canonical bytes of a borrowed frame after the pending ones.
-    pub fn push_raw(&mut self, alloc: Global, raw: AMQPRawFrame<'_>) -> Result<(), ParserError>
+    pub fn push_raw(&mut self, raw: AMQPRawFrame<'_>) -> Result<(), ParserError>
         requires few { length raw.payload.now < 2 ^ 32 }
         requires enough { length self.old.bytes + (length raw.payload.now + 8) ≤ self.old.room }
         ensures room { self.new.room ≡ self.old.room }
         ensures adds { Adds self.old.bytes self.new.bytes (whole (raw_of raw.entry)) result }
         ensures compact { length self.new.bytes ≤ length self.old.bytes + (length raw.entry.payload.now + 8) }
         ensures inside { IfErr result IsPayloadError }
+        ensures memory { result ≢ Err ParserError.NoMemory }
     {
-        self.len = put_raw_after(alloc, &mut self.buf, self.len, raw)?;
+        self.len = put_raw_after(&mut self.buf, self.len, &mut self.scratch, raw)?;
         Ok(())
     }
 }

@@ -1,0 +1,1 @@
+-- Whole payloads that are judged without memory.

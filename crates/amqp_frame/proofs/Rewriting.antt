@@ -1,0 +1,1 @@
+-- Canonical bytes of frames, put where they are not those that stand.
