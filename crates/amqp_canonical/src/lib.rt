@@ -4,6 +4,7 @@
 
 mod headers;
 mod laws;
+mod leads;
 mod marks;
 mod payload_writing;
 mod payloads;
@@ -12,6 +13,7 @@ mod shapes;
 mod slot_writing;
 mod slots;
 mod spans;
+mod texts;
 mod values;
 mod writing;
 mod writing_laws;

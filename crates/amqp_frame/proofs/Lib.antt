@@ -14,4 +14,4 @@ pub mod Sizes
 pub mod Parts
 pub mod Within
 pub mod Judged
-pub mod Rewriting
+pub mod Rewritten

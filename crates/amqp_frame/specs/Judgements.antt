@@ -1,5 +1,5 @@
 -- What judging a whole payload without memory returns.
-use Rattle.std.specs.Prelude.{◌≡◌, Bool, List, Result, Ok, Err}
+use Rattle.std.specs.Prelude.{◌≡◌, ◌≢◌, ℕ, Bool, List, Result, Ok, Err}
 use Rattle.std.specs.Str.{bytes_eq}
 use Rattle.amqp_types.specs.Levels.{tidy, strict}
 use Rattle.amqp_types.specs.Judging.{Judge}
@@ -8,18 +8,11 @@ use Rattle.amqp_types.specs.declared.errors.ParserError.{ParserError}
 use Rattle.amqp_types.specs.declared.errors.ParserError.TheVariants as errors
 use Rattle.amqp_frame.specs.declared.judging.FrameJudgement.{FrameJudgement}
 use Rattle.amqp_frame.specs.Frames.{Frame, Raw}
-use Rattle.amqp_frame.specs.Verdicts.{all_of, is_at, whole}
+use Rattle.amqp_frame.specs.Verdicts.{IsPayloadError, all_of, is_at, whole}
 
--- the faults of a whole payload: none is of the frame around it, none wants more, and nothing wants memory
+-- the faults of a whole payload: none is of the frame around it, none wants more, and memory never runs out
 abbrev pub IsPayloadFault : ParserError → Type 0
-IsPayloadFault errors.UnknownClass = Unit {0}
-IsPayloadFault errors.UnknownMethod = Unit {0}
-IsPayloadFault errors.ShortPayload = Unit {0}
-IsPayloadFault errors.TrailingBytes = Unit {0}
-IsPayloadFault errors.NotUtf8 = Unit {0}
-IsPayloadFault errors.UnknownTag = Unit {0}
-IsPayloadFault errors.TooDeep = Unit {0}
-IsPayloadFault error = ⊥
+IsPayloadFault error = IsPayloadError error × (error ≢ errors.NoMemory)
 
 -- The payload is something, and it is told whether it is written as the payload, and whether the payload is tidy.
 pub record IsAll {A : Type 0} (judge : Judge A) (canonical : A → List ℕ) (is_tidy : List ℕ → Bool) (payload : List ℕ) (judgement : FrameJudgement) : Type 0 where

@@ -19,13 +19,7 @@ use amqp_canonical::{Mark, put_content_header, put_payload};
 use amqp_types::{ChannelId, ParserError, put_bytes};
 
 /// Puts a frame around a payload that stands from 7 bytes behind a place to `end`.
-fn put_around(
-    buf: &mut [u8],
-    at: usize,
-    end: usize,
-    frame_type: u8,
-    channel_id: ChannelId,
-) -> usize
+fn put_around(buf: &mut [u8], at: usize, end: usize, frame_type: u8, channel_id: ChannelId) -> usize
     requires payload { at + 7 ≤ end }
     requires few { end < at + 7 + 2 ^ 32 }
     requires room { end < length buf.old }
@@ -33,7 +27,11 @@ fn put_around(
         → at + length (framed frame_type channel_id payload) ≤ length before
         → Puts before buf.new at (framed frame_type channel_id payload) result }
 {
-    put_bytes(buf, at, &frame_head(frame_type, channel_id, (end - at - 7) as u32));
+    put_bytes(
+        buf,
+        at,
+        &frame_head(frame_type, channel_id, (end - at - 7) as u32),
+    );
     put_bytes(buf, end, &[206])
 }
 
