@@ -1,7 +1,25 @@
 //! The first bytes of keys as numbers, which compare faster than keys.
 
-ghost use Rattle.std.specs.Prelude.{◌≡◌, drop};
+ghost use Rattle.std.specs.Prelude.{◌≡◌, ◌<◌, length, drop};
 ghost use Rattle.amqp_canonical.specs.Leads.{leading};
+
+/// The same of a key of fewer bytes.
+#[inline(never)]
+fn fewer_than_eight(key: &[u8]) -> u64
+    requires { length key.now < 8 }
+    ensures { result ≡ leading 8 key.now }
+{
+    match key {
+        [] => 0,
+        [a] => u64::from_be_bytes([*a, 0, 0, 0, 0, 0, 0, 0]),
+        [a, b] => u64::from_be_bytes([*a, *b, 0, 0, 0, 0, 0, 0]),
+        [a, b, c] => u64::from_be_bytes([*a, *b, *c, 0, 0, 0, 0, 0]),
+        [a, b, c, d] => u64::from_be_bytes([*a, *b, *c, *d, 0, 0, 0, 0]),
+        [a, b, c, d, e] => u64::from_be_bytes([*a, *b, *c, *d, *e, 0, 0, 0]),
+        [a, b, c, d, e, f] => u64::from_be_bytes([*a, *b, *c, *d, *e, *f, 0, 0]),
+        [a, b, c, d, e, f, g, ..] => u64::from_be_bytes([*a, *b, *c, *d, *e, *f, *g, 0]),
+    }
+}
 
 /// The first eight bytes of a key as a number, with zeros after a shorter key.
 #[inline(always)]
@@ -10,14 +28,7 @@ pub(crate) fn first_eight(key: &[u8]) -> u64
 {
     match key {
         [a, b, c, d, e, f, g, h, ..] => u64::from_be_bytes([*a, *b, *c, *d, *e, *f, *g, *h]),
-        [a, b, c, d, e, f, g] => u64::from_be_bytes([*a, *b, *c, *d, *e, *f, *g, 0]),
-        [a, b, c, d, e, f] => u64::from_be_bytes([*a, *b, *c, *d, *e, *f, 0, 0]),
-        [a, b, c, d, e] => u64::from_be_bytes([*a, *b, *c, *d, *e, 0, 0, 0]),
-        [a, b, c, d] => u64::from_be_bytes([*a, *b, *c, *d, 0, 0, 0, 0]),
-        [a, b, c] => u64::from_be_bytes([*a, *b, *c, 0, 0, 0, 0, 0]),
-        [a, b] => u64::from_be_bytes([*a, *b, 0, 0, 0, 0, 0, 0]),
-        [a] => u64::from_be_bytes([*a, 0, 0, 0, 0, 0, 0, 0]),
-        [] => 0,
+        short => fewer_than_eight(short),
     }
 }
 

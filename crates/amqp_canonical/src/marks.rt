@@ -38,19 +38,21 @@ fn mark_entries(marks: &mut [Mark], content: &[u8]) -> Option<usize>
     ensures leads { IfSome result (λ count. All (HasLead content.now) (take count marks.new)) }
     ensures marked { IfSome result (λ count. (room : ℕ) → AreEntries room content.now → AreMarks room content.now (take count marks.new)) }
 {
+    if content.len() > u32::MAX as usize {
+        return None;
+    }
     let mut count = 0;
     let mut at = 0;
     while at < content.len() {
         if count == marks.len() {
             return None;
         }
-        let place = u32::try_from(at).ok()?;
         let entry = &content[at..];
         let (key, _) = split_key(entry);
         marks[count] = Mark {
             lead: first_eight(key),
             more: next_four(key),
-            place,
+            place: at as u32,
         };
         count += 1;
         at += entry_size(entry);
@@ -104,9 +106,9 @@ fn key_follows(content: &[u8], previous: Mark, mark: Mark) -> bool
 
 /// The same, by the first bytes of the keys where these differ.
 #[inline(always)]
-fn follows(content: &[u8], previous: Mark, mark: Mark) -> bool
-    requires { HasLead content.now previous × HasLead content.now mark }
-    ensures { IsTrue result → Follows content.now previous mark }
+fn follows(content: &[u8], previous: &Mark, mark: &Mark) -> bool
+    requires { HasLead content.now previous.now × HasLead content.now mark.now }
+    ensures { IsTrue result → Follows content.now previous.now mark.now }
 {
     if previous.lead != mark.lead {
         return previous.lead < mark.lead;
@@ -114,7 +116,7 @@ fn follows(content: &[u8], previous: Mark, mark: Mark) -> bool
     if previous.more != mark.more {
         return previous.more < mark.more;
     }
-    key_follows(content, previous, mark)
+    key_follows(content, *previous, *mark)
 }
 
 /// Whether each mark follows the one before it.
@@ -124,7 +126,7 @@ fn are_in_order(marks: &[Mark], content: &[u8]) -> bool
 {
     let mut k = 1;
     while k < marks.len() {
-        if !follows(content, marks[k - 1], marks[k]) {
+        if !follows(content, &marks[k - 1], &marks[k]) {
             return false;
         }
         k += 1;
@@ -178,12 +180,12 @@ pub(crate) fn is_tied(marks: &[Mark], content: &[u8], k: usize) -> bool
     if k + 1 == marks.len() {
         return false;
     }
-    let (mark, next) = (marks[k], marks[k + 1]);
+    let (mark, next) = (&marks[k], &marks[k + 1]);
     if mark.lead != next.lead {
         return false;
     }
     if mark.more != next.more {
         return false;
     }
-    is_same_key(content, mark, next)
+    is_same_key(content, *mark, *next)
 }

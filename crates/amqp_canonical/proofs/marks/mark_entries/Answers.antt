@@ -1,4 +1,4 @@
-use Rattle.std.proofs.Common.{rules, ◌≡◌, ◌+◌, ◌∙◌, ◌<◌, List, length, take, drop, sym, ap, subst, arith}
+use Rattle.std.proofs.Common.{refl, ◌≡◌, ◌+◌, ◌∙◌, ◌<◌, List, length, take, drop, sym, ap, subst, arith}
 use Rattle.std.specs.Prelude.{All}
 use Rattle.amqp_canonical.specs.Leads.{leading, HasLead}
 use Rattle.amqp_canonical.specs.Writes.{key_in}
@@ -18,10 +18,9 @@ loop-at-preserved c =
     let marks = c.loop-at.marks in
     let content = c.args.content.now in
     let size = c.entry_size-at.result in
-    let mark : Mark = record { lead = c.first_eight.result; more = c.next_four.result; place = c.in_ok-place.place } in
-    let is : c.in_ok-place.place ≡ at = search rules in
+    let mark : Mark = record { lead = c.first_eight.result; more = c.next_four.result; place = at } in
     let more : count < length marks = omega (arith, c.loop-at.invariant.1, c.if-count-marks.false) in
-    let key = (rw take_rest at c.split_key.ensures.key) ∙ ap (λ k. key_in (drop k content)) (sym is) in
+    let key = (rw take_rest at c.split_key.ensures.key) in
     let has : HasLead content mark = record { first = c.first_eight.ensures ∙ ap (leading 8) key; next = c.next_four.ensures ∙ ap (λ k. leading 4 (drop 8 k)) key } in
     let L : List Mark → Type 0 = λ ms. All (HasLead content) ms in
     let sized = rw take_rest at c.entry_size-at.ensures.used in (
@@ -30,7 +29,7 @@ loop-at-preserved c =
       subst L (sym (take_more_set marks count mark more)) (all_leads content (take count marks) mark c.loop-at.invariant.2 has),
       λ room read.
           let P : List Mark → Type 0 = λ ms. MarkedTo room content (at + size) ms in
-          subst P (sym (take_more_set marks count mark more)) (marked_next room content at size (take count marks) mark (λ k. omega (arith, c.type_inv.content k)) c.loop-at-test.true (sized room) is (c.loop-at.invariant.3 room read)),
+          subst P (sym (take_more_set marks count mark more)) (marked_next room content at size (take count marks) mark (λ k. omega (arith, c.type_inv.content k)) c.loop-at-test.true (sized room) refl (c.loop-at.invariant.3 room read)),
     )
 
 pub returns-clause-marked : goal.returns-clause-marked
