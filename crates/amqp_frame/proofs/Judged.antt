@@ -1,6 +1,8 @@
 -- Whole payloads that are judged without memory.
-use Rattle.std.proofs.Common.{◌≡◌, ◌≢◌, ◌≤◌, ◌<◌, ℕ, Bool, true, false, List, [], length, take, append-nil, Result, Ok, Err, refl, sym, ap, subst, ◌∙◌, arith, IsTrue}
+use Rattle.std.proofs.Common.{◌≡◌, ◌≢◌, ◌≤◌, ◌<◌, ℕ, Bool, true, false, List, [], length, take, append-nil, Result, Ok, Err, refl, sym, ap, subst, ◌∙◌, arith, IsTrue, ◌∷◌, inl, inr}
 use Rattle.std.specs.Str.{bytes_eq}
+use Rattle.std.specs.Prelude.{eqb, ◌↔◌, ◌^◌}
+use Rattle.std.proofs.lemmas.Bool.{cases_eq, eq-eqb, ne_eqb}
 use Rattle.std.proofs.lemmas.List.{take_all}
 use Rattle.std.proofs.lemmas.Slice.Eq.{bytes_eq-Decides}
 use Rattle.amqp_types.specs.Levels.{Level, plain, tidy, strict}
@@ -24,9 +26,14 @@ use Rattle.amqp_types.specs.PayloadFaults.{FailsInside}
 use Rattle.amqp_canonical.specs.declared.slots.Judgement.{Judgement}
 use Rattle.amqp_canonical.specs.Judgements.{MayRefuse}
 use Rattle.amqp_canonical.specs.SlotJudgements.{TakesTidily, JudgesPayload, JudgesContentHeader}
+use Rattle.amqp_frame.specs.declared.frame_type.AMQPFrameType.{AMQPFrameType}
 use Rattle.amqp_frame.specs.declared.frame_type.AMQPFrameType.TheVariants as kinds
 use Rattle.amqp_frame.specs.declared.judging.FrameJudgement.{FrameJudgement}
-use Rattle.amqp_frame.specs.Frames.{Frame, Meth, Head, Body, Raw, beat_on}
+use Rattle.amqp_frame.specs.Frames.{Frame, Proto, Meth, Head, Body, Raw, beat_on}
+use Rattle.amqp_frame.specs.Canonical.{payload_of}
+use Rattle.amqp_frame.specs.Spelling.{Spells, bytes_as}
+use Rattle.amqp_frame.proofs.Spelled.{raw_as}
+use Rattle.amqp_frame.proofs.Tidied.{frame_told}
 use Rattle.amqp_frame.specs.Judgements.{IsPayloadFault, IsAll, JudgesAll, IsJudged, JudgesFrame}
 use Rattle.amqp_frame.specs.Verdicts.{all_of, filling, whole_as, is_tidy_as}
 use Rattle.amqp_frame.proofs.Payloads as payloads
@@ -67,8 +74,8 @@ module _ {A : Type 0} (judge : Judge A) (Spells : Level → List ℕ → A → T
         is = is;
         canonical_is = same_test found.canonical (bytes_eq payload (canonical h.thing)) (λ e. written.1 (sym used ∙ h.canonical.0 e)) (λ e. h.canonical.1 (used ∙ written.0 e));
         tidy_is = same_test found.tidy (is_tidy payload)
-          (λ e. payloads.spelled_at judge Spells canonical is_tidy lawful told tidy payload h.thing (subst (λ bytes. Spells tidy bytes h.thing) used (h.tidy.0 e)))
-          (λ e. h.tidy.1 (subst (λ bytes. Spells tidy bytes h.thing) (sym used) (payloads.whole_spells judge Spells canonical is_tidy lawful told tidy payload h.thing fits is e)));
+            (λ e. payloads.spelled_at judge Spells canonical is_tidy lawful told tidy payload h.thing (subst (λ bytes. Spells tidy bytes h.thing) used (h.tidy.0 e)))
+            (λ e. h.tidy.1 (subst (λ bytes. Spells tidy bytes h.thing) (sym used) (payloads.whole_spells judge Spells canonical is_tidy lawful told tidy payload h.thing fits is e)));
       }
 
   -- a refusal of what is judged
@@ -101,13 +108,7 @@ header_trailing = is_trailing judge_content_header SpellsContentHeader content_h
 
 -- ---- frames
 
-abbrev raw_method : ℕ → List ℕ → Raw
-raw_method channel payload = record { kind = kinds.Method; channel = channel; payload = payload }
-
-abbrev raw_header : ℕ → List ℕ → Raw
-raw_header channel payload = record { kind = kinds.Header; channel = channel; payload = payload }
-
-pub method_frame : (channel : ℕ) (payload : List ℕ) (r : Result FrameJudgement ParserError) → JudgesAll judge_payload payload_bytes is_tidy_payload payload r → JudgesFrame (raw_method channel payload) r
+pub method_frame : (channel : ℕ) (payload : List ℕ) (r : Result FrameJudgement ParserError) → JudgesAll judge_payload payload_bytes is_tidy_payload payload r → JudgesFrame (raw_as kinds.Method channel payload) r
 unfolding whole_as is_tidy_as
 method_frame channel payload (Ok found) h = record {
   frame = Meth channel h.thing;
@@ -117,7 +118,7 @@ method_frame channel payload (Ok found) h = record {
 }
 method_frame channel payload (Err error) h = (h.0, payloads.refused_map error (λ m. Meth channel m) (all_of judge_payload payload) h.1)
 
-pub header_frame : (channel : ℕ) (payload : List ℕ) (r : Result FrameJudgement ParserError) → JudgesAll judge_content_header content_header_bytes is_tidy_content_header payload r → JudgesFrame (raw_header channel payload) r
+pub header_frame : (channel : ℕ) (payload : List ℕ) (r : Result FrameJudgement ParserError) → JudgesAll judge_content_header content_header_bytes is_tidy_content_header payload r → JudgesFrame (raw_as kinds.Header channel payload) r
 unfolding whole_as is_tidy_as
 header_frame channel payload (Ok found) h = record {
   frame = Head channel h.thing;
@@ -126,3 +127,63 @@ header_frame channel payload (Ok found) h = record {
   tidy = h.tidy_is;
 }
 header_frame channel payload (Err error) h = (h.0, payloads.refused_map error (λ header. Head channel header) (all_of judge_content_header payload) h.1)
+
+same_bytes : (bytes : List ℕ) → true ≡ bytes_eq bytes bytes
+same_bytes bytes = sym ((bytes_eq-Decides bytes bytes).1 refl)
+
+pub body_frame : (channel : ℕ) (payload : List ℕ) → JudgesFrame (raw_as kinds.Body channel payload) (Ok (record { canonical = true; tidy = true }))
+unfolding whole_as is_tidy_as
+body_frame channel payload = record { frame = Body channel payload; is = refl; canonical = same_bytes payload; tidy = refl }
+
+empty_told : (payload : List ℕ) → bytes_eq payload [] ≡ eqb (length payload) 0
+empty_told [] = refl
+empty_told (byte ∷ payload) = sym (ne_eqb (length (byte ∷ payload)) 0 (λ e. absurd (omega (arith, e))))
+
+payload_of-beat : (channel : ℕ) → payload_of (beat_on channel) ≡ []
+payload_of-beat channel = elim (cases_eq channel 0) [
+  | inl zero ↦ rw (eq-eqb channel 0 zero) refl
+  | inr some ↦ rw (ne_eqb channel 0 some) refl
+]
+
+pub beat_frame : (channel : ℕ) (payload : List ℕ) (empty : Bool) → empty ≡ eqb (length payload) 0 → JudgesFrame (raw_as kinds.Heartbeat channel payload) (Ok (record { canonical = empty; tidy = empty }))
+unfolding whole_as is_tidy_as
+beat_frame channel payload empty e = record {
+  frame = beat_on channel;
+  is = refl;
+  canonical = e ∙ sym (empty_told payload) ∙ ap (bytes_eq payload) (sym (payload_of-beat channel));
+  tidy = e;
+}
+
+pub proto_frame : (channel : ℕ) (payload : List ℕ) → 3 ≤ length payload → length payload < 4 → JudgesFrame (raw_as kinds.ProtocolHeader channel payload) (Ok (record { canonical = true; tidy = true }))
+unfolding whole_as is_tidy_as
+proto_frame channel [] long few = absurd (omega arith)
+proto_frame channel (a ∷ []) long few = absurd (omega arith)
+proto_frame channel (a ∷ b ∷ []) long few = absurd (omega arith)
+proto_frame channel (a ∷ b ∷ c ∷ []) long few = record { frame = Proto a b c; is = refl; canonical = same_bytes (a ∷ b ∷ c ∷ []); tidy = refl }
+proto_frame channel (a ∷ b ∷ c ∷ d ∷ more) long few = absurd (omega arith)
+
+pub proto_short : (channel : ℕ) (payload : List ℕ) → length payload < 3 → JudgesFrame (raw_as kinds.ProtocolHeader channel payload) (Err errors.ShortPayload)
+unfolding whole_as
+proto_short channel [] few = ((tt, λ e. cc), refl)
+proto_short channel (a ∷ []) few = ((tt, λ e. cc), refl)
+proto_short channel (a ∷ b ∷ []) few = ((tt, λ e. cc), refl)
+proto_short channel (a ∷ b ∷ c ∷ more) few = absurd (omega arith)
+
+pub proto_trailing : (channel : ℕ) (payload : List ℕ) → 4 ≤ length payload → JudgesFrame (raw_as kinds.ProtocolHeader channel payload) (Err errors.TrailingBytes)
+unfolding whole_as
+proto_trailing channel [] long = absurd (omega arith)
+proto_trailing channel (a ∷ []) long = absurd (omega arith)
+proto_trailing channel (a ∷ b ∷ []) long = absurd (omega arith)
+proto_trailing channel (a ∷ b ∷ c ∷ []) long = absurd (omega arith)
+proto_trailing channel (a ∷ b ∷ c ∷ d ∷ more) long = ((tt, λ e. cc), refl)
+
+-- the same of a type that is this one
+pub judged_as : (kind other : AMQPFrameType) (channel : ℕ) (payload : List ℕ) (r : Result FrameJudgement ParserError) → kind ≡ other → JudgesFrame (raw_as other channel payload) r → JudgesFrame (raw_as kind channel payload) r
+judged_as kind other channel payload r is h = let P : AMQPFrameType → Type 0 = λ k. JudgesFrame (raw_as k channel payload) r in subst P (sym is) h
+
+-- a test that tells what is tidy, as it was judged
+pub tidy_told : (kind : AMQPFrameType) (channel : ℕ) (payload : List ℕ) (frame : Frame) (found : FrameJudgement) → IsBytes payload → channel < 2 ^ 16 → length payload < 2 ^ 32 → whole_as kind channel payload ≡ Ok frame → IsJudged (raw_as kind channel payload) found
+    → IsTrue found.tidy ↔ Spells tidy (bytes_as kind channel payload) frame
+tidy_told kind channel payload frame found fits on few is h =
+    let told = frame_told kind channel payload frame fits on few is in
+    (λ t. told.0 (sym h.tidy ∙ t), λ s. h.tidy ∙ told.1 s)

@@ -76,10 +76,13 @@ fn judge_as(
             canonical: true,
             tidy: true,
         }),
-        AMQPFrameType::Heartbeat => Ok(FrameJudgement {
-            canonical: payload.is_empty(),
-            tidy: payload.is_empty(),
-        }),
+        AMQPFrameType::Heartbeat => {
+            let empty = payload.is_empty();
+            Ok(FrameJudgement {
+                canonical: empty,
+                tidy: empty,
+            })
+        }
     }
 }
 

@@ -9,7 +9,7 @@ ghost use Rattle.amqp_frame.specs.Frames.{raw_of};
 ghost use Rattle.amqp_frame.specs.Judgements.{JudgesFrame};
 ghost use Rattle.amqp_frame.specs.Rewrites.{Rewrites};
 ghost use Rattle.amqp_frame.specs.Spelling.{framed};
-ghost use Rattle.amqp_frame.specs.Verdicts.{IsPayloadError, whole};
+ghost use Rattle.amqp_frame.specs.Verdicts.{IsPayloadError, whole, whole_as};
 
 use crate::frame_type::AMQPFrameType;
 use crate::generation::{frame_head, heartbeat_bytes, put_framed};
@@ -69,22 +69,23 @@ fn put_header(
     put_around(buf, at, end, 2, channel_id)
 }
 
-/// Puts the canonical bytes of the frame that a judged payload is.
+/// Puts the canonical bytes of the frame that a judged payload of this type is.
 fn put_judged(
     buf: &mut [u8],
     at: usize,
     scratch: &mut [Mark],
-    raw: AMQPRawFrame<'_>,
+    frame_type: AMQPFrameType,
+    channel_id: ChannelId,
+    payload: &[u8],
     judged: FrameJudgement,
 ) -> usize
-    requires whole { JudgesFrame (raw_of raw) (Ok judged) }
-    requires few { length raw.payload.now < 2 ^ 32 }
-    requires room { at + length raw.payload.now + 8 ≤ length buf.old }
-    ensures puts { Rewrites buf.old buf.new at (whole (raw_of raw.entry)) (Ok result) }
-    ensures within { result ≤ at + length raw.entry.payload.now + 8 }
+    requires whole { JudgesFrame (record { kind = frame_type; channel = channel_id; payload = payload.now }) (Ok judged) }
+    requires few { length payload.now < 2 ^ 32 }
+    requires room { at + length payload.now + 8 ≤ length buf.old }
+    ensures puts { Rewrites buf.old buf.new at (whole_as frame_type channel_id payload.now) (Ok result) }
+    ensures within { result ≤ at + length payload.now + 8 }
 {
-    let (channel_id, payload) = (raw.channel_id, raw.payload);
-    match raw.frame_type {
+    match frame_type {
         AMQPFrameType::ProtocolHeader => {
             let at = put_bytes(buf, at, b"AMQP\0");
             put_bytes(buf, at, payload)
@@ -117,5 +118,6 @@ pub fn put_canonical(
     ensures memory { result ≢ Err ParserError.NoMemory }
 {
     let judged = judge_frame(raw)?;
-    Ok(put_judged(buf, at, scratch, raw, judged))
+    let (frame_type, channel_id, payload) = (raw.frame_type, raw.channel_id, raw.payload);
+    Ok(put_judged(buf, at, scratch, frame_type, channel_id, payload, judged))
 }
