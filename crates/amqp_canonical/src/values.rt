@@ -196,7 +196,7 @@ fn judge_after_tag(layout: Layout, i: &[u8], room: usize) -> Result<ValueJudgeme
 }
 
 /// Judges an array, in whose values tables and arrays may nest `room` deep.
-#[inline(never)]
+#[inline(always)]
 #[cycle(judge)]
 pub fn judge_array(i: &[u8], room: usize) -> Result<ValueJudgement, ParserError>
     ensures judged { Judges IsCanonicalArray i.now result (judge_array (judge_value room) i.now) }
@@ -208,7 +208,7 @@ pub fn judge_array(i: &[u8], room: usize) -> Result<ValueJudgement, ParserError>
 }
 
 /// Judges a table, in whose values tables and arrays may nest `room` deep (AMQP 0-9-1, section 4.2.5.5).
-#[inline(never)]
+#[inline(always)]
 #[cycle(judge)]
 pub fn judge_table(i: &[u8], room: usize) -> Result<ValueJudgement, ParserError>
     ensures judged { Judges IsCanonicalTable i.now result (judge_table (judge_value room) i.now) }
@@ -220,6 +220,7 @@ pub fn judge_table(i: &[u8], room: usize) -> Result<ValueJudgement, ParserError>
 }
 
 /// Judges the values that fill an array, and returns whether these are their canonical bytes.
+#[inline(never)]
 #[cycle(judge)]
 fn judge_values(content: &[u8], room: usize) -> Result<bool, ParserError>
     ensures { JudgesWhole AreCanonicalValues content.now result (filled (judge_value room) 0 content.now) }
@@ -238,6 +239,7 @@ fn judge_values(content: &[u8], room: usize) -> Result<bool, ParserError>
 }
 
 /// Judges the entries that fill a table, and returns whether these are their canonical bytes and each key is above the previous one.
+#[inline(never)]
 #[cycle(judge)]
 fn judge_entries(content: &[u8], room: usize) -> Result<bool, ParserError>
     ensures { JudgesWhole AreCanonicalEntries content.now result (filled (judge_entry (judge_value room)) 0 content.now) }
@@ -259,6 +261,7 @@ fn judge_entries(content: &[u8], room: usize) -> Result<bool, ParserError>
 }
 
 /// Judges a key and its value, and lends the key.
+#[inline(always)]
 #[cycle(judge)]
 fn judge_entry(i: &[u8], room: usize) -> Result<(ValueJudgement, &[u8]), ParserError>
     ensures judged { JudgesEntry (λ key. key.now) i.now result (judge_entry (judge_value room) i.now) }
