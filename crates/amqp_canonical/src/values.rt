@@ -1,7 +1,6 @@
 //! Judging values, arrays and tables at the front of a slice.
 
-ghost use Rattle.std.specs.Prelude.{◌≡◌, ◌≤◌, ◌<◌, ◌↔◌, Some, length, IfOk, IfSome, IsTrue};
-ghost use Rattle.amqp_types.specs.Tags.{tag_at, tag_byte};
+ghost use Rattle.std.specs.Prelude.{◌≡◌, ◌≤◌, ◌<◌, ◌↔◌, Some, true, false, length, IfOk, IfSome, IsTrue};
 ghost use Rattle.amqp_types.specs.Booleans.{judge_boolean};
 ghost use Rattle.amqp_types.specs.ValueJudging.{filled, nested, inside_error, judge_entry, judge_array, judge_table, judge_behind, judge_value};
 ghost use Rattle.amqp_canonical.specs.Judgements.{layout_at, layout_after_byte, IsShort, IsAbove, IsBelow, MayRefuse, IsCanonicalBoolean, IsCanonicalAfterTag, IsCanonicalValue, AreCanonicalValues, AreCanonicalEntries, IsCanonicalArray, IsCanonicalTable, Judges, JudgesEntry, JudgesWhole};
@@ -59,33 +58,60 @@ pub(crate) fn layout_of(tag: FieldTag) -> Layout
     }
 }
 
-/// How what stands after a tag byte is laid out. None where the byte is no tag.
-#[inline(always)]
-pub(crate) fn layout_after(byte: u8) -> Option<Layout>
-    ensures is { result ≡ layout_after_byte byte }
-    ensures few { IfSome result IsShort }
-{
-    match byte {
-        b'V' => Some(Layout::Fixed(0)),
-        b'b' | b'B' => Some(Layout::Fixed(1)),
-        b's' | b'u' | b'U' => Some(Layout::Fixed(2)),
-        b'I' | b'i' | b'f' => Some(Layout::Fixed(4)),
-        b'D' => Some(Layout::Fixed(5)),
-        b'l' | b'L' | b'd' | b'T' => Some(Layout::Fixed(8)),
-        b't' => Some(Layout::OneBoolean),
-        b'S' | b'x' => Some(Layout::Counted),
-        b'A' => Some(Layout::Values),
-        b'F' => Some(Layout::Entries),
-        _ => None,
-    }
+/// A tag byte that is read.
+#[derive(Clone, Copy)]
+pub(crate) struct TagByte {
+    /// How what stands after it is laid out.
+    pub(crate) layout: Layout,
+
+    /// Whether it is the one that is written for its tag.
+    pub(crate) written: bool,
 }
 
-/// Whether a tag byte is the one that is written for its tag: `U` and `L` are read, and never written.
+/// A tag byte that is the one that is written for its tag.
 #[inline(always)]
-pub(crate) fn is_written(byte: u8) -> bool
-    ensures { (tag : FieldTag) → tag_at byte ≡ Some tag → IsTrue result ↔ (tag_byte tag ≡ byte) }
+fn written(layout: Layout) -> Option<TagByte>
+    ensures { result ≡ Some (record { layout = layout; written = true }) }
 {
-    byte != b'U' && byte != b'L'
+    Some(TagByte {
+        layout,
+        written: true,
+    })
+}
+
+/// A tag byte in whose place another one is written.
+#[inline(always)]
+fn only_read(layout: Layout) -> Option<TagByte>
+    ensures { result ≡ Some (record { layout = layout; written = false }) }
+{
+    Some(TagByte {
+        layout,
+        written: false,
+    })
+}
+
+/// How what stands after a tag byte is laid out, and whether the byte is the one that is written for its tag: `U` and `L`
+/// are read, and never written. None where the byte is no tag.
+#[inline(always)]
+pub(crate) fn layout_after(byte: u8) -> Option<TagByte>
+    ensures is { result ≡ layout_after_byte byte }
+    ensures few { IfSome result (λ tag. IsShort tag.layout) }
+{
+    match byte {
+        b'V' => written(Layout::Fixed(0)),
+        b'b' | b'B' => written(Layout::Fixed(1)),
+        b's' | b'u' => written(Layout::Fixed(2)),
+        b'U' => only_read(Layout::Fixed(2)),
+        b'I' | b'i' | b'f' => written(Layout::Fixed(4)),
+        b'D' => written(Layout::Fixed(5)),
+        b'l' | b'd' | b'T' => written(Layout::Fixed(8)),
+        b'L' => only_read(Layout::Fixed(8)),
+        b't' => written(Layout::OneBoolean),
+        b'S' | b'x' => written(Layout::Counted),
+        b'A' => written(Layout::Values),
+        b'F' => written(Layout::Entries),
+        _ => None,
+    }
 }
 
 /// An error of what stands inside a table or an array whose bytes are all there.
@@ -144,11 +170,11 @@ pub fn judge_value(i: &[u8], room: usize) -> Result<ValueJudgement, ParserError>
         [] => Err(ParserError::Incomplete),
         [byte, rest @ ..] => match layout_after(*byte) {
             None => Err(ParserError::UnknownTag),
-            Some(layout) => {
-                let value = judge_after_tag(layout, rest, room)?;
+            Some(tag) => {
+                let value = judge_after_tag(tag.layout, rest, room)?;
                 Ok(ValueJudgement {
                     used: 1 + value.used,
-                    canonical: value.canonical & is_written(*byte),
+                    canonical: value.canonical & tag.written,
                 })
             }
         },

@@ -6,7 +6,7 @@ use Rattle.amqp_values.proofs.Filling.{refused_at}
 use Rattle.amqp_canonical.specs.Judgements.{IsCanonicalAfterTag, IsCanonicalValue, IsCanonicalArray, IsCanonicalTable}
 use Rattle.amqp_canonical.proofs.Refusing.{err_judged, entry_err}
 use Rattle.amqp_canonical.proofs.Children.{values_next, values_end, entries_none, entries_next_if, entries_end}
-use Rattle.amqp_canonical.proofs.AfterTag.{fixed_past, fixed_took, taken, counted_took, counted_fails, boolean_behind, array_behind, table_behind, array_deep, table_deep, same_told, value_empty, value_unknown, value_fails, value_took_at, entry_unread, entry_fails, entry_took}
+use Rattle.amqp_canonical.proofs.AfterTag.{fixed_past, fixed_took, taken, counted_took, counted_fails, boolean_behind, array_behind, table_behind, array_deep, table_deep, value_empty, value_unknown, value_fails, value_took_at, entry_unread, entry_fails, entry_took}
 use Rattle.amqp_canonical.proofs.TagBytes.{no_tag, some_tag}
 use Rattle.amqp_canonical.proofs.Whole.{array_unread, array_fails, array_took, table_unread, table_fails, table_took}
 use Rattle.amqp_canonical.proofs.values.+judge.Goals as goal
@@ -62,18 +62,18 @@ pub judge_value-returns-in-empty-clause-judged : goal.judge_value-returns-in-emp
 judge_value-returns-in-empty-clause-judged t c = (λ e. cc, value_empty c.args.room c.args.i.now (omega (arith, c.in-empty.len_below)))
 
 pub judge_value-returns-in-None-clause-judged : goal.judge_value-returns-in-None-clause-judged
-judge_value-returns-in-None-clause-judged t c = (λ e. cc, value_unknown c.args.room c.args.i.now (omega (arith, c.in-len1-up.len_at_least)) (no_tag _ (sym c.layout_after.ensures.is ∙ c.in-None.is)))
+judge_value-returns-in-None-clause-judged t c = (λ e. cc, value_unknown c.args.room c.args.i.now (omega (arith, c.in-len1-up.len_at_least)) (no_tag (get_or c.args.i.now 0 0) _ (sym c.layout_after.ensures.is ∙ c.in-None.is)))
 
 pub judge_value-returns-in_err-value-in-Some-clause-judged : goal.judge_value-returns-in_err-value-in-Some-clause-judged
 judge_value-returns-in_err-value-in-Some-clause-judged t c =
-    let one = some_tag (tag_at (get_or c.args.i.now 0 0)) c.in-Some.layout (sym c.layout_after.ensures.is ∙ c.in-Some.is) in
+    let one = some_tag (get_or c.args.i.now 0 0) (tag_at (get_or c.args.i.now 0 0)) c.in-Some.tag (sym c.layout_after.ensures.is ∙ c.in-Some.is) in
     err_judged IsCanonicalValue c.args.i.now _ c.in_err-value-in-Some.field-0.0 _ c.from_residual.ensures.1
-    (value_fails c.args.room c.args.i.now one.0 c.in_err-value-in-Some.field-0.0 (omega (arith, c.in-len1-up.len_at_least)) one.1 (let judged = rw take_rest at c.in_err-value-in-Some.ensures.judged in judged one.0 one.2))
+    (value_fails c.args.room c.args.i.now one.tag c.in_err-value-in-Some.field-0.0 (omega (arith, c.in-len1-up.len_at_least)) one.is (let judged = rw take_rest at c.in_err-value-in-Some.ensures.judged in judged one.tag one.layout_is))
 
 pub judge_value-returns-in_ok-value-in-Some-clause-judged : goal.judge_value-returns-in_ok-value-in-Some-clause-judged
 judge_value-returns-in_ok-value-in-Some-clause-judged t c =
-    let one = some_tag (tag_at (get_or c.args.i.now 0 0)) c.in-Some.layout (sym c.layout_after.ensures.is ∙ c.in-Some.is) in
-    value_took_at c.args.room c.args.i.now one.0 c.in_ok-value-in-Some.value _ (omega (arith, c.in-len1-up.len_at_least)) one.1 (c.is_written.ensures one.0 one.1) (let judged = rw take_rest at c.in_ok-value-in-Some.ensures.judged in judged one.0 one.2)
+    let one = some_tag (get_or c.args.i.now 0 0) (tag_at (get_or c.args.i.now 0 0)) c.in-Some.tag (sym c.layout_after.ensures.is ∙ c.in-Some.is) in
+    value_took_at c.args.room c.args.i.now one.tag c.in_ok-value-in-Some.value _ (omega (arith, c.in-len1-up.len_at_least)) one.is (one.is_written) (let judged = rw take_rest at c.in_ok-value-in-Some.ensures.judged in judged one.tag one.layout_is)
 
 pub judge_values-returns-in-Err : goal.judge_values-returns-in-Err
 judge_values-returns-in-Err t c =
