@@ -136,13 +136,12 @@ fn is_above(key: &[u8], previous: &[u8]) -> bool
     }
 }
 
-/// Whether a key comes after the previous one, where there is one. It is not looked at where the entries before are not
-/// canonical, and true is returned then.
+/// Whether a key comes after the previous one, where there is one.
 #[inline(always)]
-fn is_next(canonical: bool, at: usize, key: &[u8], previous: &[u8]) -> bool
-    ensures { IsTrue canonical → IsAbove at previous.now key.now result }
+fn is_next(at: usize, key: &[u8], previous: &[u8]) -> bool
+    ensures { IsAbove at previous.now key.now result }
 {
-    !canonical || at == 0 || is_above(key, previous)
+    at == 0 || is_above(key, previous)
 }
 
 /// Judges a truth value.
@@ -273,15 +272,21 @@ fn judge_entries(content: &[u8], room: usize) -> Result<bool, ParserError>
     let mut previous: &[u8] = &[];
     let mut canonical = true;
     let mut at = 0;
-    while at < content.len() {
+    while canonical && at < content.len() {
         let (item, key) = match judge_entry(&content[at..], room) {
             Ok(found) => found,
             Err(error) => return Err(inside(error)),
         };
-        let above = is_next(canonical, at, key, previous);
-        canonical = canonical & item.canonical & above;
+        canonical = item.canonical & is_next(at, key, previous);
         previous = key;
         at += item.used;
+    }
+    // Where one is not canonical, the others are only read, and their keys are not compared.
+    while at < content.len() {
+        at += match judge_entry(&content[at..], room) {
+            Ok((item, _)) => item.used,
+            Err(error) => return Err(inside(error)),
+        };
     }
     Ok(canonical)
 }
