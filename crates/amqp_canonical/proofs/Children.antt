@@ -254,9 +254,8 @@ tested : (at : ℕ) (previous key : List ℕ) → (above : Bool) × IsAbove at p
 tested zero previous key = (true, inl (refl, refl))
 tested (suc at) previous key = (is_less (slice_cmp nat_cmp previous key), inr (omega arith, less_told (slice_cmp nat_cmp previous key)))
 
-pub entries_next_if : (room : ℕ) (content : List ℕ) (at n : ℕ) (previous key : List ℕ) (v : FieldValue) (canonical d above : Bool) → IsBytes content → at < length content → judge_entry (judge_value room) (drop at content) ≡ took (key, v) n
-    → 0 < n → n ≤ length (drop at content) → IsTrue d ↔ (take n (drop at content) ≡ short_string_bytes key ++ tagged_bytes v) → (IsTrue canonical → IsAbove at previous key above) → EntriesTo room content at previous canonical → EntriesTo room content (at + n) key ((canonical && d) && above)
-entries_next_if room content at n previous key v true d above bytes more is up fits told over h = entries_next room content at n previous key v true d above bytes more is up fits told (over refl) h
-entries_next_if room content at n previous key v false d above bytes more is up fits told over h =
-    let test = tested at previous key in
-    entries_next room content at n previous key v false d test.0 bytes more is up fits told test.1 h
+-- where those before are not canonical, the next one is only read
+pub entries_read : (room : ℕ) (content : List ℕ) (at n : ℕ) (previous key : List ℕ) (v : FieldValue) (canonical d : Bool) → IsBytes content → at < length content → judge_entry (judge_value room) (drop at content) ≡ took (key, v) n
+    → 0 < n → n ≤ length (drop at content) → IsTrue d ↔ (take n (drop at content) ≡ short_string_bytes key ++ tagged_bytes v) → (canonical ≡ true → length content ≤ at) → EntriesTo room content at previous canonical → EntriesTo room content (at + n) key canonical
+entries_read room content at n previous key v true d bytes more is up fits told ended h = absurd (omega (arith, ended refl, more))
+entries_read room content at n previous key v false d bytes more is up fits told ended h = let test = tested at previous key in entries_next room content at n previous key v false d test.0 bytes more is up fits told test.1 h

@@ -1,7 +1,7 @@
 -- Keys whose first bytes differ stand as the numbers of those bytes do.
-use Rattle.std.proofs.Common.{◌≡◌, ◌≢◌, ◌<◌, ◌≤◌, ◌⊎◌, inl, inr, ℕ, zero, suc, ◌+◌, ◌*◌, ◌^◌, Bool, true, false, List, [], ◌∷◌, ◌++◌, length, get_or, drop, map, nat_eq, nat_lt, Ordering, Less, Equal, Greater, refl, sym, ap, ap₂, subst, ◌∙◌, arith}
+use Rattle.std.proofs.Common.{◌≡◌, ◌<◌, ◌≤◌, inl, inr, ℕ, zero, suc, ◌+◌, ◌*◌, ◌^◌, Bool, true, false, List, [], ◌∷◌, ◌++◌, length, get_or, drop, nat_eq, nat_lt, refl, sym, ap, ap₂, subst, ◌∙◌, arith}
 use Rattle.std.proofs.lemmas.Cmp.{nat_list_cmp_total, tied_itself}
-use Rattle.std.proofs.lemmas.List.{get_or-drop, drop-drop, drop_all}
+use Rattle.std.proofs.lemmas.List.{get_or-drop, drop-drop}
 use Rattle.std.proofs.lemmas.List.Elements.{All-nil, All-cons, All-append}
 use Rattle.std.proofs.lemmas.Map.Lookups.{exact_bytes}
 use Rattle.std.proofs.lemmas.Map.Views.{tells_apart}
@@ -14,8 +14,8 @@ use Rattle.std.specs.Ordering.{nat_cmp, is_eq}
 use Rattle.amqp_types.specs.Judging.{IsBytes}
 use Rattle.amqp_types.proofs.Bytes.{IsBytes-drop, IsBytes-take}
 use Rattle.amqp_canonical.specs.Judgements.{IsBelow}
-use Rattle.amqp_canonical.specs.Leads.{leading, key_at, HasLead}
-use Rattle.amqp_canonical.specs.Marks.{Follows}
+use Rattle.amqp_canonical.specs.Leads.{leading, key_at}
+use Rattle.amqp_canonical.specs.Marks.{Follows, IsMarked}
 use Rattle.amqp_canonical.specs.Writes.{key_in}
 use Rattle.amqp_canonical.specs.declared.marks.Mark.{Mark}
 
@@ -114,14 +114,11 @@ leading-zero : (key : List ℕ) → leading 0 key ≡ 0
 unfolding leading
 leading-zero key = refl
 
-pub four_are : (key : List ℕ) → leading 4 key ≡ get_or key 0 0 * 16777216 + get_or key 1 0 * 65536 + get_or key 2 0 * 256 + get_or key 3 0
-four_are key = omega (arith, leading-at 3 0 key, leading-at 2 1 key, leading-at 1 2 key, leading-at 0 3 key, leading-zero (drop 4 key))
+pub two_are : (key : List ℕ) → leading 2 (drop 8 key) ≡ get_or key 8 0 * 256 + get_or key 9 0
+two_are key = omega (arith, leading-at 1 8 key, leading-at 0 9 key, leading-zero (drop 10 key))
 
 pub eight_are : (key : List ℕ) → leading 8 key ≡ get_or key 0 0 * 72057594037927936 + get_or key 1 0 * 281474976710656 + get_or key 2 0 * 1099511627776 + get_or key 3 0 * 4294967296 + get_or key 4 0 * 16777216 + get_or key 5 0 * 65536 + get_or key 6 0 * 256 + get_or key 7 0
 eight_are key = omega (arith, leading-at 7 0 key, leading-at 6 1 key, leading-at 5 2 key, leading-at 4 3 key, leading-at 3 4 key, leading-at 2 5 key, leading-at 1 6 key, leading-at 0 7 key, leading-zero (drop 8 key))
-
-pub none_after : (key : List ℕ) → length key < 8 → 0 ≡ leading 4 (drop 8 key)
-none_after key few = sym (ap (leading 4) (drop_all 8 key (omega (arith, few))) ∙ leading-none 4)
 
 -- ---- marks
 
@@ -129,17 +126,17 @@ key_fits : (bytes : List ℕ) → IsBytes bytes → IsBytes (key_in bytes)
 key_fits [] fits = fits
 key_fits (n ∷ bytes) fits = IsBytes-take n bytes (λ k. fits (suc k))
 
-pub lead_tells : (content : List ℕ) (previous mark : Mark) → IsBytes content → HasLead content previous → HasLead content mark → previous.lead < mark.lead → Follows content previous mark
+pub lead_tells : (content : List ℕ) (previous mark : Mark) → IsBytes content → IsMarked content previous → IsMarked content mark → previous.lead < mark.lead → Follows content previous mark
 lead_tells content previous mark fits p m less =
     inl (leading-tells 8 (key_at content previous) (key_at content mark) (key_fits (drop previous.place content) (IsBytes-drop previous.place content fits)) (key_fits (drop mark.place content) (IsBytes-drop mark.place content fits)) (omega (arith, p.first, m.first, less)))
 
-pub more_tells : (content : List ℕ) (previous mark : Mark) → IsBytes content → HasLead content previous → HasLead content mark → previous.lead ≡ mark.lead → previous.more < mark.more → Follows content previous mark
+pub more_tells : (content : List ℕ) (previous mark : Mark) → IsBytes content → IsMarked content previous → IsMarked content mark → previous.lead ≡ mark.lead → previous.more < mark.more → Follows content previous mark
 more_tells content previous mark fits p m same less =
-    inl (later-tells 8 4 (key_at content previous) (key_at content mark) (key_fits (drop previous.place content) (IsBytes-drop previous.place content fits)) (key_fits (drop mark.place content) (IsBytes-drop mark.place content fits)) (sym p.first ∙ same ∙ m.first) (omega (arith, p.next, m.next, less)))
+    inl (later-tells 8 2 (key_at content previous) (key_at content mark) (key_fits (drop previous.place content) (IsBytes-drop previous.place content fits)) (key_fits (drop mark.place content) (IsBytes-drop mark.place content fits)) (sym p.first ∙ same ∙ m.first) (omega (arith, p.next, m.next, less)))
 
 -- marks of one key have the same numbers
-pub same_lead : (content : List ℕ) (a b : Mark) → HasLead content a → HasLead content b → key_at content a ≡ key_at content b → (a.lead ≡ b.lead) × (a.more ≡ b.more)
-same_lead content a b p q same = (p.first ∙ ap (leading 8) same ∙ sym q.first, p.next ∙ ap (λ k. leading 4 (drop 8 k)) same ∙ sym q.next)
+pub same_lead : (content : List ℕ) (a b : Mark) → IsMarked content a → IsMarked content b → key_at content a ≡ key_at content b → (a.lead ≡ b.lead) × (a.more ≡ b.more)
+same_lead content a b p q same = (p.first ∙ ap (leading 8) same ∙ sym q.first, p.next ∙ ap (λ k. leading 2 (drop 8 k)) same ∙ sym q.next)
 
 -- keys that differ
 pub never : (a b : List ℕ) → (a ≡ b → ⊥) → IsTrue false ↔ (a ≡ b)
@@ -153,5 +150,5 @@ same_test a b false h = elim (cases_Bool (is_eq (slice_cmp nat_cmp a b))) [
   | inr apart ↦ sym apart
 ]
 
-pub all_leads : (content : List ℕ) (marks : List Mark) (mark : Mark) → All (HasLead content) marks → HasLead content mark → All (HasLead content) (marks ++ mark ∷ [])
-all_leads content marks mark h one = All-append (HasLead content) marks (mark ∷ []) h (All-cons (HasLead content) mark [] one (All-nil (HasLead content)))
+pub all_marked : (content : List ℕ) (marks : List Mark) (mark : Mark) → All (IsMarked content) marks → IsMarked content mark → All (IsMarked content) (marks ++ mark ∷ [])
+all_marked content marks mark h one = All-append (IsMarked content) marks (mark ∷ []) h (All-cons (IsMarked content) mark [] one (All-nil (IsMarked content)))

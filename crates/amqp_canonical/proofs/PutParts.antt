@@ -36,6 +36,9 @@ use Rattle.amqp_canonical.proofs.Sizes.{fixed_taken, counted_length, is_boolean,
 
 -- ---- what is copied
 
+pub copied_as : {A : Type 0} (canonical : A → List ℕ) (bytes : List ℕ) (m n : ℕ) (j : Judged A) → m ≡ n → IsCopied canonical bytes m j → IsCopied canonical bytes n j
+copied_as canonical bytes m n j is h = let P : ℕ → Type 0 = λ k. IsCopied canonical bytes k j in subst P is h
+
 copied_of : (bytes : List ℕ) (m n : ℕ) (j : Judged FieldValue) → m ≤ length bytes → IsTaken bytes m j → n ≡ used_of j → IsCopied value_bytes bytes n j
 copied_of bytes m n j within h used =
     let same : n ≡ m = used ∙ ap (λ k. used_of k) h.1 in

@@ -1,5 +1,5 @@
 -- What judging bytes without memory returns: what is judged, and whether it stands in its canonical bytes.
-use Rattle.std.specs.Prelude.{◌≡◌, ◌≢◌, ◌↔◌, ◌⊎◌, ◌<◌, ◌≤◌, ℕ, List, ◌++◌, take, Bool, true, IsTrue, Option, option_map, Result, Ok, Err}
+use Rattle.std.specs.Prelude.{◌≡◌, ◌≢◌, ◌↔◌, ◌⊎◌, ◌<◌, ◌≤◌, ℕ, nat_eq, List, ◌++◌, take, Bool, true, IsTrue, Option, option_map, Result, Ok, Err}
 use Rattle.std.specs.declared.cmp.Ordering.TheVariants.{Less}
 use Rattle.std.specs.Ordering.{nat_cmp}
 use Rattle.std.specs.Cmp.Lexicographic.{slice_cmp}
@@ -8,7 +8,7 @@ use Rattle.amqp_types.specs.Strings.{short_string_bytes, with_length}
 use Rattle.amqp_types.specs.Values.{FieldValue, Entry, values_of, entries_of}
 use Rattle.amqp_types.specs.ValueBytes.{value_bytes, values_bytes, entries_bytes, tagged_bytes}
 use Rattle.amqp_types.specs.Settling.{IsRising}
-use Rattle.amqp_types.specs.Tags.{tag_at}
+use Rattle.amqp_types.specs.Tags.{tag_at, tag_byte}
 use Rattle.amqp_types.specs.Judging.{Judged, Fault, took}
 use Rattle.amqp_types.specs.Answers.{Refuses, RefusesWhole}
 use Rattle.amqp_types.specs.declared.errors.ParserError.{ParserError}
@@ -17,6 +17,7 @@ use Rattle.amqp_types.specs.declared.tag.FieldTag.{FieldTag}
 use Rattle.amqp_types.specs.declared.tag.FieldTag.TheVariants as tag
 use Rattle.amqp_canonical.specs.declared.values.Layout.{Layout}
 use Rattle.amqp_canonical.specs.declared.values.Layout.TheVariants as layout
+use Rattle.amqp_canonical.specs.declared.values.TagByte.{TagByte}
 use Rattle.amqp_canonical.specs.declared.values.ValueJudgement.{ValueJudgement}
 
 abbrev pub layout_at : FieldTag → Layout
@@ -38,9 +39,13 @@ layout_at tag.FieldTable = layout.Entries
 layout_at tag.ByteArray = layout.Counted
 layout_at tag.Void = layout.Fixed 0
 
--- how what stands after a tag byte is laid out, where the byte is a tag
-abbrev pub layout_after_byte : ℕ → Option Layout
-layout_after_byte byte = option_map layout_at (tag_at byte)
+-- what a byte that is read as this tag says
+abbrev pub read_as : ℕ → FieldTag → TagByte
+read_as byte t = record { layout = layout_at t; written = nat_eq (tag_byte t) byte }
+
+-- how what stands after a tag byte is laid out, and whether this is the byte that is written, where the byte is a tag
+abbrev pub layout_after_byte : ℕ → Option TagByte
+layout_after_byte byte = option_map (read_as byte) (tag_at byte)
 
 -- what has one size takes few bytes
 abbrev pub IsShort : Layout → Type 0

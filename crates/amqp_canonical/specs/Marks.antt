@@ -9,8 +9,8 @@ use Rattle.amqp_types.specs.Settling.{last_at, settled}
 use Rattle.amqp_types.specs.Values.{Entry, FieldValue, void_value}
 use Rattle.amqp_types.specs.ValueJudging.{filled, judge_entry, judge_value}
 use Rattle.amqp_canonical.specs.Judgements.{IsBelow}
-use Rattle.amqp_canonical.specs.Leads.{key_at}
-use Rattle.amqp_canonical.specs.Writes.{IsRead, IsFilled, items_of}
+use Rattle.amqp_canonical.specs.Leads.{leading, key_at}
+use Rattle.amqp_canonical.specs.Writes.{IsRead, IsCopied, IsFilled, entry_bytes, items_of}
 use Rattle.amqp_canonical.specs.Places.{ArePlaced}
 use Rattle.amqp_canonical.specs.declared.marks.Mark.{Mark}
 
@@ -36,6 +36,13 @@ AreEntries room content = IsFilled (filled (judge_entry (judge_value room)) 0 co
 
 -- ---- marks
 
+-- The mark's numbers are the first bytes of the key at its place, and a size that is not 0 is that of the entry there, which
+-- is copied.
+pub record IsMarked (content : List ℕ) (mark : Mark) : Type 0 where
+  pub first : mark.lead ≡ leading 8 (key_at content mark)
+  pub next : mark.more ≡ leading 2 (drop 8 (key_at content mark))
+  pub copied : mark.size ≢ 0 → (room : ℕ) → IsRead (entry_at room content mark.place) → IsCopied entry_bytes (drop mark.place content) mark.size (entry_at room content mark.place)
+
 -- an entry was read at each mark's place
 abbrev pub AreRead : ℕ → List ℕ → List Mark → Type 0
 AreRead room content marks = All (λ mark. IsRead (entry_at room content mark.place)) marks
@@ -54,7 +61,7 @@ Follows content previous mark = IsBelow (key_at content previous) (key_at conten
 
 -- what is found where there is no mark
 abbrev pub blank : Mark
-blank = record { lead = 0; more = 0; place = 0 }
+blank = record { lead = 0; place = 0; more = 0; size = 0 }
 
 -- each follows the one before it
 abbrev pub AreInOrder : List ℕ → List Mark → Type 0

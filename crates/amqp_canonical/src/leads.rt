@@ -32,27 +32,14 @@ pub(crate) fn first_eight(key: &[u8]) -> u64
     }
 }
 
-/// The first four bytes of what follows as a number, with zeros after a shorter one.
+/// The two bytes of a key after its first eight as a number, with zeros after a shorter key.
 #[inline(always)]
-fn first_four(rest: &[u8]) -> u32
-    ensures { result ≡ leading 4 rest.now }
-{
-    match rest {
-        [a, b, c, d, ..] => u32::from_be_bytes([*a, *b, *c, *d]),
-        [a, b, c] => u32::from_be_bytes([*a, *b, *c, 0]),
-        [a, b] => u32::from_be_bytes([*a, *b, 0, 0]),
-        [a] => u32::from_be_bytes([*a, 0, 0, 0]),
-        [] => 0,
-    }
-}
-
-/// The four bytes of a key after its first eight as a number, with zeros after a shorter key.
-#[inline(always)]
-pub(crate) fn next_four(key: &[u8]) -> u32
-    ensures { result ≡ leading 4 (drop 8 key.now) }
+pub(crate) fn next_two(key: &[u8]) -> u16
+    ensures { result ≡ leading 2 (drop 8 key.now) }
 {
     match key {
-        [_, _, _, _, _, _, _, _, rest @ ..] => first_four(rest),
+        [_, _, _, _, _, _, _, _, a, b, ..] => u16::from_be_bytes([*a, *b]),
+        [_, _, _, _, _, _, _, _, a] => u16::from_be_bytes([*a, 0]),
         _ => 0,
     }
 }

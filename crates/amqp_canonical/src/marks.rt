@@ -1,12 +1,12 @@
 //! Marks of the entries of a table, by which they are put in order.
 
-ghost use Rattle.std.specs.Prelude.{◌≡◌, ◌≤◌, ◌<◌, ◌+◌, ◌↔◌, ℕ, length, map, take, drop, slice_index_or, All, IfSome, IsTrue};
+ghost use Rattle.std.specs.Prelude.{◌≡◌, ◌≢◌, ◌≤◌, ◌<◌, ◌+◌, ◌↔◌, ℕ, length, map, take, drop, slice_index_or, All, IfSome, IsTrue};
 ghost use Rattle.std.specs.List.Sorted.{IsPermutation};
-ghost use Rattle.amqp_canonical.specs.Leads.{HasLead, key_at};
-ghost use Rattle.amqp_canonical.specs.Marks.{AreEntries, AreInOrder, AreMarks, AreOfTable, AreRead, Follows, blank, marked_entry, ties};
+ghost use Rattle.amqp_canonical.specs.Leads.{key_at};
+ghost use Rattle.amqp_canonical.specs.Marks.{AreEntries, AreInOrder, AreMarks, AreOfTable, AreRead, Follows, IsMarked, blank, marked_entry, ties};
 
-use crate::leads::{first_eight, next_four};
-use crate::spans::{bytes_from, entry_size, split_key};
+use crate::leads::{first_eight, next_two};
+use crate::spans::{Span, bytes_from, entry_span, split_key};
 use std::cmp::Ordering;
 
 /// What an entry of a table is sorted by, and where it stands. For n bytes the calls that write want n / 2 of them,
@@ -16,11 +16,15 @@ pub struct Mark {
     /// The first eight bytes of the key as a number, with zeros after a shorter key.
     lead: u64,
 
-    /// The four bytes after them.
-    more: u32,
-
     /// Where the entry begins in the content of its table.
-    place: u32,
+    pub(crate) place: u32,
+
+    /// The two bytes of the key after its first eight.
+    more: u16,
+
+    /// How many bytes the entry takes, where they are its canonical bytes by its tag alone. Else 0, and where they are more
+    /// than 65,535.
+    pub(crate) size: u16,
 }
 
 /// The bytes from a mark's place on.
@@ -30,12 +34,24 @@ pub(crate) fn marked(content: &[u8], mark: Mark) -> &[u8]
     bytes_from(content, mark.place as usize)
 }
 
+/// How many bytes are copied. 0 where none are, and where they are more than a mark has room for.
+#[inline(always)]
+fn size_copied(span: Span) -> u16
+    ensures { result ≢ 0 → IsTrue span.copied × (result ≡ span.size) }
+{
+    if span.copied && span.size <= u16::MAX as usize {
+        span.size as u16
+    } else {
+        0
+    }
+}
+
 /// Marks the entries that fill a table, as they stand, and returns how many there are. None where there are more than
 /// marks.
 fn mark_entries(marks: &mut [Mark], content: &[u8]) -> Option<usize>
     ensures len { length marks.new ≡ length marks.old }
     ensures within { IfSome result (λ count. count ≤ length marks.new) }
-    ensures leads { IfSome result (λ count. All (HasLead content.now) (take count marks.new)) }
+    ensures each { IfSome result (λ count. All (IsMarked content.now) (take count marks.new)) }
     ensures marked { IfSome result (λ count. (room : ℕ) → AreEntries room content.now → AreMarks room content.now (take count marks.new)) }
 {
     if content.len() > u32::MAX as usize {
@@ -49,13 +65,15 @@ fn mark_entries(marks: &mut [Mark], content: &[u8]) -> Option<usize>
         }
         let entry = &content[at..];
         let (key, _) = split_key(entry);
+        let span = entry_span(entry);
         marks[count] = Mark {
             lead: first_eight(key),
-            more: next_four(key),
             place: at as u32,
+            more: next_two(key),
+            size: size_copied(span),
         };
         count += 1;
-        at += entry_size(entry);
+        at += span.size;
     }
     Some(count)
 }
@@ -107,7 +125,7 @@ fn key_follows(content: &[u8], previous: Mark, mark: Mark) -> bool
 /// The same, by the first bytes of the keys where these differ.
 #[inline(always)]
 fn follows(content: &[u8], previous: &Mark, mark: &Mark) -> bool
-    requires { HasLead content.now previous.now × HasLead content.now mark.now }
+    requires { IsMarked content.now previous.now × IsMarked content.now mark.now }
     ensures { IsTrue result → Follows content.now previous.now mark.now }
 {
     if previous.lead != mark.lead {
@@ -121,7 +139,7 @@ fn follows(content: &[u8], previous: &Mark, mark: &Mark) -> bool
 
 /// Whether each mark follows the one before it.
 fn are_in_order(marks: &[Mark], content: &[u8]) -> bool
-    requires { All (HasLead content.now) marks.now }
+    requires { All (IsMarked content.now) marks.now }
     ensures { IsTrue result → AreInOrder content.now marks.now }
 {
     let mut k = 1;
@@ -136,7 +154,7 @@ fn are_in_order(marks: &[Mark], content: &[u8]) -> bool
 
 /// Puts marks in order, and returns whether they are.
 fn put_in_order(marks: &mut [Mark], content: &[u8]) -> bool
-    requires { All (HasLead content.now) marks.old }
+    requires { All (IsMarked content.now) marks.old }
     ensures permuted { IsPermutation marks.old marks.new }
     ensures order { IsTrue result → AreInOrder content.now marks.new }
 {
@@ -148,7 +166,7 @@ fn put_in_order(marks: &mut [Mark], content: &[u8]) -> bool
 /// more than marks.
 pub(crate) fn mark_in_order(marks: &mut [Mark], content: &[u8]) -> Option<usize>
     ensures within { IfSome result (λ count. count ≤ length marks.new) }
-    ensures leads { IfSome result (λ count. All (HasLead content.now) (take count marks.new)) }
+    ensures each { IfSome result (λ count. All (IsMarked content.now) (take count marks.new)) }
     ensures table { IfSome result (λ count. (room : ℕ) → AreEntries room content.now → AreOfTable room content.now (take count marks.new)) }
 {
     let count = mark_entries(marks, content)?;
@@ -173,7 +191,7 @@ fn is_same_key(content: &[u8], mark: Mark, next: Mark) -> bool
 #[inline(always)]
 pub(crate) fn is_tied(marks: &[Mark], content: &[u8], k: usize) -> bool
     requires here { k < length marks.now }
-    requires leads { All (HasLead content.now) marks.now }
+    requires each { All (IsMarked content.now) marks.now }
     ensures { (room : ℕ) → AreRead room content.now marks.now
         → result ≡ ties (marked_entry room content.now (slice_index_or marks.now k blank)) (map (marked_entry room content.now) (drop (k + 1) marks.now)) }
 {

@@ -1,16 +1,26 @@
 //! Where the parts of values and entries lie, told by tags and lengths alone.
 
-ghost use Rattle.std.specs.Prelude.{◌≡◌, ◌≤◌, ◌<◌, ◌+◌, ℕ, length, drop, IfSome};
+ghost use Rattle.std.specs.Prelude.{◌≡◌, ◌≤◌, ◌<◌, ◌+◌, ℕ, length, drop, IsTrue};
 ghost use Rattle.amqp_types.specs.Judging.{Judge};
 ghost use Rattle.amqp_types.specs.Strings.{judge_long_string};
-ghost use Rattle.amqp_types.specs.ValueBytes.{tagged_bytes};
+ghost use Rattle.amqp_types.specs.ValueBytes.{tagged_bytes, value_bytes};
 ghost use Rattle.amqp_types.specs.ValueJudging.{judge_entry, judge_behind, judge_value, nested};
 ghost use Rattle.amqp_types.specs.declared.tag.FieldTag.{FieldTag};
 ghost use Rattle.amqp_canonical.specs.Judgements.{IsShort, layout_at};
-ghost use Rattle.amqp_canonical.specs.Writes.{IsRead, IsCopied, canonical_of, used_of, key_in, after_key};
+ghost use Rattle.amqp_canonical.specs.Writes.{IsRead, IsCopied, canonical_of, entry_bytes, used_of, key_in, after_key};
 
-use crate::values::{Layout, is_written, layout_after};
+use crate::values::{Layout, TagByte, layout_after};
 use amqp_types::parse_long_bytes;
+
+/// How many bytes a value or an entry takes.
+#[derive(Clone, Copy)]
+pub(crate) struct Span {
+    /// So many.
+    pub(crate) size: usize,
+
+    /// Whether they are its canonical bytes by its tag alone, so that they can be copied.
+    pub(crate) copied: bool,
+}
 
 /// How many bytes a length and what it covers take at the front, where both were read there.
 #[inline(always)]
@@ -39,37 +49,72 @@ pub(crate) fn size_in(layout: Layout, i: &[u8]) -> usize
     }
 }
 
+/// What the value after a tag takes at the front, where it was read there.
+#[inline(always)]
+fn span_after(tag: TagByte, i: &[u8]) -> Span
+    requires { IsShort tag.layout }
+    ensures used { (room : ℕ) (t : FieldTag) → layout_at t ≡ tag.layout
+        → IsRead (judge_behind (nested room) t i.now) → result.size ≡ used_of (judge_behind (nested room) t i.now) }
+    ensures written { IsTrue result.copied → IsTrue tag.written }
+    ensures copied { IsTrue result.copied → (room : ℕ) (t : FieldTag) → layout_at t ≡ tag.layout
+        → IsRead (judge_behind (nested room) t i.now) → IsCopied value_bytes i.now result.size (judge_behind (nested room) t i.now) }
+    ensures bound { result.size ≤ length i.now + 8 }
+{
+    match tag.layout {
+        Layout::Fixed(n) => Span {
+            size: n,
+            copied: tag.written,
+        },
+        Layout::Counted => Span {
+            size: long_size(i),
+            copied: tag.written,
+        },
+        Layout::OneBoolean => Span {
+            size: 1,
+            copied: false,
+        },
+        Layout::Values | Layout::Entries => Span {
+            size: long_size(i),
+            copied: false,
+        },
+    }
+}
+
+/// What a value takes at the front, with its tag, where one was read there.
+#[inline(always)]
+pub(crate) fn value_span(i: &[u8]) -> Span
+    ensures used { (room : ℕ) → IsRead (judge_value room i.now) → result.size ≡ used_of (judge_value room i.now) }
+    ensures copied { IsTrue result.copied → (room : ℕ) → IsRead (judge_value room i.now) → IsCopied tagged_bytes i.now result.size (judge_value room i.now) }
+    ensures bound { result.size ≤ length i.now + 8 }
+{
+    match i {
+        [] => Span {
+            size: 0,
+            copied: false,
+        },
+        [byte, rest @ ..] => match layout_after(*byte) {
+            Some(tag) => {
+                let after = span_after(tag, rest);
+                Span {
+                    size: 1 + after.size,
+                    copied: after.copied,
+                }
+            }
+            None => Span {
+                size: 0,
+                copied: false,
+            },
+        },
+    }
+}
+
 /// How many bytes a value takes at the front, with its tag, where one was read there.
 #[inline(always)]
 pub fn value_size(i: &[u8]) -> usize
     ensures used { (room : ℕ) → IsRead (judge_value room i.now) → result ≡ used_of (judge_value room i.now) }
     ensures bound { result ≤ length i.now + 8 }
 {
-    match i {
-        [] => 0,
-        [byte, rest @ ..] => match layout_after(*byte) {
-            Some(layout) => 1 + size_in(layout, rest),
-            None => 0,
-        },
-    }
-}
-
-/// How many bytes a value takes at the front, with its tag, that stands in its canonical bytes whatever it is, where one
-/// was read there. None of a value of another kind.
-#[inline(always)]
-pub(crate) fn copied_size(i: &[u8]) -> Option<usize>
-    ensures copied { IfSome result (λ n. (room : ℕ) → IsRead (judge_value room i.now) → IsCopied tagged_bytes i.now n (judge_value room i.now)) }
-    ensures bound { IfSome result (λ n. n ≤ length i.now + 8) }
-{
-    match i {
-        [] => None,
-        [byte, rest @ ..] if is_written(*byte) => match layout_after(*byte) {
-            Some(Layout::Fixed(n)) => Some(1 + n),
-            Some(Layout::Counted) => Some(1 + long_size(rest)),
-            _ => None,
-        },
-        _ => None,
-    }
+    value_span(i).size
 }
 
 /// What an array or a table at the front holds, where one was read there.
@@ -105,6 +150,23 @@ pub fn split_key(i: &[u8]) -> (&[u8], &[u8])
     }
 }
 
+/// What an entry takes at the front, where one was read there.
+#[inline(always)]
+pub(crate) fn entry_span(i: &[u8]) -> Span
+    ensures used { (room : ℕ) → IsRead (judge_entry (judge_value room) i.now) → result.size ≡ used_of (judge_entry (judge_value room) i.now) }
+    ensures copied { IsTrue result.copied → (room : ℕ) → IsRead (judge_entry (judge_value room) i.now)
+        → IsCopied entry_bytes i.now result.size (judge_entry (judge_value room) i.now) }
+    ensures some { 0 < result.size }
+    ensures bound { result.size ≤ length i.now + 9 }
+{
+    let (key, value) = split_key(i);
+    let after = value_span(value);
+    Span {
+        size: 1 + key.len() + after.size,
+        copied: after.copied,
+    }
+}
+
 /// How many bytes an entry takes at the front, where one was read there.
 #[inline(always)]
 pub fn entry_size(i: &[u8]) -> usize
@@ -112,6 +174,5 @@ pub fn entry_size(i: &[u8]) -> usize
     ensures some { 0 < result }
     ensures bound { result ≤ length i.now + 9 }
 {
-    let (key, value) = split_key(i);
-    1 + key.len() + value_size(value)
+    entry_span(i).size
 }

@@ -8,7 +8,18 @@ ghost use Rattle.amqp_types.specs.Strings.{judge_short_string};
 use amqp_types::ParserError;
 use std::str;
 
-/// Whether bytes are UTF-8.
+/// Whether bytes are UTF-8, which is seldom asked of bytes that are not ASCII.
+#[inline(never)]
+fn is_utf8_text(bytes: &[u8]) -> bool
+    ensures { result ≡ is_utf8 bytes.now }
+{
+    match str::from_utf8(bytes) {
+        Ok(_) => true,
+        Err(_) => false,
+    }
+}
+
+/// The same, told at once of ASCII.
 #[inline(always)]
 fn is_text(bytes: &[u8]) -> bool
     ensures { result ≡ is_utf8 bytes.now }
@@ -16,10 +27,7 @@ fn is_text(bytes: &[u8]) -> bool
     if bytes.is_ascii() {
         return true;
     }
-    match str::from_utf8(bytes) {
-        Ok(_) => true,
-        Err(_) => false,
-    }
+    is_utf8_text(bytes)
 }
 
 /// Reads a short string, and borrows its text.

@@ -1,7 +1,6 @@
 //! Judging values, arrays and tables at the front of a slice.
 
-ghost use Rattle.std.specs.Prelude.{◌≡◌, ◌≤◌, ◌<◌, ◌↔◌, Some, length, IfOk, IfSome, IsTrue};
-ghost use Rattle.amqp_types.specs.Tags.{tag_at, tag_byte};
+ghost use Rattle.std.specs.Prelude.{◌≡◌, ◌≤◌, ◌<◌, ◌↔◌, Some, true, false, length, IfOk, IfSome, IsTrue};
 ghost use Rattle.amqp_types.specs.Booleans.{judge_boolean};
 ghost use Rattle.amqp_types.specs.ValueJudging.{filled, nested, inside_error, judge_entry, judge_array, judge_table, judge_behind, judge_value};
 ghost use Rattle.amqp_canonical.specs.Judgements.{layout_at, layout_after_byte, IsShort, IsAbove, IsBelow, MayRefuse, IsCanonicalBoolean, IsCanonicalAfterTag, IsCanonicalValue, AreCanonicalValues, AreCanonicalEntries, IsCanonicalArray, IsCanonicalTable, Judges, JudgesEntry, JudgesWhole};
@@ -59,33 +58,60 @@ pub(crate) fn layout_of(tag: FieldTag) -> Layout
     }
 }
 
-/// How what stands after a tag byte is laid out. None where the byte is no tag.
-#[inline(always)]
-pub(crate) fn layout_after(byte: u8) -> Option<Layout>
-    ensures is { result ≡ layout_after_byte byte }
-    ensures few { IfSome result IsShort }
-{
-    match byte {
-        b'V' => Some(Layout::Fixed(0)),
-        b'b' | b'B' => Some(Layout::Fixed(1)),
-        b's' | b'u' | b'U' => Some(Layout::Fixed(2)),
-        b'I' | b'i' | b'f' => Some(Layout::Fixed(4)),
-        b'D' => Some(Layout::Fixed(5)),
-        b'l' | b'L' | b'd' | b'T' => Some(Layout::Fixed(8)),
-        b't' => Some(Layout::OneBoolean),
-        b'S' | b'x' => Some(Layout::Counted),
-        b'A' => Some(Layout::Values),
-        b'F' => Some(Layout::Entries),
-        _ => None,
-    }
+/// A tag byte that is read.
+#[derive(Clone, Copy)]
+pub(crate) struct TagByte {
+    /// How what stands after it is laid out.
+    pub(crate) layout: Layout,
+
+    /// Whether it is the one that is written for its tag.
+    pub(crate) written: bool,
 }
 
-/// Whether a tag byte is the one that is written for its tag: `U` and `L` are read, and never written.
+/// A tag byte that is the one that is written for its tag.
 #[inline(always)]
-pub(crate) fn is_written(byte: u8) -> bool
-    ensures { (tag : FieldTag) → tag_at byte ≡ Some tag → IsTrue result ↔ (tag_byte tag ≡ byte) }
+fn written(layout: Layout) -> Option<TagByte>
+    ensures { result ≡ Some (record { layout = layout; written = true }) }
 {
-    byte != b'U' && byte != b'L'
+    Some(TagByte {
+        layout,
+        written: true,
+    })
+}
+
+/// A tag byte in whose place another one is written.
+#[inline(always)]
+fn only_read(layout: Layout) -> Option<TagByte>
+    ensures { result ≡ Some (record { layout = layout; written = false }) }
+{
+    Some(TagByte {
+        layout,
+        written: false,
+    })
+}
+
+/// How what stands after a tag byte is laid out, and whether the byte is the one that is written for its tag: `U` and `L`
+/// are read, and never written. None where the byte is no tag.
+#[inline(always)]
+pub(crate) fn layout_after(byte: u8) -> Option<TagByte>
+    ensures is { result ≡ layout_after_byte byte }
+    ensures few { IfSome result (λ tag. IsShort tag.layout) }
+{
+    match byte {
+        b'V' => written(Layout::Fixed(0)),
+        b'b' | b'B' => written(Layout::Fixed(1)),
+        b's' | b'u' => written(Layout::Fixed(2)),
+        b'U' => only_read(Layout::Fixed(2)),
+        b'I' | b'i' | b'f' => written(Layout::Fixed(4)),
+        b'D' => written(Layout::Fixed(5)),
+        b'l' | b'd' | b'T' => written(Layout::Fixed(8)),
+        b'L' => only_read(Layout::Fixed(8)),
+        b't' => written(Layout::OneBoolean),
+        b'S' | b'x' => written(Layout::Counted),
+        b'A' => written(Layout::Values),
+        b'F' => written(Layout::Entries),
+        _ => None,
+    }
 }
 
 /// An error of what stands inside a table or an array whose bytes are all there.
@@ -110,13 +136,12 @@ fn is_above(key: &[u8], previous: &[u8]) -> bool
     }
 }
 
-/// Whether a key comes after the previous one, where there is one. It is not looked at where the entries before are not
-/// canonical, and true is returned then.
+/// Whether a key comes after the previous one, where there is one.
 #[inline(always)]
-fn is_next(canonical: bool, at: usize, key: &[u8], previous: &[u8]) -> bool
-    ensures { IsTrue canonical → IsAbove at previous.now key.now result }
+fn is_next(at: usize, key: &[u8], previous: &[u8]) -> bool
+    ensures { IsAbove at previous.now key.now result }
 {
-    !canonical || at == 0 || is_above(key, previous)
+    at == 0 || is_above(key, previous)
 }
 
 /// Judges a truth value.
@@ -144,11 +169,11 @@ pub fn judge_value(i: &[u8], room: usize) -> Result<ValueJudgement, ParserError>
         [] => Err(ParserError::Incomplete),
         [byte, rest @ ..] => match layout_after(*byte) {
             None => Err(ParserError::UnknownTag),
-            Some(layout) => {
-                let value = judge_after_tag(layout, rest, room)?;
+            Some(tag) => {
+                let value = judge_after_tag(tag.layout, rest, room)?;
                 Ok(ValueJudgement {
                     used: 1 + value.used,
-                    canonical: value.canonical & is_written(*byte),
+                    canonical: value.canonical & tag.written,
                 })
             }
         },
@@ -196,7 +221,7 @@ fn judge_after_tag(layout: Layout, i: &[u8], room: usize) -> Result<ValueJudgeme
 }
 
 /// Judges an array, in whose values tables and arrays may nest `room` deep.
-#[inline(never)]
+#[inline(always)]
 #[cycle(judge)]
 pub fn judge_array(i: &[u8], room: usize) -> Result<ValueJudgement, ParserError>
     ensures judged { Judges IsCanonicalArray i.now result (judge_array (judge_value room) i.now) }
@@ -208,7 +233,7 @@ pub fn judge_array(i: &[u8], room: usize) -> Result<ValueJudgement, ParserError>
 }
 
 /// Judges a table, in whose values tables and arrays may nest `room` deep (AMQP 0-9-1, section 4.2.5.5).
-#[inline(never)]
+#[inline(always)]
 #[cycle(judge)]
 pub fn judge_table(i: &[u8], room: usize) -> Result<ValueJudgement, ParserError>
     ensures judged { Judges IsCanonicalTable i.now result (judge_table (judge_value room) i.now) }
@@ -220,6 +245,7 @@ pub fn judge_table(i: &[u8], room: usize) -> Result<ValueJudgement, ParserError>
 }
 
 /// Judges the values that fill an array, and returns whether these are their canonical bytes.
+#[inline(never)]
 #[cycle(judge)]
 fn judge_values(content: &[u8], room: usize) -> Result<bool, ParserError>
     ensures { JudgesWhole AreCanonicalValues content.now result (filled (judge_value room) 0 content.now) }
@@ -238,6 +264,7 @@ fn judge_values(content: &[u8], room: usize) -> Result<bool, ParserError>
 }
 
 /// Judges the entries that fill a table, and returns whether these are their canonical bytes and each key is above the previous one.
+#[inline(never)]
 #[cycle(judge)]
 fn judge_entries(content: &[u8], room: usize) -> Result<bool, ParserError>
     ensures { JudgesWhole AreCanonicalEntries content.now result (filled (judge_entry (judge_value room)) 0 content.now) }
@@ -245,20 +272,27 @@ fn judge_entries(content: &[u8], room: usize) -> Result<bool, ParserError>
     let mut previous: &[u8] = &[];
     let mut canonical = true;
     let mut at = 0;
-    while at < content.len() {
+    while canonical && at < content.len() {
         let (item, key) = match judge_entry(&content[at..], room) {
             Ok(found) => found,
             Err(error) => return Err(inside(error)),
         };
-        let above = is_next(canonical, at, key, previous);
-        canonical = canonical & item.canonical & above;
+        canonical = item.canonical & is_next(at, key, previous);
         previous = key;
         at += item.used;
+    }
+    // Where one is not canonical, the others are only read, and their keys are not compared.
+    while at < content.len() {
+        at += match judge_entry(&content[at..], room) {
+            Ok((item, _)) => item.used,
+            Err(error) => return Err(inside(error)),
+        };
     }
     Ok(canonical)
 }
 
 /// Judges a key and its value, and lends the key.
+#[inline(always)]
 #[cycle(judge)]
 fn judge_entry(i: &[u8], room: usize) -> Result<(ValueJudgement, &[u8]), ParserError>
     ensures judged { JudgesEntry (λ key. key.now) i.now result (judge_entry (judge_value room) i.now) }

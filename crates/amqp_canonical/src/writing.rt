@@ -6,12 +6,11 @@ ghost use Rattle.amqp_types.specs.ValueBytes.{array_bytes, table_bytes, tagged_b
 ghost use Rattle.amqp_types.specs.ValueJudging.{filled, nested, judge_array, judge_behind, judge_entry, judge_table, judge_value};
 ghost use Rattle.amqp_types.specs.Writing.{Puts};
 ghost use Rattle.amqp_canonical.specs.Writes.{IsRead, IsFilled, array_content, canonical_of, entry_bytes, items_of, table_content};
-ghost use Rattle.amqp_canonical.specs.Leads.{HasLead};
-ghost use Rattle.amqp_canonical.specs.Marks.{AreEntries, entries_in, entry_at, last_of_ties, marked_entry};
+ghost use Rattle.amqp_canonical.specs.Marks.{AreEntries, IsMarked, entries_in, entry_at, last_of_ties, marked_entry};
 
-use crate::marks::{Mark, is_tied, mark_in_order, marked};
+use crate::marks::{Mark, is_tied, mark_in_order};
 use crate::selection::next_entry;
-use crate::spans::{bytes_from, content_of, copied_size, size_in, split_key, value_size};
+use crate::spans::{bytes_from, content_of, size_in, split_key, value_size};
 use crate::values::{Layout, layout_of};
 use amqp_types::{FieldTag, put_boolean, put_bytes, put_long_uint};
 
@@ -137,7 +136,7 @@ fn put_marked(
     room: usize,
 ) -> usize
     requires read { All (λ mark. IsRead (entry_at room content.now mark.place)) marks.now }
-    requires leads { All (HasLead content.now) marks.now }
+    requires each { All (IsMarked content.now) marks.now }
     requires room { at + length (table_content (last_of_ties (map (marked_entry room content.now) marks.now))) ≤ length buf.old }
     ensures { Puts buf.old buf.new at (table_content (last_of_ties (map (marked_entry room content.now) marks.now))) result }
 {
@@ -145,11 +144,35 @@ fn put_marked(
     let mut k = 0;
     while k < marks.len() {
         if !is_tied(marks, content, k) {
-            end = put_entry(buf, end, scratch, marked(content, marks[k]), room);
+            end = put_mark(buf, end, scratch, content, &marks[k], room);
         }
         k += 1;
     }
     end
+}
+
+/// Puts the canonical bytes of a marked entry. Most stand in them, and are copied in one piece.
+#[inline(always)]
+#[cycle(write)]
+fn put_mark(
+    buf: &mut [u8],
+    at: usize,
+    scratch: &mut [Mark],
+    content: &[u8],
+    mark: &Mark,
+    room: usize,
+) -> usize
+    requires read { IsRead (entry_at room content.now mark.now.place) }
+    requires is { IsMarked content.now mark.now }
+    requires room { at + length (canonical_of entry_bytes (entry_at room content.now mark.now.place)) ≤ length buf.old }
+    ensures { Puts buf.old buf.new at (canonical_of entry_bytes (entry_at room content.now mark.now.place)) result }
+{
+    let place = mark.place as usize;
+    let size = mark.size as usize;
+    if size != 0 {
+        return put_bytes(buf, at, &content[place..place + size]);
+    }
+    put_entry(buf, at, scratch, bytes_from(content, place), room)
 }
 
 /// Puts the canonical bytes of the entries that fill a table, each found by its key. This takes quadratic time, and no
@@ -175,8 +198,7 @@ fn put_selected(
     end
 }
 
-/// Puts the canonical bytes of an entry. Most stand in them, and are copied in one piece.
-#[inline(always)]
+/// Puts the canonical bytes of an entry, its key and then its value.
 #[cycle(write)]
 fn put_entry(buf: &mut [u8], at: usize, scratch: &mut [Mark], i: &[u8], room: usize) -> usize
     requires read { IsRead (judge_entry (judge_value room) i.now) }
@@ -184,13 +206,8 @@ fn put_entry(buf: &mut [u8], at: usize, scratch: &mut [Mark], i: &[u8], room: us
     ensures { Puts buf.old buf.new at (canonical_of entry_bytes (judge_entry (judge_value room) i.now)) result }
 {
     let (key, value) = split_key(i);
-    match copied_size(value) {
-        Some(size) => put_bytes(buf, at, &i[..1 + key.len() + size]),
-        None => {
-            let place = put_bytes(buf, at, &i[..1 + key.len()]);
-            put_value(buf, place, scratch, value, room)
-        }
-    }
+    let place = put_bytes(buf, at, &i[..1 + key.len()]);
+    put_value(buf, place, scratch, value, room)
 }
 
 #[cfg(test)]

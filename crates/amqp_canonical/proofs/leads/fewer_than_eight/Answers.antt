@@ -1,4 +1,4 @@
-use Rattle.std.proofs.Common.{◌≡◌, ◌<◌, ◌≤◌, ℕ, List, length, get_or, arith}
+use Rattle.std.proofs.Common.{◌≡◌, ◌≤◌, ℕ, get_or, arith}
 use Rattle.amqp_canonical.proofs.Leading.{eight_are, beyond}
 use Rattle.amqp_canonical.proofs.leads.fewer_than_eight.Goals as goal
 

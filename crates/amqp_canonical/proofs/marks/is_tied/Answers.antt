@@ -1,5 +1,4 @@
-use Rattle.std.proofs.Common.{refl, ◌≡◌, ◌<◌, ◌+◌, ◌∙◌, ◌↔◌, false, length, get_or, arith}
-use Rattle.std.specs.Prelude.{IsTrue}
+use Rattle.std.proofs.Common.{refl, ◌<◌, ◌+◌, ◌∙◌, false, length, get_or, arith}
 use Rattle.amqp_canonical.specs.Leads.{key_at}
 use Rattle.amqp_canonical.specs.Marks.{blank}
 use Rattle.amqp_canonical.proofs.InOrder.{cmp, tied_as}
@@ -14,7 +13,7 @@ returns-then-mark-next c = λ room read.
     let more : k + 1 < length marks = omega (arith, c.requires.here, c.if-k-marks.false) in
     let here = get_or marks k blank in
     let next = get_or marks (k + 1) blank in
-    let differ = never (key_at content here) (key_at content next) (λ same. c.if-mark-next.true (same_lead content here next (c.requires.leads k blank c.requires.here) (c.requires.leads (k + 1) blank more) same).0) in
+    let differ = never (key_at content here) (key_at content next) (λ same. c.if-mark-next.true (same_lead content here next (c.requires.each k blank c.requires.here) (c.requires.each (k + 1) blank more) same).0) in
     same_test (key_at content here) (key_at content next) false differ ∙ tied_as room content marks k (cmp (key_at content here) (key_at content next)) read more refl
 
 pub returns-then-mark-next-2 : goal.returns-then-mark-next-2
@@ -25,7 +24,7 @@ returns-then-mark-next-2 c = λ room read.
     let more : k + 1 < length marks = omega (arith, c.requires.here, c.if-k-marks.false) in
     let here = get_or marks k blank in
     let next = get_or marks (k + 1) blank in
-    let differ = never (key_at content here) (key_at content next) (λ same. c.if-mark-next-2.true (same_lead content here next (c.requires.leads k blank c.requires.here) (c.requires.leads (k + 1) blank more) same).1) in
+    let differ = never (key_at content here) (key_at content next) (λ same. c.if-mark-next-2.true (same_lead content here next (c.requires.each k blank c.requires.here) (c.requires.each (k + 1) blank more) same).1) in
     same_test (key_at content here) (key_at content next) false differ ∙ tied_as room content marks k (cmp (key_at content here) (key_at content next)) read more refl
 
 pub returns : goal.returns

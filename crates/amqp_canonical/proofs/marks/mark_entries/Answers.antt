@@ -1,15 +1,17 @@
-use Rattle.std.proofs.Common.{refl, ◌≡◌, ◌+◌, ◌∙◌, ◌<◌, List, length, take, drop, sym, ap, subst, arith}
+use Rattle.std.proofs.Common.{refl, ◌+◌, ◌∙◌, ◌<◌, List, length, take, drop, sym, ap, subst, arith}
 use Rattle.std.specs.Prelude.{All}
-use Rattle.amqp_canonical.specs.Leads.{leading, HasLead}
-use Rattle.amqp_canonical.specs.Writes.{key_in}
-use Rattle.amqp_canonical.proofs.Leading.{all_leads}
+use Rattle.amqp_canonical.specs.Leads.{leading}
+use Rattle.amqp_canonical.specs.Marks.{IsMarked}
+use Rattle.amqp_canonical.specs.Writes.{entry_bytes}
+use Rattle.amqp_canonical.proofs.Leading.{all_marked}
 use Rattle.std.proofs.lemmas.List.{take_more_set, length-set, take_rest}
 use Rattle.amqp_canonical.specs.declared.marks.Mark.{Mark}
 use Rattle.amqp_canonical.proofs.Marking.{MarkedTo, marked_next, marked_end}
+use Rattle.amqp_canonical.proofs.PutParts.{copied_as}
 use Rattle.amqp_canonical.proofs.marks.mark_entries.Goals as goal
 
 pub loop-at-smaller : goal.loop-at-smaller
-loop-at-smaller c = omega (arith, c.loop-at-test.true, c.entry_size-at.ensures.some)
+loop-at-smaller c = omega (arith, c.loop-at-test.true, c.entry_span-span.ensures.some)
 
 pub loop-at-preserved : goal.loop-at-preserved
 loop-at-preserved c =
@@ -17,19 +19,24 @@ loop-at-preserved c =
     let count = c.loop-at.count in
     let marks = c.loop-at.marks in
     let content = c.args.content.now in
-    let size = c.entry_size-at.result in
-    let mark : Mark = record { lead = c.first_eight.result; more = c.next_four.result; place = at } in
+    let span = c.entry_span-span.result in
+    let mark : Mark = record { lead = c.first_eight.result; place = at; more = c.next_two.result; size = c.size_copied.result } in
     let more : count < length marks = omega (arith, c.loop-at.invariant.1, c.if-count-marks.false) in
     let key = (rw take_rest at c.split_key.ensures.key) in
-    let has : HasLead content mark = record { first = c.first_eight.ensures ∙ ap (leading 8) key; next = c.next_four.ensures ∙ ap (λ k. leading 4 (drop 8 k)) key } in
-    let L : List Mark → Type 0 = λ ms. All (HasLead content) ms in
-    let sized = rw take_rest at c.entry_size-at.ensures.used in (
+    let sized = rw take_rest at c.entry_span-span.ensures.used in
+    let copied = rw take_rest at c.entry_span-span.ensures.copied in
+    let is : IsMarked content mark = record {
+      first = c.first_eight.ensures ∙ ap (leading 8) key;
+      next = c.next_two.ensures ∙ ap (λ k. leading 2 (drop 8 k)) key;
+      copied = λ some room read. let fits = c.size_copied.ensures some in copied_as entry_bytes (drop at content) span.size c.size_copied.result _ (sym fits.1) (copied fits.0 room read);
+    } in
+    let L : List Mark → Type 0 = λ ms. All (IsMarked content) ms in (
       length-set marks count mark ∙ c.loop-at.invariant.0,
       omega (arith, more, length-set marks count mark),
-      subst L (sym (take_more_set marks count mark more)) (all_leads content (take count marks) mark c.loop-at.invariant.2 has),
+      subst L (sym (take_more_set marks count mark more)) (all_marked content (take count marks) mark c.loop-at.invariant.2 is),
       λ room read.
-          let P : List Mark → Type 0 = λ ms. MarkedTo room content (at + size) ms in
-          subst P (sym (take_more_set marks count mark more)) (marked_next room content at size (take count marks) mark (λ k. omega (arith, c.type_inv.content k)) c.loop-at-test.true (sized room) refl (c.loop-at.invariant.3 room read)),
+          let P : List Mark → Type 0 = λ ms. MarkedTo room content (at + span.size) ms in
+          subst P (sym (take_more_set marks count mark more)) (marked_next room content at span.size (take count marks) mark (λ k. omega (arith, c.type_inv.content k)) c.loop-at-test.true (sized room) refl (c.loop-at.invariant.3 room read)),
     )
 
 pub returns-clause-marked : goal.returns-clause-marked

@@ -1,15 +1,16 @@
-use Rattle.std.proofs.Common.{ℕ, ◌≤◌, List, Bor, length, drop, get_or, refl, sym, ◌∙◌, arith}
+use Rattle.std.proofs.Common.{ℕ, ◌≡◌, ◌≤◌, Bool, true, false, subst, List, Bor, length, drop, get_or, refl, sym, ◌∙◌, arith}
 use Rattle.std.proofs.lemmas.List.{length-drop, take_rest}
 use Rattle.amqp_types.specs.Tags.{tag_at}
 use Rattle.amqp_types.specs.ValueJudging.{judge_value, judge_entry, nested}
 use Rattle.amqp_values.proofs.Filling.{refused_at}
 use Rattle.amqp_canonical.specs.Judgements.{IsCanonicalAfterTag, IsCanonicalValue, IsCanonicalArray, IsCanonicalTable}
 use Rattle.amqp_canonical.proofs.Refusing.{err_judged, entry_err}
-use Rattle.amqp_canonical.proofs.Children.{values_next, values_end, entries_none, entries_next_if, entries_end}
-use Rattle.amqp_canonical.proofs.AfterTag.{fixed_past, fixed_took, taken, counted_took, counted_fails, boolean_behind, array_behind, table_behind, array_deep, table_deep, same_told, value_empty, value_unknown, value_fails, value_took_at, entry_unread, entry_fails, entry_took}
+use Rattle.amqp_canonical.proofs.Children.{EntriesTo, values_next, values_end, entries_none, entries_next, entries_read, entries_end}
+use Rattle.amqp_canonical.proofs.AfterTag.{fixed_past, fixed_took, taken, counted_took, counted_fails, boolean_behind, array_behind, table_behind, array_deep, table_deep, value_empty, value_unknown, value_fails, value_took_at, entry_unread, entry_fails, entry_took}
 use Rattle.amqp_canonical.proofs.TagBytes.{no_tag, some_tag}
 use Rattle.amqp_canonical.proofs.Whole.{array_unread, array_fails, array_took, table_unread, table_fails, table_took}
 use Rattle.amqp_canonical.proofs.values.+judge.Goals as goal
+use Rattle.amqp_canonical.proofs.values.+judge.Goals.{judge_entries-then-loop-canonical-test+else-at-content, judge_entries-else-loop-canonical-test}
 
 pub judge_array-returns-in_err-n-clause-judged : goal.judge_array-returns-in_err-n-clause-judged
 judge_array-returns-in_err-n-clause-judged t c = err_judged IsCanonicalArray c.args.i.now _ c.in_err-n.field-0.0 _ c.from_residual.ensures.1 (array_unread {A = Bor (List ℕ)} c.args.room c.args.i.now (λ b. b.now) c.in_err-n.field-0.0 c.in_err-n.ensures.judged)
@@ -62,18 +63,18 @@ pub judge_value-returns-in-empty-clause-judged : goal.judge_value-returns-in-emp
 judge_value-returns-in-empty-clause-judged t c = (λ e. cc, value_empty c.args.room c.args.i.now (omega (arith, c.in-empty.len_below)))
 
 pub judge_value-returns-in-None-clause-judged : goal.judge_value-returns-in-None-clause-judged
-judge_value-returns-in-None-clause-judged t c = (λ e. cc, value_unknown c.args.room c.args.i.now (omega (arith, c.in-len1-up.len_at_least)) (no_tag _ (sym c.layout_after.ensures.is ∙ c.in-None.is)))
+judge_value-returns-in-None-clause-judged t c = (λ e. cc, value_unknown c.args.room c.args.i.now (omega (arith, c.in-len1-up.len_at_least)) (no_tag (get_or c.args.i.now 0 0) _ (sym c.layout_after.ensures.is ∙ c.in-None.is)))
 
 pub judge_value-returns-in_err-value-in-Some-clause-judged : goal.judge_value-returns-in_err-value-in-Some-clause-judged
 judge_value-returns-in_err-value-in-Some-clause-judged t c =
-    let one = some_tag (tag_at (get_or c.args.i.now 0 0)) c.in-Some.layout (sym c.layout_after.ensures.is ∙ c.in-Some.is) in
+    let one = some_tag (get_or c.args.i.now 0 0) (tag_at (get_or c.args.i.now 0 0)) c.in-Some.tag (sym c.layout_after.ensures.is ∙ c.in-Some.is) in
     err_judged IsCanonicalValue c.args.i.now _ c.in_err-value-in-Some.field-0.0 _ c.from_residual.ensures.1
-    (value_fails c.args.room c.args.i.now one.0 c.in_err-value-in-Some.field-0.0 (omega (arith, c.in-len1-up.len_at_least)) one.1 (let judged = rw take_rest at c.in_err-value-in-Some.ensures.judged in judged one.0 one.2))
+    (value_fails c.args.room c.args.i.now one.tag c.in_err-value-in-Some.field-0.0 (omega (arith, c.in-len1-up.len_at_least)) one.is (let judged = rw take_rest at c.in_err-value-in-Some.ensures.judged in judged one.tag one.layout_is))
 
 pub judge_value-returns-in_ok-value-in-Some-clause-judged : goal.judge_value-returns-in_ok-value-in-Some-clause-judged
 judge_value-returns-in_ok-value-in-Some-clause-judged t c =
-    let one = some_tag (tag_at (get_or c.args.i.now 0 0)) c.in-Some.layout (sym c.layout_after.ensures.is ∙ c.in-Some.is) in
-    value_took_at c.args.room c.args.i.now one.0 c.in_ok-value-in-Some.value _ (omega (arith, c.in-len1-up.len_at_least)) one.1 (c.is_written.ensures one.0 one.1) (let judged = rw take_rest at c.in_ok-value-in-Some.ensures.judged in judged one.0 one.2)
+    let one = some_tag (get_or c.args.i.now 0 0) (tag_at (get_or c.args.i.now 0 0)) c.in-Some.tag (sym c.layout_after.ensures.is ∙ c.in-Some.is) in
+    value_took_at c.args.room c.args.i.now one.tag c.in_ok-value-in-Some.value _ (omega (arith, c.in-len1-up.len_at_least)) one.is (one.is_written) (let judged = rw take_rest at c.in_ok-value-in-Some.ensures.judged in judged one.tag one.layout_is)
 
 pub judge_values-returns-in-Err : goal.judge_values-returns-in-Err
 judge_values-returns-in-Err t c =
@@ -97,31 +98,64 @@ judge_values-loop-at-preserved t c =
 pub judge_values-returns : goal.judge_values-returns
 judge_values-returns t c = values_end c.args.room c.args.content.now c.loop-at.at c.loop-at.canonical c.loop-at-test.false c.loop-at.invariant.1
 
-pub judge_entries-loop-at-init : goal.judge_entries-loop-at-init
-judge_entries-loop-at-init t c = (omega arith, entries_none c.args.room c.args.content.now)
+pub judge_entries-loop-canonical-init : goal.judge_entries-loop-canonical-init
+judge_entries-loop-canonical-init t c = (omega arith, entries_none c.args.room c.args.content.now)
 
 pub judge_entries-returns-in-Err : goal.judge_entries-returns-in-Err
 judge_entries-returns-in-Err t c =
-    let l = c.loop-at in
+    let l = c.loop-canonical in
     let all = c.args.content.now in
     let failed = rw take_rest at c.in-Err.ensures.judged in
     (c.inside.ensures.memory, refused_at (judge_entry (judge_value c.args.room)) _ c.in-Err.error _ (drop l.at all) _ (omega (arith, length-drop l.at all)) c.inside.ensures.is failed.1 l.invariant.1.rest)
 
-pub judge_entries-loop-at-preserved : goal.judge_entries-loop-at-preserved
-judge_entries-loop-at-preserved t c =
-    let l = c.loop-at in
+pub judge_entries-loop-canonical-preserved : goal.judge_entries-loop-canonical-preserved
+judge_entries-loop-canonical-preserved t c =
+    let l = c.loop-canonical in
     let all = c.args.content.now in
     let item = c.in-Ok.found.0 in
     let key = c.in-Ok.found.1.now in
     let found = rw take_rest at c.in-Ok.ensures.judged in
     let used = c.in-Ok.ensures.used in
+    let fits : item.used ≤ length (drop l.at all) = rw take_rest at used.1 in
+    let P : Bool → Type 0 = λ b. EntriesTo c.args.room all l.at l.previous.now b in (
+      omega (arith, fits, length-drop l.at all),
+      entries_next c.args.room all l.at item.used l.previous.now key found.value true item.canonical c.is_next.result (λ k. omega (arith, c.type_inv.content k)) c.if-at-content.true found.is used.0 fits found.told c.is_next.ensures (subst P c.loop-canonical-test.true l.invariant.1),
+    )
+
+pub judge_entries-loop-at-init : goal.judge_entries-loop-at-init
+judge_entries-loop-at-init t c =
+    let l = c.loop-canonical in (
+      l.invariant.0,
+      λ is. elim c.loop-canonical-test.branch [
+        | judge_entries-then-loop-canonical-test+else-at-content w ↦ w.if-at-content.false
+        | judge_entries-else-loop-canonical-test w ↦ absurd (let not : l.canonical ≡ false = w.loop-canonical-test.false in cc)
+      ],
+      (l.previous.now, l.invariant.1),
+    )
+
+pub judge_entries-returns-in-Err-judge_entry : goal.judge_entries-returns-in-Err-judge_entry
+judge_entries-returns-in-Err-judge_entry t c =
+    let l = c.loop-at in
+    let all = c.args.content.now in
+    let failed = rw take_rest at c.in-Err-judge_entry.ensures.judged in
+    (c.inside-in-Err-judge_entry.ensures.memory, refused_at (judge_entry (judge_value c.args.room)) _ c.in-Err-judge_entry.error _ (drop l.at all) _ (omega (arith, length-drop l.at all)) c.inside-in-Err-judge_entry.ensures.is failed.1 l.invariant.2.1.rest)
+
+pub judge_entries-loop-at-preserved : goal.judge_entries-loop-at-preserved
+judge_entries-loop-at-preserved t c =
+    let l = c.loop-at in
+    let all = c.args.content.now in
+    let item = c.in-Ok-judge_entry.item in
+    let key = c.in-Ok-judge_entry.field-0-1.now in
+    let found = rw take_rest at c.in-Ok-judge_entry.ensures.judged in
+    let used = c.in-Ok-judge_entry.ensures.used in
     let fits : item.used ≤ length (drop l.at all) = rw take_rest at used.1 in (
       omega (arith, fits, length-drop l.at all),
-      entries_next_if c.args.room all l.at item.used l.previous.now key found.value l.canonical item.canonical c.is_next-above.result (λ k. omega (arith, c.type_inv.content k)) c.loop-at-test.true found.is used.0 fits found.told c.is_next-above.ensures l.invariant.1,
+      λ is. omega (arith, l.invariant.1 is),
+      (key, entries_read c.args.room all l.at item.used l.invariant.2.0 key found.value c.loop-canonical.canonical item.canonical (λ k. omega (arith, c.type_inv.content k)) c.loop-at-test.true found.is used.0 fits found.told l.invariant.1 l.invariant.2.1),
     )
 
 pub judge_entries-returns : goal.judge_entries-returns
-judge_entries-returns t c = entries_end c.args.room c.args.content.now c.loop-at.at c.loop-at.previous.now c.loop-at.canonical c.loop-at-test.false c.loop-at.invariant.1
+judge_entries-returns t c = let l = c.loop-at in entries_end c.args.room c.args.content.now l.at l.invariant.2.0 c.loop-canonical.canonical c.loop-at-test.false l.invariant.2.1
 
 pub judge_entry-returns-in_err-n-clause-judged : goal.judge_entry-returns-in_err-n-clause-judged
 judge_entry-returns-in_err-n-clause-judged t c = entry_err _ c.args.i.now _ c.in_err-n.field-0.0 _ c.from_residual.ensures.1 (entry_unread {A = Bor (List ℕ)} c.args.room c.args.i.now (λ b. b.now) c.in_err-n.field-0.0 c.in_err-n.ensures.judged)

@@ -1,4 +1,4 @@
-use Rattle.std.proofs.Common.{◌+◌, ◌-◌, ◌*◌, ◌≤◌, length}
+use Rattle.std.proofs.Common.{◌≡◌, ◌+◌, ◌-◌, ◌*◌, ◌≤◌, ℕ, List, true, length}
 use Rattle.amqp_canonical.proofs.Children.{ValuesTo, EntriesTo}
 use Rattle.amqp_canonical.proofs.values.+judge.Given as goal
 
@@ -26,11 +26,18 @@ decreases-judge_table l = 5 * l.room + 4
 abbrev pub decreases-judge_values-loop-at : goal.decreases-judge_values-loop-at
 decreases-judge_values-loop-at l = length l.content - l.at
 
+abbrev pub decreases-judge_entries-loop-canonical : goal.decreases-judge_entries-loop-canonical
+decreases-judge_entries-loop-canonical l = length l.content - l.at
+
 abbrev pub decreases-judge_entries-loop-at : goal.decreases-judge_entries-loop-at
 decreases-judge_entries-loop-at l = length l.content - l.at
 
 abbrev pub invariant-judge_values-loop-at : goal.invariant-judge_values-loop-at
 invariant-judge_values-loop-at l = (l.at ≤ length l.content) × ValuesTo l.room l.content l.at l.canonical
 
+abbrev pub invariant-judge_entries-loop-canonical : goal.invariant-judge_entries-loop-canonical
+invariant-judge_entries-loop-canonical l = (l.at ≤ length l.content) × EntriesTo l.room l.content l.at l.previous l.canonical
+
+-- the key of the last entry is not kept here
 abbrev pub invariant-judge_entries-loop-at : goal.invariant-judge_entries-loop-at
-invariant-judge_entries-loop-at l = (l.at ≤ length l.content) × EntriesTo l.room l.content l.at l.previous l.canonical
+invariant-judge_entries-loop-at l = (l.at ≤ length l.content) × (l.canonical ≡ true → length l.content ≤ l.at) × ((previous : List ℕ) × EntriesTo l.room l.content l.at previous l.canonical)

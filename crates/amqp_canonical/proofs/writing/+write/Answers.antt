@@ -1,12 +1,12 @@
-use Rattle.std.proofs.Common.{rules, drop, Bor, Option, ◌≡◌, ◌+◌, ◌-◌, ◌∷◌, [], ℕ, List, true, false, None, length, take, sym, ap, subst, ◌∙◌, arith}
-use Rattle.std.proofs.lemmas.List.{length-take-le, take_rest}
+use Rattle.std.proofs.Common.{rules, drop, Bor, Option, ◌≡◌, ◌≤◌, ◌+◌, ◌-◌, ◌∷◌, [], ℕ, List, true, false, None, length, take, sym, ap, subst, ◌∙◌, arith}
+use Rattle.std.proofs.lemmas.List.{length-take-le, length-drop, take_rest}
 use Rattle.amqp_types.specs.ValueBytes.{tagged_bytes, value_bytes, array_bytes, table_bytes}
 use Rattle.amqp_types.specs.ValueJudging.{judge_value, judge_behind, judge_entry, nested}
 use Rattle.amqp_canonical.specs.Writes.{IsRead, canonical_of, entry_bytes}
 use Rattle.amqp_canonical.specs.Marks.{blank}
 use Rattle.amqp_types.proofs.Puts.{puts-length}
 use Rattle.amqp_canonical.proofs.ReadParts.{tag_parts, none_read, unknown_read}
-use Rattle.amqp_canonical.proofs.PutParts.{copied_at, boolean_put, array_inside, table_inside, array_holds, table_holds, length_put, entry_put, entry_some, entry_fits, entry_whole, value_fits, puts_as}
+use Rattle.amqp_canonical.proofs.PutParts.{copied_at, boolean_put, array_inside, table_inside, array_holds, table_holds, length_put, entry_put, entry_some, entry_fits, value_fits, puts_as}
 use Rattle.amqp_canonical.proofs.Written.{EntriesPut, SelectedPut, values_none, value_fits_here, value_here, values_end, entries_none, entries_tied, entry_kept, selected_none, selected_here, selected_end}
 use Rattle.amqp_canonical.proofs.writing.+write.Goals as goal
 use Rattle.amqp_canonical.proofs.writing.+write.Goals.{put_marked-then-not-is_tied, put_marked-else-not-is_tied}
@@ -115,23 +115,40 @@ put_table-returns t c =
     let h = table_holds c.args.room c.args.i.now c.content_of.result.now (λ k. omega (arith, c.type_inv.i k)) c.content_of.ensures c.requires.read in
     length_put table_bytes _ _ _ c.args.buf.now c.put_entries-end.new.buf c.put_long_uint.new.buf c.args.at c.put_entries-end.result _ _ h c.requires.room c.put_entries-end.ensures (omega arith) c.put_long_uint.ensures
 
+pub put_mark-slice_bounds-put_bytes-end : goal.put_mark-slice_bounds-put_bytes-end
+put_mark-slice_bounds-put_bytes-end t c =
+    let mark = c.args.mark.now in
+    let h = c.requires.is.copied c.if-size-ne0.true c.args.room c.requires.read in
+    let within : mark.place + mark.size ≤ length c.args.content.now = omega (arith, h.within, length-drop mark.place c.args.content.now, c.if-size-ne0.true) in
+    search rules
+
+pub put_mark-put_bytes-requires : goal.put_mark-put_bytes-requires
+put_mark-put_bytes-requires t c =
+    let mark = c.args.mark.now in
+    let h = c.requires.is.copied c.if-size-ne0.true c.args.room c.requires.read in
+    let size = ap (λ k. length (take k (drop mark.place c.args.content.now))) (let e : mark.place + mark.size - mark.place ≡ mark.size = omega arith in e) in
+    record { room = omega (arith, size, ap length h.bytes_are, c.requires.room) }
+
+pub put_mark-returns-then-size-ne0 : goal.put_mark-returns-then-size-ne0
+put_mark-returns-then-size-ne0 t c =
+    let mark = c.args.mark.now in
+    let h = c.requires.is.copied c.if-size-ne0.true c.args.room c.requires.read in
+    let size = ap (λ k. take k (drop mark.place c.args.content.now)) (let e : mark.place + mark.size - mark.place ≡ mark.size = omega arith in e) in
+    puts_as c.args.buf.now c.put_bytes.new.buf c.args.at c.put_bytes.result _ _ (size ∙ h.bytes_are) c.put_bytes.ensures
+
+pub put_mark-put_entry-requires : goal.put_mark-put_entry-requires
+put_mark-put_entry-requires t c =
+    let P : List ℕ → Type 0 = λ bs. IsRead (judge_entry (judge_value c.args.room) bs) in
+    let size = ap (λ bs. length (canonical_of entry_bytes (judge_entry (judge_value c.args.room) bs))) c.bytes_from.ensures in
+    (search rules, (subst P (sym c.bytes_from.ensures) c.requires.read, omega (arith, size, c.requires.room)))
+
+pub put_mark-returns : goal.put_mark-returns
+put_mark-returns t c =
+    let bytes = ap (λ bs. canonical_of entry_bytes (judge_entry (judge_value c.args.room) bs)) c.bytes_from.ensures in
+    puts_as c.args.buf.now c.put_entry.new.buf c.args.at c.put_entry.result _ _ bytes c.put_entry.ensures
+
 pub put_entry-slice_bounds-put_bytes-end : goal.put_entry-slice_bounds-put_bytes-end
 put_entry-slice_bounds-put_bytes-end t c =
-    let h = entry_whole c.args.room c.args.i.now c.split_key.result.0.now c.split_key.result.1.now c.in-Some.size c.split_key.ensures.key c.split_key.ensures.rest c.requires.read (c.in-Some.ensures.copied c.args.room) in
-    sym (length-take-le (1 + length c.split_key.result.0.now + c.in-Some.size) c.args.i.now h.within)
-
-pub put_entry-put_bytes-requires : goal.put_entry-put_bytes-requires
-put_entry-put_bytes-requires t c =
-    let h = entry_whole c.args.room c.args.i.now c.split_key.result.0.now c.split_key.result.1.now c.in-Some.size c.split_key.ensures.key c.split_key.ensures.rest c.requires.read (c.in-Some.ensures.copied c.args.room) in
-    record { room = omega (arith, ap length h.bytes_are, c.requires.room) }
-
-pub put_entry-returns-in-Some : goal.put_entry-returns-in-Some
-put_entry-returns-in-Some t c =
-    let h = entry_whole c.args.room c.args.i.now c.split_key.result.0.now c.split_key.result.1.now c.in-Some.size c.split_key.ensures.key c.split_key.ensures.rest c.requires.read (c.in-Some.ensures.copied c.args.room) in
-    puts_as c.args.buf.now c.put_bytes.new.buf c.args.at c.put_bytes.result _ _ h.bytes_are c.put_bytes.ensures
-
-pub put_entry-slice_bounds-put_bytes-end-in-None : goal.put_entry-slice_bounds-put_bytes-end-in-None
-put_entry-slice_bounds-put_bytes-end-in-None t c =
     let h = entry_put c.args.room c.args.i.now c.requires.read in
     let key = ap length c.split_key.ensures.key in
     sym (length-take-le (1 + length c.split_key.result.0.now) c.args.i.now (omega (arith, key, h.within)))
@@ -153,8 +170,8 @@ put_entry-put_value-requires t c =
     let rest = ap (λ bs. length (canonical_of tagged_bytes (judge_value c.args.room bs))) c.split_key.ensures.rest in
     (search rules, (subst P (sym c.split_key.ensures.rest) h.read, omega (arith, rest, fits.second_fits c.put_bytes-place.new.buf c.put_bytes-place.result put)))
 
-pub put_entry-returns-in-None : goal.put_entry-returns-in-None
-put_entry-returns-in-None t c =
+pub put_entry-returns : goal.put_entry-returns
+put_entry-returns t c =
     let h = entry_put c.args.room c.args.i.now c.requires.read in
     let fits = entry_fits c.args.room c.args.i.now c.args.buf.now c.args.at c.requires.read c.requires.room in
     let key = ap (λ k. take (1 + length k) c.args.i.now) c.split_key.ensures.key in
@@ -224,17 +241,13 @@ put_values-returns t c = values_end c.args.room c.args.content.now c.loop-start.
 pub put_marked-loop-k-init : goal.put_marked-loop-k-init
 put_marked-loop-k-init t c = (omega arith, entries_none c.args.room c.args.content.now c.args.marks.now c.args.buf.now c.args.at)
 
-pub put_marked-put_entry-end-requires : goal.put_marked-put_entry-end-requires
-put_marked-put_entry-end-requires t c =
+pub put_marked-put_mark-end-requires : goal.put_marked-put_mark-end-requires
+put_marked-put_mark-end-requires t c =
     let l = c.loop-k in
-    let all = c.args.content.now in
-    let marks = c.args.marks.now in
     let room = c.args.room in
     let tied : c.is_tied.result ≡ false = search rules in
-    let here = entry_kept room all marks l.k c.args.buf.now l.buf c.args.at l.end c.requires.read c.loop-k-test.true (sym tied ∙ c.is_tied.ensures room c.requires.read) c.requires.room l.invariant.1 in
-    let P : List ℕ → Type 0 = λ bs. IsRead (judge_entry (judge_value room) bs) in
-    let size = ap (λ bs. length (canonical_of entry_bytes (judge_entry (judge_value room) bs))) c.marked.ensures in
-    (search rules, (subst P (sym c.marked.ensures) (c.requires.read l.k blank c.loop-k-test.true), omega (arith, size, here.fits)))
+    let here = entry_kept room c.args.content.now c.args.marks.now l.k c.args.buf.now l.buf c.args.at l.end c.requires.read c.loop-k-test.true (sym tied ∙ c.is_tied.ensures room c.requires.read) c.requires.room l.invariant.1 in
+    (search rules, (c.requires.read l.k blank c.loop-k-test.true, (c.requires.each l.k blank c.loop-k-test.true, here.fits)))
 
 pub put_marked-loop-k-preserved : goal.put_marked-loop-k-preserved
 put_marked-loop-k-preserved t c =
@@ -248,9 +261,7 @@ put_marked-loop-k-preserved t c =
       | put_marked-then-not-is_tied w ↦
           let tied : c.is_tied.result ≡ false = search rules in
           let here = entry_kept room all marks l.k c.args.buf.now l.buf c.args.at l.end c.requires.read c.loop-k-test.true (sym tied ∙ is) c.requires.room l.invariant.1 in
-          let bytes = ap (λ bs. canonical_of entry_bytes (judge_entry (judge_value room) bs)) w.marked.ensures in
-          let put = puts_as l.buf w.put_entry-end.new.buf l.end w.put_entry-end.result _ _ bytes w.put_entry-end.ensures in
-          let more = here.next w.put_entry-end.new.buf w.put_entry-end.result put in
+          let more = here.next w.put_mark-end.new.buf w.put_mark-end.result w.put_mark-end.ensures in
           (omega (arith, c.loop-k-test.true), rw (w.buf-is, w.end-is) more)
       | put_marked-else-not-is_tied w ↦
           let tied : c.is_tied.result ≡ true = search rules in

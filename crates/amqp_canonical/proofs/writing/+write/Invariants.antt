@@ -6,31 +6,34 @@ use Rattle.amqp_canonical.proofs.Written.{ValuesPut, EntriesPut, SelectedPut}
 use Rattle.amqp_canonical.proofs.writing.+write.Given as goal
 
 abbrev pub decreases-put_after_tag : goal.decreases-put_after_tag
-decreases-put_after_tag l = 6 * l.room
+decreases-put_after_tag l = 7 * l.room
 
 abbrev pub decreases-put_value : goal.decreases-put_value
-decreases-put_value l = 6 * l.room + 1
+decreases-put_value l = 7 * l.room + 1
 
 abbrev pub decreases-put_entry : goal.decreases-put_entry
-decreases-put_entry l = 6 * l.room + 2
+decreases-put_entry l = 7 * l.room + 2
+
+abbrev pub decreases-put_mark : goal.decreases-put_mark
+decreases-put_mark l = 7 * l.room + 3
 
 abbrev pub decreases-put_values : goal.decreases-put_values
-decreases-put_values l = 6 * l.room + 3
+decreases-put_values l = 7 * l.room + 3
 
 abbrev pub decreases-put_marked : goal.decreases-put_marked
-decreases-put_marked l = 6 * l.room + 3
+decreases-put_marked l = 7 * l.room + 4
 
 abbrev pub decreases-put_selected : goal.decreases-put_selected
-decreases-put_selected l = 6 * l.room + 3
+decreases-put_selected l = 7 * l.room + 3
 
 abbrev pub decreases-put_entries : goal.decreases-put_entries
-decreases-put_entries l = 6 * l.room + 4
+decreases-put_entries l = 7 * l.room + 5
 
 abbrev pub decreases-put_array : goal.decreases-put_array
-decreases-put_array l = 6 * l.room + 4
+decreases-put_array l = 7 * l.room + 4
 
 abbrev pub decreases-put_table : goal.decreases-put_table
-decreases-put_table l = 6 * l.room + 5
+decreases-put_table l = 7 * l.room + 6
 
 abbrev pub decreases-put_values-loop-start : goal.decreases-put_values-loop-start
 decreases-put_values-loop-start l = length l.content - l.start
