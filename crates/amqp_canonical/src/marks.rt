@@ -143,8 +143,7 @@ pub(crate) fn mark_in_order(marks: &mut [Mark], content: &[u8]) -> Option<usize>
 /// Whether the next mark has the same key as this one.
 pub(crate) fn is_tied(marks: &[Mark], content: &[u8], k: usize) -> bool
     requires { k < length marks.now }
-    ensures { (room : ℕ) → AreRead room content.now marks.now
-        → result ≡ ties (marked_entry room content.now (slice_index_or marks.now k blank)) (map (marked_entry room content.now) (drop (k + 1) marks.now)) }
+    ensures { (room : ℕ) → AreRead room content.now marks.now → result ≡ ties (marked_entry room content.now (slice_index_or marks.now k blank)) (map (marked_entry room content.now) (drop (k + 1) marks.now)) }
 {
     if k + 1 == marks.len() {
         return false;

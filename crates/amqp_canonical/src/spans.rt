@@ -33,7 +33,7 @@ pub(crate) fn size_after_tag(tag: FieldTag, i: &[u8]) -> usize
 }
 
 /// How many bytes a value takes at the front, with its tag, where one was read there.
-pub fn value_size(i: &[u8]) -> usize
+pub(crate) fn value_size(i: &[u8]) -> usize
     ensures used { (room : ℕ) → IsRead (judge_value room i.now) → result ≡ used_of (judge_value room i.now) }
     ensures bound { result ≤ length i.now + 8 }
 {
@@ -47,7 +47,7 @@ pub fn value_size(i: &[u8]) -> usize
 }
 
 /// What an array or a table at the front holds, where one was read there.
-pub fn content_of(i: &[u8]) -> &[u8]
+pub(crate) fn content_of(i: &[u8]) -> &[u8]
     ensures { IsRead (judge_long_string i.now) → result.now ≡ canonical_of (λ content. content) (judge_long_string i.now) }
 {
     match parse_long_bytes(i) {
@@ -57,7 +57,7 @@ pub fn content_of(i: &[u8]) -> &[u8]
 }
 
 /// The bytes from a place on.
-pub fn bytes_from(bytes: &[u8], place: usize) -> &[u8]
+pub(crate) fn bytes_from(bytes: &[u8], place: usize) -> &[u8]
     ensures { result.now ≡ drop place bytes.now }
 {
     match bytes.get(place..) {
@@ -67,7 +67,7 @@ pub fn bytes_from(bytes: &[u8], place: usize) -> &[u8]
 }
 
 /// The key at the front, and what stands after it.
-pub fn split_key(i: &[u8]) -> (&[u8], &[u8])
+pub(crate) fn split_key(i: &[u8]) -> (&[u8], &[u8])
     ensures key { result.0.now ≡ key_in i.now }
     ensures rest { result.1.now ≡ after_key i.now }
 {
@@ -78,7 +78,7 @@ pub fn split_key(i: &[u8]) -> (&[u8], &[u8])
 }
 
 /// How many bytes an entry takes at the front, where one was read there.
-pub fn entry_size(i: &[u8]) -> usize
+pub(crate) fn entry_size(i: &[u8]) -> usize
     ensures used { (room : ℕ) → IsRead (judge_entry (judge_value room) i.now) → result ≡ used_of (judge_entry (judge_value room) i.now) }
     ensures some { 0 < result }
     ensures bound { result ≤ length i.now + 9 }

@@ -13,5 +13,11 @@ pub mod ReadingBack
 pub mod Sizes
 pub mod Parts
 pub mod Within
-pub mod Judged
-pub mod Rewriting
+pub mod Standing
+pub mod StrictWalk
+pub mod TableFronts
+pub mod Placed
+pub mod Permuted
+pub mod PayloadsInOrder
+pub mod Reordering
+pub mod EntriesPut

@@ -1,5 +1,3 @@
-//! Methods and content headers that are written in place of those that were read.
-
 use super::*;
 use crate::headers::judge_content_header;
 use crate::payloads::judge_payload;

@@ -1,5 +1,3 @@
-//! Methods that are judged.
-
 use super::*;
 
 fn told(used: usize, canonical: bool, tidy: bool) -> Result<Judgement, ParserError> {

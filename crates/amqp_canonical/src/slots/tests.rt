@@ -1,5 +1,3 @@
-//! Slots of each shape that are judged.
-
 use super::*;
 use Shape::{
     Flags, Long, LongLong, LongString, Octet, ReservedFlag, ReservedLong, ReservedLongString,

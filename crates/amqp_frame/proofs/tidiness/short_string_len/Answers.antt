@@ -1,0 +1,10 @@
+use Rattle.std.proofs.Common.{ℕ, List, Bor}
+use Rattle.amqp_types.specs.Strings.{judge_short_string}
+use Rattle.amqp_frame.proofs.Tidied.{never_refused, short_len, short_taken}
+use Rattle.amqp_frame.proofs.tidiness.short_string_len.Goals as goal
+
+pub returns-in-Ok-clause-taken : goal.returns-in-Ok-clause-taken
+returns-in-Ok-clause-taken c = λ t. short_len c.args.i.now _ c.in-Ok.n c.in-Ok.ensures.judged
+
+pub returns-in-Err-clause-taken : goal.returns-in-Err-clause-taken
+returns-in-Err-clause-taken c = λ t. absurd (never_refused (λ (text : Bor (List ℕ)). text.now) c.in-Err.field-0 (judge_short_string c.args.i.now) c.in-Err.ensures.judged (short_taken c.args.i.now t))
