@@ -1,1 +1,0 @@
--- Whole payloads that are judged without memory.

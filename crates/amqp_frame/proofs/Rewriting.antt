@@ -1,1 +1,0 @@
--- Canonical bytes of frames, put where they are not those that stand.
