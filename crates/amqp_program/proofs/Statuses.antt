@@ -5,7 +5,7 @@ use Rattle.amqp_types.specs.Levels.{Level}
 use Rattle.amqp_stream.specs.declared.errors.StreamError.{StreamError}
 use Rattle.amqp_stream.specs.declared.errors.StreamError.TheVariants as errors
 use Rattle.amqp_stream.specs.Errors.{stream_error_status}
-use Rattle.amqp_stream.specs.Canonicalizing.{answer_to}
+use Rattle.amqp_stream.specs.Transcribing.{answer_to}
 use Rattle.amqp_program.specs.Reports.{printed, report_at, report_of, max_payload}
 use Rattle.amqp_program.specs.Runs.{status_of}
 

@@ -2,7 +2,8 @@
 
 ghost use Rattle.std.specs.Prelude.{◌≡◌, ◌++◌, ◌∷◌, [], IfOk};
 ghost use Rattle.amqp_types.specs.Levels.{level_of};
-ghost use Rattle.amqp_stream.specs.Canonicalizing.{IsAnswerTo};
+ghost use Rattle.amqp_frame.specs.Canonical.{canon_row};
+ghost use Rattle.amqp_stream.specs.Transcribing.{IsAnswerTo};
 ghost use Rattle.amqp_program.specs.Reports.{max_payload, printed_of, printed, report, report_at};
 ghost use Rattle.hex.specs.Hex.{encode_lower};
 
@@ -26,13 +27,13 @@ fn canonical(
     profile: Profile,
     bytes: &[u8],
 ) -> Result<(VecSink, Result<(), StreamError>), NoMemory>
-    ensures { IfOk result (λ r. IsAnswerTo (level_of profile) max_payload bytes.now r.0.bytes r.1) }
+    ensures { IfOk result (λ r. IsAnswerTo canon_row (level_of profile) max_payload bytes.now r.0.bytes r.1) }
 {
     let mut source = SliceSource::new(bytes);
     let mut sink = VecSink::new(alloc);
     let mut codec = Codec::open(alloc, MAX_PAYLOAD)?;
     let turns = bytes.len() as u64 + 1;
-    let answer = codec.canonicalize_in(alloc, profile, &mut source, &mut sink, turns);
+    let answer = codec.rewrite(profile, &mut source, &mut sink, turns);
     Ok((sink, answer))
 }
 

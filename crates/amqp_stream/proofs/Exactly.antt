@@ -12,7 +12,7 @@ use Rattle.amqp_stream.specs.declared.errors.StreamError.{StreamError}
 use Rattle.amqp_stream.specs.declared.errors.StreamError.TheVariants as errors
 use Rattle.amqp_stream.specs.Errors.{error_of, Cause, faulty, cut_short, turns_spent, read_failed, write_failed, out_of_memory, cause_of}
 use Rattle.amqp_stream.specs.Ends.{Supply, Store, Gains, IsEmpty, prepended}
-use Rattle.amqp_stream.specs.Canonicalizing.{place_verdict, answer_at, answer_to, IsRow, IsValid, NoFaults, UnlessStopped, IsOutOfMemory}
+use Rattle.amqp_stream.specs.Transcribing.{place_verdict, answer_at, answer_to, IsRow, IsValid, NoFaults, UnlessStopped, IsOutOfMemory}
 use Rattle.amqp_stream.specs.Steps.{Manner, text, refused, state}
 use Rattle.amqp_stream.specs.Streaming.{Ending, finished, refused_by, stopped_by, text_of, refused_of, state_of, IsUnended, IsAllWritten, Streams, RunNeverBegan, answer_at_end, answer_of, answer_by, IsExact, UnlessStoppedBy, StreamsExactly, IsWelcome, IsDoneOrWanting}
 use Rattle.amqp_stream.proofs.Adding.{Gains-none}

@@ -21,7 +21,7 @@ use Rattle.amqp_stream.specs.Errors.{stream_error, read_fault, Cause, faulty, cu
 use Rattle.amqp_stream.specs.Ends.{Supply, Store, Gains, Rises, IsEmpty}
 use Rattle.amqp_stream.specs.Reading.{ReadsMore}
 use Rattle.amqp_stream.specs.Writing.{IsPrefix, Keeps, WritesAll, GatherFails, IsFaulty, AsksTidy}
-use Rattle.amqp_stream.specs.Canonicalizing.{place_verdict, IsRow}
+use Rattle.amqp_stream.specs.Transcribing.{place_verdict, IsRow}
 use Rattle.amqp_stream.specs.Steps.{Manner, text, refused, state}
 use Rattle.amqp_stream.specs.Streaming.{Ending, finished, refused_by, stopped_by, error_ending, ending_of, IsRefused, WriteFails, WritesBy, end_with, ended, EndsWith, text_of, refused_of, state_of, AtWanting, IsShortBy, HasCauseBy, IsAllWritten, HasWrittenBy, HasStateBy, Streams}
 use Rattle.amqp_stream.proofs.Adding.{Gains-none, Gains-then, Rises-later}
