@@ -16,15 +16,12 @@ use Rattle.amqp_stream.specs.Ends.{Store}
 use Rattle.amqp_stream.specs.Writing.{payload_fault, PutsTyped, IsUnread, IsFaulty}
 use Rattle.amqp_stream.specs.Manners.{canonical_at}
 use Rattle.amqp_stream.specs.Streaming.{stopped_by, ending_of, as_run, WritesBy}
-use Rattle.amqp_stream.proofs.Writes.{kept, pushed, refused_none, is_faulty}
-
-abbrev refusing : ParserError → Result (Unit {0}) ParserError
-refusing error = Err error
+use Rattle.amqp_stream.proofs.Writes.{kept, pushed, refusing, is_none, is_faulty}
 
 -- a method or content header that is none
 pub tidy_refused : (raw : Raw) (a : Store) (before after : List ℕ) (error : ParserError) → IsPayloadError error → refusing error ≢ Err parses.NoMemory → RefusesWhole error (whole raw) → after ≡ before → PutsTyped tidy raw a a before after (Err (payload_fault error))
 tidy_refused raw a before after error inside some h same =
-    let none = refused_none raw error inside some h in
+    let none = is_none raw error inside some h in
     subst (IsUnread tidy raw a a before after) none.tells (is_faulty tidy raw none.bad none.is_whole none.other, kept a before after same)
 
 untidy_at : (t : Bool) (read : Result Frame Fault) (f : Frame) (n : ℕ) → read ≡ Ok f → t ≡ false → judged_frame t read n ≡ fault not_tidy

@@ -126,14 +126,17 @@ kept a before after e = record { written = []; gains = Gains-none a; parts = e �
 
 -- ---- a payload that is none
 
--- the fault of a payload, at any level
+-- a payload that has a fault, at any level
 pub record IsNone (raw : Raw) (cause : Cause) : Type 0 where
   pub bad : Fault
   pub is_whole : whole raw ≡ Err bad
   pub other : bad ≢ not_tidy
   pub tells : faulty bad ≡ cause
 
-is_none : (raw : Raw) (error : ParserError) → IsPayloadError error → error ≢ parses.NoMemory → RefusesWhole error (whole raw) → IsNone raw (cause_of (payload_fault error))
+abbrev pub refusing : ParserError → Result (Unit {0}) ParserError
+refusing error = Err error
+
+pub is_none : (raw : Raw) (error : ParserError) → IsPayloadError error → refusing error ≢ Err parses.NoMemory → RefusesWhole error (whole raw) → IsNone raw (cause_of (payload_fault error))
 is_none raw parses.ShortPayload inside some h = record { bad = _; is_whole = h; other = λ e. absurd cc; tells = refl }
 is_none raw parses.TrailingBytes inside some h = record { bad = _; is_whole = h; other = λ e. absurd cc; tells = refl }
 is_none raw parses.UnknownClass inside some h = record { bad = _; is_whole = h; other = λ e. absurd cc; tells = refl }
@@ -147,17 +150,10 @@ is_none raw parses.UnknownFrameType inside some h = absurd inside
 is_none raw parses.BadProtocolHeader inside some h = absurd inside
 is_none raw parses.BadFrameEnd inside some h = absurd inside
 
-abbrev refusing : ParserError → Result (Unit {0}) ParserError
-refusing error = Err error
-
--- of a payload that was refused, where memory never runs out
-pub refused_none : (raw : Raw) (error : ParserError) → IsPayloadError error → refusing error ≢ Err parses.NoMemory → RefusesWhole error (whole raw) → IsNone raw (cause_of (payload_fault error))
-refused_none raw error inside some h = is_none raw error inside (λ e. some (ap refusing e)) h
-
 -- a method or content header that was not read
 pub added_refused : (raw : Raw) (a : Store) (before after : List ℕ) (error : ParserError) → IsPayloadError error → refusing error ≢ Err parses.NoMemory → RefusesWhole error (whole raw) → after ≡ before → WritesFrame raw a a before after (Err (payload_fault error))
 added_refused raw a before after error inside some h same =
-    let none = refused_none raw error inside some h in
+    let none = is_none raw error inside some h in
     subst (IsUnwritten raw a a before after) none.tells (none.is_whole, none.other, kept a before after same)
 
 -- ---- a frame at a level

@@ -1,6 +1,5 @@
 use Rattle.std.proofs.Common.{◌≡◌, ◌+◌, ◌*◌, length}
-use Rattle.amqp_stream.proofs.Going.{Start}
-use Rattle.amqp_stream.proofs.Turning.{Loop, Turn}
+use Rattle.amqp_stream.proofs.Turning.{Turn}
 use Rattle.amqp_stream.proofs.engine.run_with.Given as goal
 
 abbrev pub invariant-frames : goal.invariant-frames
