@@ -21,7 +21,9 @@ use Rattle.amqp_values.proofs.Filling.{after, goes_on, ends}
 use Rattle.amqp_values.proofs.Filled.{entry_exact}
 use Rattle.amqp_values.proofs.Exactly.{value_exact}
 use Rattle.amqp_values.proofs.Bounded.{value_bounded}
-use Rattle.amqp_canonical.specs.Judgements.{IsBelow, AreCanonicalValues, AreCanonicalEntries, Fills}
+use Rattle.std.specs.declared.cmp.Ordering.{Ordering}
+use Rattle.std.specs.declared.cmp.Ordering.TheVariants.{Less, Equal, Greater}
+use Rattle.amqp_canonical.specs.Judgements.{IsAbove, IsBelow, AreCanonicalValues, AreCanonicalEntries, Fills}
 
 -- ---- the values up to a place, and what is told of them
 pub record ValuesTo (room : ℕ) (content : List ℕ) (at : ℕ) (canonical : Bool) : Type 0 where
@@ -161,10 +163,6 @@ rising_none : IsStrictlySortedBy (slice_cmp nat_cmp) (keys_of {X = FieldValue} [
 unfolding IsStrictlySortedBy
 rising_none = tt
 
--- the key is above the last one, where there is one
-abbrev pub IsAbove : ℕ → List ℕ → List ℕ → Bool → Type 0
-IsAbove at previous key above = ((at ≡ 0) × (above ≡ true)) ⊎ ((0 < at) × (IsTrue above ↔ IsBelow previous key))
-
 module _ (at : ℕ) (previous key : List ℕ) (v : FieldValue) (above : Bool) where
   abbrev IsRisingMore : List Entry → Type 0
   IsRisingMore things = IsRising (things ++ (key, v) ∷ [])
@@ -239,3 +237,26 @@ pub entries_end : (room : ℕ) (content : List ℕ) (at : ℕ) (previous : List 
 entries_end room content at previous canonical long h =
     let P : List ℕ → Type 0 = λ bs. IsTrue canonical ↔ AreCanonicalEntries bs h.things in
     record { thing = h.things; is = ends (judge_entry (judge_value room)) (λ xs. h.things ++ xs) at content _ long h.rest ∙ ap Ok (append-nil h.things); told = subst P (take_all content at long) h.told }
+
+-- where the entries before are not canonical, it is not told whether the key comes after
+is_less : Ordering → Bool
+is_less Less = true
+is_less Equal = false
+is_less Greater = false
+
+less_told : (o : Ordering) → IsTrue (is_less o) ↔ (o ≡ Less)
+unfolding is_less
+less_told Less = (λ t. refl, λ e. refl)
+less_told Equal = (λ t. absurd cc, λ e. absurd cc)
+less_told Greater = (λ t. absurd cc, λ e. absurd cc)
+
+tested : (at : ℕ) (previous key : List ℕ) → (above : Bool) × IsAbove at previous key above
+tested zero previous key = (true, inl (refl, refl))
+tested (suc at) previous key = (is_less (slice_cmp nat_cmp previous key), inr (omega arith, less_told (slice_cmp nat_cmp previous key)))
+
+pub entries_next_if : (room : ℕ) (content : List ℕ) (at n : ℕ) (previous key : List ℕ) (v : FieldValue) (canonical d above : Bool) → IsBytes content → at < length content → judge_entry (judge_value room) (drop at content) ≡ took (key, v) n
+    → 0 < n → n ≤ length (drop at content) → IsTrue d ↔ (take n (drop at content) ≡ short_string_bytes key ++ tagged_bytes v) → (IsTrue canonical → IsAbove at previous key above) → EntriesTo room content at previous canonical → EntriesTo room content (at + n) key ((canonical && d) && above)
+entries_next_if room content at n previous key v true d above bytes more is up fits told over h = entries_next room content at n previous key v true d above bytes more is up fits told (over refl) h
+entries_next_if room content at n previous key v false d above bytes more is up fits told over h =
+    let test = tested at previous key in
+    entries_next room content at n previous key v false d test.0 bytes more is up fits told test.1 h

@@ -18,7 +18,8 @@ use Rattle.amqp_types.specs.Values.{FieldValue, Entry}
 use Rattle.amqp_values.proofs.Settling.{settled_is}
 use Rattle.amqp_canonical.specs.Judgements.{IsBelow}
 use Rattle.amqp_canonical.specs.Writes.{IsRead}
-use Rattle.amqp_canonical.specs.Marks.{entry_at, marked_entry, entries_in, AreRead, AreMarks, AreInOrder, AreOfTable, Follows, key_at, blank, ties, last_of_ties}
+use Rattle.amqp_canonical.specs.Leads.{key_at}
+use Rattle.amqp_canonical.specs.Marks.{entry_at, marked_entry, entries_in, AreRead, AreMarks, AreInOrder, AreOfTable, Follows, blank, ties, last_of_ties}
 use Rattle.amqp_canonical.specs.Places.{Precedes, ArePlaced}
 use Rattle.amqp_canonical.specs.declared.marks.Mark.{Mark}
 use Rattle.amqp_canonical.proofs.Placed.{settled_in_order}

@@ -1,5 +1,6 @@
 pub mod Refusing
 pub mod Children
+pub mod TagBytes
 pub mod AfterTag
 pub mod Whole
 pub mod Strict
@@ -12,6 +13,7 @@ pub mod Placed
 pub mod ReadParts
 pub mod Sizes
 pub mod InOrder
+pub mod Leading
 pub mod Marking
 pub mod NextKey
 pub mod Putting

@@ -1,6 +1,8 @@
 -- The canonical bytes of what was read, by the parts in which they are put.
 use Rattle.std.proofs.Common.{◌≡◌, ◌⊎◌, inl, inr, ◌<◌, ◌≤◌, ◌^◌, ℕ, zero, suc, ◌+◌, ◌-◌, nat_eq, not, List, [], ◌∷◌, ◌++◌, length, get_or, take, drop, Option, Some, Result, Ok, Err, refl, sym, ap, ap₂, subst, ◌∙◌, append_assoc, arith}
-use Rattle.std.proofs.lemmas.List.{length-append, length-take-le, drop_at, take-append-le, take-take}
+use Rattle.std.proofs.lemmas.Bool.{cases_lt}
+use Rattle.std.proofs.lemmas.List.{length-append, length-take-le, length-drop, take_all, drop_all, drop_at, take-append-le, take-take}
+use Rattle.std.proofs.Math.Seq.{take-add}
 use Rattle.amqp_types.specs.Judging.{Fault, Judged, Judge, took, past, fault, too_deep, ◌>>=◌, IsBytes}
 use Rattle.amqp_types.specs.Levels.{plain}
 use Rattle.amqp_types.specs.Booleans.{boolean_bytes}
@@ -26,7 +28,7 @@ use Rattle.amqp_values.proofs.Strictly.{fits_four}
 use Rattle.amqp_canonical.specs.declared.values.Layout.{Layout}
 use Rattle.amqp_canonical.specs.declared.values.Layout.TheVariants as layout
 use Rattle.amqp_canonical.specs.Judgements.{layout_at}
-use Rattle.amqp_canonical.specs.Writes.{IsRead, used_of, canonical_of, IsFilled, items_of, entry_bytes, array_content, table_content, key_in, after_key}
+use Rattle.amqp_canonical.specs.Writes.{IsRead, IsCopied, used_of, canonical_of, IsFilled, items_of, entry_bytes, array_content, table_content, key_in, after_key}
 use Rattle.amqp_canonical.specs.Marks.{AreEntries, entries_in}
 use Rattle.amqp_canonical.proofs.AfterTag.{IsTaken, counted_took, array_deep, table_deep}
 use Rattle.amqp_canonical.proofs.ReadParts.{TagParts, took_of, is_read, entry_parts}
@@ -34,20 +36,15 @@ use Rattle.amqp_canonical.proofs.Sizes.{fixed_taken, counted_length, is_boolean,
 
 -- ---- what is copied
 
--- so many bytes in front are the canonical bytes
-pub record Copied (bytes : List ℕ) (n : ℕ) (j : Judged FieldValue) : Type 0 where
-  pub within : n ≤ length bytes
-  pub bytes_are : take n bytes ≡ canonical_of value_bytes j
-
-copied_of : (bytes : List ℕ) (m n : ℕ) (j : Judged FieldValue) → m ≤ length bytes → IsTaken bytes m j → n ≡ used_of j → Copied bytes n j
+copied_of : (bytes : List ℕ) (m n : ℕ) (j : Judged FieldValue) → m ≤ length bytes → IsTaken bytes m j → n ≡ used_of j → IsCopied value_bytes bytes n j
 copied_of bytes m n j within h used =
     let same : n ≡ m = used ∙ ap (λ k. used_of k) h.1 in
     record { within = omega (arith, same, within); bytes_are = ap (λ k. take k bytes) same ∙ h.2 ∙ sym (ap (λ k. canonical_of value_bytes k) h.1) }
 
-pub fixed_copied : (nest : Option (Judge FieldValue)) (t : FieldTag) (bytes : List ℕ) (m n : ℕ) → IsBytes bytes → layout_at t ≡ layout.Fixed m → IsRead (judge_behind nest t bytes) → n ≡ used_of (judge_behind nest t bytes) → Copied bytes n (judge_behind nest t bytes)
+pub fixed_copied : (nest : Option (Judge FieldValue)) (t : FieldTag) (bytes : List ℕ) (m n : ℕ) → IsBytes bytes → layout_at t ≡ layout.Fixed m → IsRead (judge_behind nest t bytes) → n ≡ used_of (judge_behind nest t bytes) → IsCopied value_bytes bytes n (judge_behind nest t bytes)
 fixed_copied nest t bytes m n fits is read used = let one = fixed_taken nest t bytes m fits is read in copied_of bytes m n (judge_behind nest t bytes) one.0 one.1 used
 
-pub counted_copied : (nest : Option (Judge FieldValue)) (t : FieldTag) (bytes : List ℕ) (n : ℕ) → IsBytes bytes → layout_at t ≡ layout.Counted → IsRead (judge_behind nest t bytes) → n ≡ used_of (judge_behind nest t bytes) → Copied bytes n (judge_behind nest t bytes)
+pub counted_copied : (nest : Option (Judge FieldValue)) (t : FieldTag) (bytes : List ℕ) (n : ℕ) → IsBytes bytes → layout_at t ≡ layout.Counted → IsRead (judge_behind nest t bytes) → n ≡ used_of (judge_behind nest t bytes) → IsCopied value_bytes bytes n (judge_behind nest t bytes)
 counted_copied nest t bytes n fits is read used =
     let long = counted_length nest t bytes is read in
     let one = took_of (judge_long_string bytes) long.read in
@@ -204,7 +201,7 @@ table_holds room bytes content fits is h =
 
 -- ---- the length is put last
 
-written_before : (old first second : List ℕ) (at place : ℕ) → place ≡ at + length first → place + length second ≤ length old → written (written old place second) at first ≡ written old at (first ++ second)
+pub written_before : (old first second : List ℕ) (at place : ℕ) → place ≡ at + length first → place + length second ≤ length old → written (written old place second) at first ≡ written old at (first ++ second)
 unfolding written
 written_before old first second at place is room =
     let behind = drop (place + length second) old in
@@ -264,7 +261,7 @@ fits_both old all first second at is room =
 
 -- what is copied, by either layout
 pub copied_at : (nest : Option (Judge FieldValue)) (t : FieldTag) (bytes : List ℕ) (n : ℕ) (l : Layout) → IsBytes bytes → l ≡ layout_at t → ((m : ℕ) × (l ≡ layout.Fixed m)) ⊎ (l ≡ layout.Counted) → IsRead (judge_behind nest t bytes)
-    → (IsRead (judge_behind nest t bytes) → n ≡ used_of (judge_behind nest t bytes)) → Copied bytes n (judge_behind nest t bytes)
+    → (IsRead (judge_behind nest t bytes) → n ≡ used_of (judge_behind nest t bytes)) → IsCopied value_bytes bytes n (judge_behind nest t bytes)
 copied_at nest t bytes n l fits is (inl one) read used = fixed_copied nest t bytes one.0 n fits (sym is ∙ one.1) read (used read)
 copied_at nest t bytes n l fits is (inr one) read used = counted_copied nest t bytes n fits (sym is ∙ one) read (used read)
 
@@ -288,3 +285,44 @@ entry_some room bytes read =
     let first = take (1 + length (key_in bytes)) bytes in
     let second = canonical_of tagged_bytes (judge_value room (after_key bytes)) in
     omega (arith, ap length h.bytes_are, length-append first second, length-take-le (1 + length (key_in bytes)) bytes h.within)
+
+-- ---- what is copied with its tag
+
+-- the bytes after the tag are copied, and the tag byte is the one that is written
+pub value_copied : (room : ℕ) (bytes : List ℕ) (t : FieldTag) (n : ℕ) → 0 < length bytes → tag_byte t ≡ get_or bytes 0 0 → TagParts room bytes t → IsCopied value_bytes (drop 1 bytes) n (judge_behind (nested room) t (drop 1 bytes)) → IsCopied tagged_bytes bytes (1 + n) (judge_value room bytes)
+value_copied room [] t n some same parts h = absurd (omega (arith, some))
+value_copied room (b ∷ bytes) t n some same parts h = record {
+  within = omega (arith, h.within);
+  bytes_are =
+      let more : take (1 + n) (b ∷ bytes) ≡ b ∷ take n bytes = ap (λ k. take k (b ∷ bytes)) (let e : 1 + n ≡ suc n = omega arith in e) in
+      more ∙ ap₂ (λ x xs. x ∷ xs) (sym same) h.bytes_are ∙ sym parts.bytes_are;
+}
+
+key_dropped : (bytes : List ℕ) → 1 + length (key_in bytes) ≤ length bytes → drop (1 + length (key_in bytes)) bytes ≡ after_key bytes
+key_dropped [] within = absurd (omega (arith, within))
+key_dropped (n ∷ bytes) within =
+    let more : drop (1 + length (take n bytes)) (n ∷ bytes) ≡ drop (length (take n bytes)) bytes = ap (λ k. drop k (n ∷ bytes)) (let e : 1 + length (take n bytes) ≡ suc (length (take n bytes)) = omega arith in e) in
+    elim (cases_lt n (length bytes)) [
+      | inl few ↦ more ∙ ap (λ k. drop k bytes) (length-take-le n bytes (omega (arith, few)))
+      | inr many ↦ more ∙ drop_all (length (take n bytes)) bytes (let all : length (take n bytes) ≡ length bytes = ap length (take_all n bytes many) in omega (arith, all)) ∙ sym (drop_all n bytes many)
+    ]
+
+-- a key, and a value that is copied
+pub entry_copied : (room : ℕ) (bytes : List ℕ) (n : ℕ) → EntryPut room bytes → IsCopied tagged_bytes (after_key bytes) n (judge_value room (after_key bytes)) → IsCopied entry_bytes bytes (1 + length (key_in bytes) + n) (judge_entry (judge_value room) bytes)
+entry_copied room bytes n put h =
+    let k = 1 + length (key_in bytes) in
+    let rest : drop k bytes ≡ after_key bytes = key_dropped bytes put.within in
+    record {
+      within = let long = ap length rest in omega (arith, long, length-drop k bytes, h.within, put.within);
+      bytes_are = take-add k n bytes ∙ ap (λ bs. take k bytes ++ take n bs) rest ∙ ap (λ bs. take k bytes ++ bs) h.bytes_are ∙ sym put.bytes_are;
+    }
+
+-- the same, by the parts of the entry
+pub entry_whole : (room : ℕ) (bytes key rest : List ℕ) (n : ℕ) → key ≡ key_in bytes → rest ≡ after_key bytes → IsRead (judge_entry (judge_value room) bytes) → (IsRead (judge_value room rest) → IsCopied tagged_bytes rest n (judge_value room rest))
+    → IsCopied entry_bytes bytes (1 + length key + n) (judge_entry (judge_value room) bytes)
+entry_whole room bytes key rest n key_is rest_is read copied =
+    let put = entry_put room bytes read in
+    let P : List ℕ → Type 0 = λ bs. IsRead (judge_value room bs) → IsCopied tagged_bytes bs n (judge_value room bs) in
+    let Q : List ℕ → Type 0 = λ k. IsCopied entry_bytes bytes (1 + length k + n) (judge_entry (judge_value room) bytes) in
+    let here : IsRead (judge_value room (after_key bytes)) → IsCopied tagged_bytes (after_key bytes) n (judge_value room (after_key bytes)) = subst P rest_is copied in
+    subst Q (sym key_is) (entry_copied room bytes n put (here put.read))

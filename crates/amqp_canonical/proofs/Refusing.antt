@@ -12,7 +12,7 @@ use Rattle.amqp_values.proofs.Filling.{refuses_whole}
 use Rattle.amqp_canonical.specs.declared.values.ValueJudgement.{ValueJudgement}
 use Rattle.amqp_canonical.specs.Judgements.{MayRefuse, Judges, JudgesEntry}
 
--- a refusal that is no want of memory
+-- a refusal that is not out of memory
 abbrev pub Fails : {A : Type 0} → ParserError → Judged A → Type 0
 Fails error judged = MayRefuse error × Refuses error judged
 

@@ -1,5 +1,5 @@
 -- What judging bytes without memory returns: what is judged, and whether it stands in its canonical bytes.
-use Rattle.std.specs.Prelude.{◌≡◌, ◌≢◌, ◌↔◌, ℕ, List, ◌++◌, take, Bool, IsTrue, Result, Ok, Err}
+use Rattle.std.specs.Prelude.{◌≡◌, ◌≢◌, ◌↔◌, ◌⊎◌, ◌<◌, ◌≤◌, ℕ, List, ◌++◌, take, Bool, true, IsTrue, Option, option_map, Result, Ok, Err}
 use Rattle.std.specs.declared.cmp.Ordering.TheVariants.{Less}
 use Rattle.std.specs.Ordering.{nat_cmp}
 use Rattle.std.specs.Cmp.Lexicographic.{slice_cmp}
@@ -8,6 +8,7 @@ use Rattle.amqp_types.specs.Strings.{short_string_bytes, with_length}
 use Rattle.amqp_types.specs.Values.{FieldValue, Entry, values_of, entries_of}
 use Rattle.amqp_types.specs.ValueBytes.{value_bytes, values_bytes, entries_bytes, tagged_bytes}
 use Rattle.amqp_types.specs.Settling.{IsRising}
+use Rattle.amqp_types.specs.Tags.{tag_at}
 use Rattle.amqp_types.specs.Judging.{Judged, Fault, took}
 use Rattle.amqp_types.specs.Answers.{Refuses, RefusesWhole}
 use Rattle.amqp_types.specs.declared.errors.ParserError.{ParserError}
@@ -37,9 +38,22 @@ layout_at tag.FieldTable = layout.Entries
 layout_at tag.ByteArray = layout.Counted
 layout_at tag.Void = layout.Fixed 0
 
+-- how what stands after a tag byte is laid out, where the byte is a tag
+abbrev pub layout_after_byte : ℕ → Option Layout
+layout_after_byte byte = option_map layout_at (tag_at byte)
+
+-- what has one size takes few bytes
+abbrev pub IsShort : Layout → Type 0
+IsShort (layout.Fixed n) = n ≤ 8
+IsShort other = Unit {0}
+
 -- a key comes before another in the order of their bytes
 abbrev pub IsBelow : List ℕ → List ℕ → Type 0
 IsBelow key next = slice_cmp nat_cmp key next ≡ Less
+
+-- the key of the entry at a place comes after the previous one, where there is one
+abbrev pub IsAbove : ℕ → List ℕ → List ℕ → Bool → Type 0
+IsAbove at previous key above = ((at ≡ 0) × (above ≡ true)) ⊎ ((0 < at) × (IsTrue above ↔ IsBelow previous key))
 
 -- nothing here takes memory
 abbrev pub MayRefuse : ParserError → Type 0

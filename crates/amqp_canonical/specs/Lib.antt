@@ -3,6 +3,7 @@ pub mod CanonicalLaws
 pub mod Shapes
 pub mod SlotJudgements
 pub mod Writes
+pub mod Leads
 pub mod Marks
 pub mod Places
 pub mod WritingLaws

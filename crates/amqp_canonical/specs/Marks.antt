@@ -9,7 +9,8 @@ use Rattle.amqp_types.specs.Settling.{last_at, settled}
 use Rattle.amqp_types.specs.Values.{Entry, FieldValue, void_value}
 use Rattle.amqp_types.specs.ValueJudging.{filled, judge_entry, judge_value}
 use Rattle.amqp_canonical.specs.Judgements.{IsBelow}
-use Rattle.amqp_canonical.specs.Writes.{IsRead, IsFilled, items_of, key_in}
+use Rattle.amqp_canonical.specs.Leads.{key_at}
+use Rattle.amqp_canonical.specs.Writes.{IsRead, IsFilled, items_of}
 use Rattle.amqp_canonical.specs.Places.{ArePlaced}
 use Rattle.amqp_canonical.specs.declared.marks.Mark.{Mark}
 
@@ -47,17 +48,13 @@ pub record AreMarks (room : ℕ) (content : List ℕ) (marks : List Mark) : Type
 
 -- ---- marks in order
 
--- the key at a mark's place
-abbrev pub key_at : List ℕ → Mark → List ℕ
-key_at content mark = key_in (drop mark.place content)
-
 -- the key comes after the previous one, or is the same at a later place
 abbrev pub Follows : List ℕ → Mark → Mark → Type 0
 Follows content previous mark = IsBelow (key_at content previous) (key_at content mark) ⊎ ((key_at content previous ≡ key_at content mark) × (previous.place < mark.place))
 
 -- what is found where there is no mark
 abbrev pub blank : Mark
-blank = record { lead = 0; place = 0 }
+blank = record { lead = 0; more = 0; place = 0 }
 
 -- each follows the one before it
 abbrev pub AreInOrder : List ℕ → List Mark → Type 0

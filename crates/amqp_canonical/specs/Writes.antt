@@ -1,5 +1,5 @@
 -- What is written in place of bytes that were read.
-use Rattle.std.specs.Prelude.{ℕ, List, [], ◌∷◌, ◌++◌, take, drop, Result, Ok, Err}
+use Rattle.std.specs.Prelude.{◌≡◌, ◌≤◌, ℕ, List, [], ◌∷◌, ◌++◌, length, take, drop, Result, Ok, Err}
 use Rattle.amqp_types.specs.Judging.{Judged, Fault, took, past, fault}
 use Rattle.amqp_types.specs.Strings.{short_string_bytes}
 use Rattle.amqp_types.specs.Slots.{Item, Slot, kept_slot, reserved_slot}
@@ -24,6 +24,11 @@ abbrev pub canonical_of : {A : Type 0} → (A → List ℕ) → Judged A → Lis
 canonical_of canonical (took x n) = canonical x
 canonical_of canonical past = []
 canonical_of canonical (fault bad) = []
+
+-- the first n bytes are the canonical bytes of what was taken
+pub record IsCopied {A : Type 0} (canonical : A → List ℕ) (bytes : List ℕ) (n : ℕ) (j : Judged A) : Type 0 where
+  pub within : n ≤ length bytes
+  pub bytes_are : take n bytes ≡ canonical_of canonical j
 
 -- the bytes are items, one after another
 abbrev pub IsFilled : {A : Type 0} → Result (List A) Fault → Type 0

@@ -12,7 +12,7 @@ use crate::slots::{Judgement, judge_form, judge_slots};
 use amqp_types::{ParserError, parse_short_uint};
 
 /// Whether a mask has this bit, counted from 0.
-pub(crate) fn has_bit(mask: u16, bit: u16) -> bool
+pub fn has_bit(mask: u16, bit: u16) -> bool
     ensures { result ≡ flag_at mask bit }
 {
     bit < 16 && (mask >> bit) & 1 == 1

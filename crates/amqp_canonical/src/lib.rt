@@ -4,6 +4,7 @@
 
 mod headers;
 mod laws;
+mod leads;
 mod marks;
 mod payload_writing;
 mod payloads;
@@ -12,21 +13,24 @@ mod shapes;
 mod slot_writing;
 mod slots;
 mod spans;
+mod texts;
 mod values;
 mod writing;
 mod writing_laws;
 
-pub use headers::judge_content_header;
+pub use headers::{has_bit, judge_content_header};
 pub use laws::{
     canonical_content_headers_are_strict, canonical_payloads_are_strict,
     canonical_slots_are_strict, canonical_values_are_strict,
 };
 pub use marks::Mark;
-pub use payload_writing::{put_content_header, put_payload};
+pub use payload_writing::{put_content_header, put_payload, put_properties};
 pub use payloads::judge_payload;
+pub use selection::next_entry;
 pub use shapes::{Shape, header_shapes, property_shapes, shapes_of};
-pub use slot_writing::put_slots;
+pub use slot_writing::{put_slots, slot_size};
 pub use slots::{Judgement, judge_slots};
+pub use spans::{bytes_from, content_of, entry_size, split_key, value_size};
 pub use values::{ValueJudgement, judge_array, judge_table, judge_value};
 pub use writing::{put_array, put_table, put_value};
 pub use writing_laws::written_is_no_longer;

@@ -1,9 +1,11 @@
 //! Marks of the entries of a table, by which they are put in order.
 
-ghost use Rattle.std.specs.Prelude.{◌≡◌, ◌≤◌, ◌<◌, ◌+◌, ℕ, length, map, take, drop, slice_index_or, IfSome, IsTrue};
+ghost use Rattle.std.specs.Prelude.{◌≡◌, ◌≤◌, ◌<◌, ◌+◌, ◌↔◌, ℕ, length, map, take, drop, slice_index_or, All, IfSome, IsTrue};
 ghost use Rattle.std.specs.List.Sorted.{IsPermutation};
+ghost use Rattle.amqp_canonical.specs.Leads.{HasLead, key_at};
 ghost use Rattle.amqp_canonical.specs.Marks.{AreEntries, AreInOrder, AreMarks, AreOfTable, AreRead, Follows, blank, marked_entry, ties};
 
+use crate::leads::{first_eight, next_four};
 use crate::spans::{bytes_from, entry_size, split_key};
 use std::cmp::Ordering;
 
@@ -14,22 +16,11 @@ pub struct Mark {
     /// The first eight bytes of the key as a number, with zeros after a shorter key.
     lead: u64,
 
+    /// The four bytes after them.
+    more: u32,
+
     /// Where the entry begins in the content of its table.
     place: u32,
-}
-
-/// The first eight bytes of a key as a number, with zeros after a shorter key.
-fn leading_bytes(key: &[u8]) -> u64 {
-    match key {
-        [a, b, c, d, e, f, g, h, ..] => u64::from_be_bytes([*a, *b, *c, *d, *e, *f, *g, *h]),
-        _ => {
-            let mut bytes = [0; 8];
-            for (to, from) in bytes.iter_mut().zip(key) {
-                *to = *from;
-            }
-            u64::from_be_bytes(bytes)
-        }
-    }
 }
 
 /// The bytes from a mark's place on.
@@ -44,20 +35,24 @@ pub(crate) fn marked(content: &[u8], mark: Mark) -> &[u8]
 fn mark_entries(marks: &mut [Mark], content: &[u8]) -> Option<usize>
     ensures len { length marks.new ≡ length marks.old }
     ensures within { IfSome result (λ count. count ≤ length marks.new) }
+    ensures leads { IfSome result (λ count. All (HasLead content.now) (take count marks.new)) }
     ensures marked { IfSome result (λ count. (room : ℕ) → AreEntries room content.now → AreMarks room content.now (take count marks.new)) }
 {
+    if content.len() > u32::MAX as usize {
+        return None;
+    }
     let mut count = 0;
     let mut at = 0;
     while at < content.len() {
         if count == marks.len() {
             return None;
         }
-        let place = u32::try_from(at).ok()?;
         let entry = &content[at..];
         let (key, _) = split_key(entry);
         marks[count] = Mark {
-            lead: leading_bytes(key),
-            place,
+            lead: first_eight(key),
+            more: next_four(key),
+            place: at as u32,
         };
         count += 1;
         at += entry_size(entry);
@@ -65,19 +60,27 @@ fn mark_entries(marks: &mut [Mark], content: &[u8]) -> Option<usize>
     Some(count)
 }
 
-/// How two marks stand: by their keys, and where those are equal, by their places.
-fn order(content: &[u8], a: &Mark, b: &Mark) -> Ordering {
-    match a.lead.cmp(&b.lead) {
-        Ordering::Equal => {
-            let (a_key, _) = split_key(marked(content, *a));
-            let (b_key, _) = split_key(marked(content, *b));
-            match a_key.cmp(b_key) {
-                Ordering::Equal => a.place.cmp(&b.place),
-                unequal => unequal,
-            }
-        }
+/// How two marks stand by their keys, and where those are equal, by their places.
+#[inline(never)]
+fn order_keys(content: &[u8], a: Mark, b: Mark) -> Ordering {
+    let (a_key, _) = split_key(marked(content, a));
+    let (b_key, _) = split_key(marked(content, b));
+    match a_key.cmp(b_key) {
+        Ordering::Equal => a.place.cmp(&b.place),
         unequal => unequal,
     }
+}
+
+/// The same, by the first bytes of their keys where these differ.
+#[inline(always)]
+fn order(content: &[u8], a: &Mark, b: &Mark) -> Ordering {
+    if a.lead != b.lead {
+        return a.lead.cmp(&b.lead);
+    }
+    if a.more != b.more {
+        return a.more.cmp(&b.more);
+    }
+    order_keys(content, *a, *b)
 }
 
 /// Sorts marks. Nothing rests on which order that is, since it is looked at again.
@@ -87,8 +90,9 @@ fn sort(marks: &mut [Mark], content: &[u8])
     marks.sort_unstable_by(|a, b| order(content, a, b));
 }
 
-/// Whether a key comes after the previous one, or is the same at a later place.
-fn follows(content: &[u8], previous: Mark, mark: Mark) -> bool
+/// Whether a key comes after the previous one, or is the same at a later place, by both keys.
+#[inline(never)]
+fn key_follows(content: &[u8], previous: Mark, mark: Mark) -> bool
     ensures { IsTrue result → Follows content.now previous mark }
 {
     let (previous_key, _) = split_key(marked(content, previous));
@@ -100,13 +104,29 @@ fn follows(content: &[u8], previous: Mark, mark: Mark) -> bool
     }
 }
 
+/// The same, by the first bytes of the keys where these differ.
+#[inline(always)]
+fn follows(content: &[u8], previous: &Mark, mark: &Mark) -> bool
+    requires { HasLead content.now previous.now × HasLead content.now mark.now }
+    ensures { IsTrue result → Follows content.now previous.now mark.now }
+{
+    if previous.lead != mark.lead {
+        return previous.lead < mark.lead;
+    }
+    if previous.more != mark.more {
+        return previous.more < mark.more;
+    }
+    key_follows(content, *previous, *mark)
+}
+
 /// Whether each mark follows the one before it.
 fn are_in_order(marks: &[Mark], content: &[u8]) -> bool
+    requires { All (HasLead content.now) marks.now }
     ensures { IsTrue result → AreInOrder content.now marks.now }
 {
     let mut k = 1;
     while k < marks.len() {
-        if !follows(content, marks[k - 1], marks[k]) {
+        if !follows(content, &marks[k - 1], &marks[k]) {
             return false;
         }
         k += 1;
@@ -114,14 +134,12 @@ fn are_in_order(marks: &[Mark], content: &[u8]) -> bool
     true
 }
 
-/// Puts marks in order, where they are not, and returns whether they are.
+/// Puts marks in order, and returns whether they are.
 fn put_in_order(marks: &mut [Mark], content: &[u8]) -> bool
+    requires { All (HasLead content.now) marks.old }
     ensures permuted { IsPermutation marks.old marks.new }
     ensures order { IsTrue result → AreInOrder content.now marks.new }
 {
-    if are_in_order(marks, content) {
-        return true;
-    }
     sort(marks, content);
     are_in_order(marks, content)
 }
@@ -130,6 +148,7 @@ fn put_in_order(marks: &mut [Mark], content: &[u8]) -> bool
 /// more than marks.
 pub(crate) fn mark_in_order(marks: &mut [Mark], content: &[u8]) -> Option<usize>
     ensures within { IfSome result (λ count. count ≤ length marks.new) }
+    ensures leads { IfSome result (λ count. All (HasLead content.now) (take count marks.new)) }
     ensures table { IfSome result (λ count. (room : ℕ) → AreEntries room content.now → AreOfTable room content.now (take count marks.new)) }
 {
     let count = mark_entries(marks, content)?;
@@ -140,18 +159,33 @@ pub(crate) fn mark_in_order(marks: &mut [Mark], content: &[u8]) -> Option<usize>
     }
 }
 
+/// Whether two keys are the same.
+#[inline(never)]
+fn is_same_key(content: &[u8], mark: Mark, next: Mark) -> bool
+    ensures { IsTrue result ↔ (key_at content.now mark ≡ key_at content.now next) }
+{
+    let (key, _) = split_key(marked(content, mark));
+    let (next_key, _) = split_key(marked(content, next));
+    key == next_key
+}
+
 /// Whether the next mark has the same key as this one.
+#[inline(always)]
 pub(crate) fn is_tied(marks: &[Mark], content: &[u8], k: usize) -> bool
-    requires { k < length marks.now }
-    ensures { (room : ℕ) → AreRead room content.now marks.now → result ≡ ties (marked_entry room content.now (slice_index_or marks.now k blank)) (map (marked_entry room content.now) (drop (k + 1) marks.now)) }
+    requires here { k < length marks.now }
+    requires leads { All (HasLead content.now) marks.now }
+    ensures { (room : ℕ) → AreRead room content.now marks.now
+        → result ≡ ties (marked_entry room content.now (slice_index_or marks.now k blank)) (map (marked_entry room content.now) (drop (k + 1) marks.now)) }
 {
     if k + 1 == marks.len() {
         return false;
     }
-    let (key, _) = split_key(marked(content, marks[k]));
-    let (next, _) = split_key(marked(content, marks[k + 1]));
-    match key.cmp(next) {
-        Ordering::Equal => true,
-        _ => false,
+    let (mark, next) = (&marks[k], &marks[k + 1]);
+    if mark.lead != next.lead {
+        return false;
     }
+    if mark.more != next.more {
+        return false;
+    }
+    is_same_key(content, *mark, *next)
 }

@@ -65,7 +65,7 @@ fn put_set(buf: &mut [u8], at: usize, scratch: &mut [Mark], mask: u16, i: &[u8])
 
 /// Puts the canonical bytes of a mask and of the properties whose bits are set in it. The two bits that no property has
 /// are put as zero.
-fn put_properties(buf: &mut [u8], at: usize, scratch: &mut [Mark], i: &[u8]) -> usize
+pub fn put_properties(buf: &mut [u8], at: usize, scratch: &mut [Mark], i: &[u8]) -> usize
     requires read { IsRead (judge_properties i.now) }
     requires room { at + length (canonical_of properties_bytes (judge_properties i.now)) ≤ length buf.old }
     ensures { Puts buf.old buf.new at (canonical_of properties_bytes (judge_properties i.now)) result }

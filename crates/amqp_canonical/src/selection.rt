@@ -27,8 +27,9 @@ fn comes_first(key: &[u8], found: Option<(usize, &[u8])>) -> bool
 }
 
 /// The place and the key of the entry with the least key after the last one. Of equal keys the last one counts.
-pub(crate) fn next_entry<'a>(content: &'a [u8], last: Option<&[u8]>) -> Option<(usize, &'a [u8])>
-    ensures { (room : ℕ) → AreEntries room content.now → FindsNext (λ k. k.now) room content.now (option_map (λ k. k.now) last.entry) (entries_in room content.now) result }
+pub fn next_entry<'a>(content: &'a [u8], last: Option<&[u8]>) -> Option<(usize, &'a [u8])>
+    ensures { (room : ℕ) → AreEntries room content.now
+        → FindsNext (λ k. k.now) room content.now (option_map (λ k. k.now) last.entry) (entries_in room content.now) result }
 {
     let mut found: Option<(usize, &[u8])> = None;
     let mut at = 0;

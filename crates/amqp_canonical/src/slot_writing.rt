@@ -18,7 +18,7 @@ use amqp_types::{put_bytes, put_long_uint, put_short_uint};
 const ROOM: usize = 63;
 
 /// How many bytes a slot of this shape takes at the front, where one was read there.
-pub(crate) fn slot_size(shape: Shape, i: &[u8]) -> usize
+pub fn slot_size(shape: Shape, i: &[u8]) -> usize
     ensures used { IsRead (judge_form (form_of shape) i.now) → result ≡ used_of (judge_form (form_of shape) i.now) }
     ensures bound { result ≤ length i.now + 8 }
 {

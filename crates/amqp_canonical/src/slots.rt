@@ -8,10 +8,9 @@ ghost use Rattle.amqp_canonical.specs.Shapes.{form_of, slot_of, slots_of};
 ghost use Rattle.amqp_canonical.specs.SlotJudgements.{JudgesForm, JudgesReserved, JudgesConstant, JudgesSlot, JudgesSlots};
 
 use crate::shapes::Shape;
+use crate::texts::short_text;
 use crate::values::judge_table;
-use amqp_types::{
-    ParserError, parse_long_bytes, parse_long_uint, parse_short_str, parse_short_uint,
-};
+use amqp_types::{ParserError, parse_long_bytes, parse_long_uint, parse_short_uint};
 
 /// Slots, a method or a content header that stand at the front of a slice.
 #[derive(Clone, Copy, Debug, PartialEq, Eq)]
@@ -27,6 +26,7 @@ pub struct Judgement {
 }
 
 /// Judges a number of so many bytes.
+#[inline(always)]
 fn judge_number(count: usize, i: &[u8]) -> Result<Judgement, ParserError>
     ensures judged { (width : NumberWidth) → byte_count width ≡ count → JudgesForm (number_form width) i.now result }
     ensures used { IfOk result (λ j. j.used ≤ length i.now) }
@@ -42,6 +42,7 @@ fn judge_number(count: usize, i: &[u8]) -> Result<Judgement, ParserError>
 }
 
 /// Whether a byte has no bit above the first `count` ones.
+#[inline(always)]
 fn fits_flags(count: u8, byte: u8) -> bool
     ensures { IsTrue result ↔ (byte < 2 ^ count) }
 {
@@ -49,6 +50,7 @@ fn fits_flags(count: u8, byte: u8) -> bool
 }
 
 /// Judges a byte of so many flags.
+#[inline(always)]
 fn judge_flags(count: u8, i: &[u8]) -> Result<Judgement, ParserError>
     ensures judged { JudgesForm (flags_form count) i.now result }
     ensures used { IfOk result (λ j. j.used ≤ length i.now) }
@@ -67,11 +69,12 @@ fn judge_flags(count: u8, i: &[u8]) -> Result<Judgement, ParserError>
 }
 
 /// Judges a short string.
+#[inline(always)]
 fn judge_short_string(i: &[u8]) -> Result<Judgement, ParserError>
     ensures judged { JudgesForm short_string_form i.now result }
     ensures used { IfOk result (λ j. j.used ≤ length i.now) }
 {
-    let (used, _) = parse_short_str(i)?;
+    let (used, _) = short_text(i)?;
     Ok(Judgement {
         used,
         canonical: true,
@@ -80,6 +83,7 @@ fn judge_short_string(i: &[u8]) -> Result<Judgement, ParserError>
 }
 
 /// Judges a long string.
+#[inline(always)]
 fn judge_long_string(i: &[u8]) -> Result<Judgement, ParserError>
     ensures judged { JudgesForm long_string_form i.now result }
     ensures used { IfOk result (λ j. j.used ≤ length i.now) }
@@ -106,6 +110,7 @@ fn judge_field_table(i: &[u8]) -> Result<Judgement, ParserError>
 }
 
 /// Judges what a slot of this shape holds, whether it is reserved or not.
+#[inline(always)]
 pub(crate) fn judge_form(shape: Shape, i: &[u8]) -> Result<Judgement, ParserError>
     ensures judged { JudgesForm (form_of shape) i.now result }
     ensures used { IfOk result (λ j. j.used ≤ length i.now) }
@@ -124,6 +129,7 @@ pub(crate) fn judge_form(shape: Shape, i: &[u8]) -> Result<Judgement, ParserErro
 }
 
 /// Judges a reserved number of 2 bytes.
+#[inline(always)]
 fn judge_reserved_short(constant: u16, i: &[u8]) -> Result<Judgement, ParserError>
     ensures judged { JudgesReserved (number_form bytes2) (number_item constant ∷ []) i.now result }
     ensures used { IfOk result (λ j. j.used ≤ length i.now) }
@@ -138,6 +144,7 @@ fn judge_reserved_short(constant: u16, i: &[u8]) -> Result<Judgement, ParserErro
 }
 
 /// Judges a reserved number of 4 bytes.
+#[inline(always)]
 fn judge_reserved_long(constant: u32, i: &[u8]) -> Result<Judgement, ParserError>
     ensures judged { JudgesReserved (number_form bytes4) (number_item constant ∷ []) i.now result }
     ensures used { IfOk result (λ j. j.used ≤ length i.now) }
@@ -152,6 +159,7 @@ fn judge_reserved_long(constant: u32, i: &[u8]) -> Result<Judgement, ParserError
 }
 
 /// Judges a reserved slot, whose constant is written in these bytes.
+#[inline(always)]
 fn judge_reserved(shape: Shape, constant: &[u8], i: &[u8]) -> Result<Judgement, ParserError>
     ensures judged { JudgesConstant (form_of shape) constant.now i.now result }
     ensures used { IfOk result (λ j. j.used ≤ length i.now) }
@@ -166,6 +174,7 @@ fn judge_reserved(shape: Shape, constant: &[u8], i: &[u8]) -> Result<Judgement, 
 }
 
 /// Judges a slot of this shape.
+#[inline(always)]
 fn judge_slot(shape: Shape, i: &[u8]) -> Result<Judgement, ParserError>
     ensures judged { JudgesSlot (slot_of shape) i.now result }
     ensures least { are_least (slot_of shape ∷ []) ≡ true }

@@ -1,11 +1,13 @@
 //! Judging values, arrays and tables at the front of a slice.
 
-ghost use Rattle.std.specs.Prelude.{◌≡◌, ◌≤◌, ◌<◌, ◌↔◌, length, IfOk, IsTrue};
+ghost use Rattle.std.specs.Prelude.{◌≡◌, ◌≤◌, ◌<◌, ◌↔◌, Some, length, IfOk, IfSome, IsTrue};
+ghost use Rattle.amqp_types.specs.Tags.{tag_at, tag_byte};
 ghost use Rattle.amqp_types.specs.Booleans.{judge_boolean};
 ghost use Rattle.amqp_types.specs.ValueJudging.{filled, nested, inside_error, judge_entry, judge_array, judge_table, judge_behind, judge_value};
-ghost use Rattle.amqp_canonical.specs.Judgements.{layout_at, IsBelow, MayRefuse, IsCanonicalBoolean, IsCanonicalAfterTag, IsCanonicalValue, AreCanonicalValues, AreCanonicalEntries, IsCanonicalArray, IsCanonicalTable, Judges, JudgesEntry, JudgesWhole};
+ghost use Rattle.amqp_canonical.specs.Judgements.{layout_at, layout_after_byte, IsShort, IsAbove, IsBelow, MayRefuse, IsCanonicalBoolean, IsCanonicalAfterTag, IsCanonicalValue, AreCanonicalValues, AreCanonicalEntries, IsCanonicalArray, IsCanonicalTable, Judges, JudgesEntry, JudgesWhole};
 
-use amqp_types::{FieldTag, ParserError, parse_long_bytes, parse_short_str};
+use crate::texts::short_text;
+use amqp_types::{FieldTag, ParserError, parse_long_bytes};
 use std::cmp::Ordering;
 
 /// A value, an array or a table that stands at the front of a slice.
@@ -38,8 +40,10 @@ pub(crate) enum Layout {
 }
 
 /// How what stands after this tag is laid out.
+#[inline(always)]
 pub(crate) fn layout_of(tag: FieldTag) -> Layout
-    ensures { result ≡ layout_at tag }
+    ensures is { result ≡ layout_at tag }
+    ensures few { IsShort result }
 {
     match tag {
         FieldTag::Void => Layout::Fixed(0),
@@ -53,6 +57,35 @@ pub(crate) fn layout_of(tag: FieldTag) -> Layout
         FieldTag::FieldArray => Layout::Values,
         FieldTag::FieldTable => Layout::Entries,
     }
+}
+
+/// How what stands after a tag byte is laid out. None where the byte is no tag.
+#[inline(always)]
+pub(crate) fn layout_after(byte: u8) -> Option<Layout>
+    ensures is { result ≡ layout_after_byte byte }
+    ensures few { IfSome result IsShort }
+{
+    match byte {
+        b'V' => Some(Layout::Fixed(0)),
+        b'b' | b'B' => Some(Layout::Fixed(1)),
+        b's' | b'u' | b'U' => Some(Layout::Fixed(2)),
+        b'I' | b'i' | b'f' => Some(Layout::Fixed(4)),
+        b'D' => Some(Layout::Fixed(5)),
+        b'l' | b'L' | b'd' | b'T' => Some(Layout::Fixed(8)),
+        b't' => Some(Layout::OneBoolean),
+        b'S' | b'x' => Some(Layout::Counted),
+        b'A' => Some(Layout::Values),
+        b'F' => Some(Layout::Entries),
+        _ => None,
+    }
+}
+
+/// Whether a tag byte is the one that is written for its tag: `U` and `L` are read, and never written.
+#[inline(always)]
+pub(crate) fn is_written(byte: u8) -> bool
+    ensures { (tag : FieldTag) → tag_at byte ≡ Some tag → IsTrue result ↔ (tag_byte tag ≡ byte) }
+{
+    byte != b'U' && byte != b'L'
 }
 
 /// An error of what stands inside a table or an array whose bytes are all there.
@@ -77,6 +110,15 @@ fn is_above(key: &[u8], previous: &[u8]) -> bool
     }
 }
 
+/// Whether a key comes after the previous one, where there is one. It is not looked at where the entries before are not
+/// canonical, and true is returned then.
+#[inline(always)]
+fn is_next(canonical: bool, at: usize, key: &[u8], previous: &[u8]) -> bool
+    ensures { IsTrue canonical → IsAbove at previous.now key.now result }
+{
+    !canonical || at == 0 || is_above(key, previous)
+}
+
 /// Judges a truth value.
 fn judge_boolean(i: &[u8]) -> Result<ValueJudgement, ParserError>
     ensures judged { Judges IsCanonicalBoolean i.now result (judge_boolean i.now) }
@@ -92,6 +134,7 @@ fn judge_boolean(i: &[u8]) -> Result<ValueJudgement, ParserError>
 }
 
 /// Judges a tag and its value, in which tables and arrays may nest `room` deep (AMQP 0-9-1, section 4.2.5.5).
+#[inline(always)]
 #[cycle(judge)]
 pub fn judge_value(i: &[u8], room: usize) -> Result<ValueJudgement, ParserError>
     ensures judged { Judges IsCanonicalValue i.now result (judge_value room i.now) }
@@ -99,26 +142,27 @@ pub fn judge_value(i: &[u8], room: usize) -> Result<ValueJudgement, ParserError>
 {
     match i {
         [] => Err(ParserError::Incomplete),
-        [byte, rest @ ..] => match FieldTag::from_byte(*byte) {
+        [byte, rest @ ..] => match layout_after(*byte) {
             None => Err(ParserError::UnknownTag),
-            Some(tag) => {
-                let value = judge_after_tag(tag, rest, room)?;
+            Some(layout) => {
+                let value = judge_after_tag(layout, rest, room)?;
                 Ok(ValueJudgement {
                     used: 1 + value.used,
-                    canonical: value.canonical & (tag.to_byte() == *byte),
+                    canonical: value.canonical & is_written(*byte),
                 })
             }
         },
     }
 }
 
-/// Judges the value after a tag.
+/// Judges the value after a tag that is laid out so.
+#[inline(always)]
 #[cycle(judge)]
-fn judge_after_tag(tag: FieldTag, i: &[u8], room: usize) -> Result<ValueJudgement, ParserError>
-    ensures judged { Judges IsCanonicalAfterTag i.now result (judge_behind (nested room) tag i.now) }
+fn judge_after_tag(layout: Layout, i: &[u8], room: usize) -> Result<ValueJudgement, ParserError>
+    ensures judged { (tag : FieldTag) → layout_at tag ≡ layout → Judges IsCanonicalAfterTag i.now result (judge_behind (nested room) tag i.now) }
     ensures used { IfOk result (λ w. w.used ≤ length i.now) }
 {
-    match layout_of(tag) {
+    match layout {
         Layout::Fixed(n) => {
             if i.len() < n {
                 return Err(ParserError::Incomplete);
@@ -152,6 +196,7 @@ fn judge_after_tag(tag: FieldTag, i: &[u8], room: usize) -> Result<ValueJudgemen
 }
 
 /// Judges an array, in whose values tables and arrays may nest `room` deep.
+#[inline(never)]
 #[cycle(judge)]
 pub fn judge_array(i: &[u8], room: usize) -> Result<ValueJudgement, ParserError>
     ensures judged { Judges IsCanonicalArray i.now result (judge_array (judge_value room) i.now) }
@@ -163,6 +208,7 @@ pub fn judge_array(i: &[u8], room: usize) -> Result<ValueJudgement, ParserError>
 }
 
 /// Judges a table, in whose values tables and arrays may nest `room` deep (AMQP 0-9-1, section 4.2.5.5).
+#[inline(never)]
 #[cycle(judge)]
 pub fn judge_table(i: &[u8], room: usize) -> Result<ValueJudgement, ParserError>
     ensures judged { Judges IsCanonicalTable i.now result (judge_table (judge_value room) i.now) }
@@ -204,7 +250,7 @@ fn judge_entries(content: &[u8], room: usize) -> Result<bool, ParserError>
             Ok(found) => found,
             Err(error) => return Err(inside(error)),
         };
-        let above = at == 0 || is_above(key, previous);
+        let above = is_next(canonical, at, key, previous);
         canonical = canonical & item.canonical & above;
         previous = key;
         at += item.used;
@@ -218,14 +264,14 @@ fn judge_entry(i: &[u8], room: usize) -> Result<(ValueJudgement, &[u8]), ParserE
     ensures judged { JudgesEntry (λ key. key.now) i.now result (judge_entry (judge_value room) i.now) }
     ensures used { IfOk result (λ found. (0 < found.0.used) × (found.0.used ≤ length i.now)) }
 {
-    let (n, key) = parse_short_str(i)?;
+    let (n, key) = short_text(i)?;
     let value = judge_value(&i[n..], room)?;
     Ok((
         ValueJudgement {
             used: n + value.used,
             canonical: value.canonical,
         },
-        key.as_bytes(),
+        key,
     ))
 }
 

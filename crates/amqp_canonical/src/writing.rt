@@ -6,11 +6,12 @@ ghost use Rattle.amqp_types.specs.ValueBytes.{array_bytes, table_bytes, tagged_b
 ghost use Rattle.amqp_types.specs.ValueJudging.{filled, nested, judge_array, judge_behind, judge_entry, judge_table, judge_value};
 ghost use Rattle.amqp_types.specs.Writing.{Puts};
 ghost use Rattle.amqp_canonical.specs.Writes.{IsRead, IsFilled, array_content, canonical_of, entry_bytes, items_of, table_content};
+ghost use Rattle.amqp_canonical.specs.Leads.{HasLead};
 ghost use Rattle.amqp_canonical.specs.Marks.{AreEntries, entries_in, entry_at, last_of_ties, marked_entry};
 
 use crate::marks::{Mark, is_tied, mark_in_order, marked};
 use crate::selection::next_entry;
-use crate::spans::{bytes_from, content_of, size_after_tag, split_key, value_size};
+use crate::spans::{bytes_from, content_of, copied_size, size_in, split_key, value_size};
 use crate::values::{Layout, layout_of};
 use amqp_types::{FieldTag, put_boolean, put_bytes, put_long_uint};
 
@@ -49,7 +50,11 @@ fn put_after_tag(
     ensures { Puts buf.old buf.new at (canonical_of value_bytes (judge_behind (nested room) tag i.now)) result }
 {
     match layout_of(tag) {
-        Layout::Fixed(_) | Layout::Counted => put_bytes(buf, at, &i[..size_after_tag(tag, i)]),
+        layout @ (Layout::Fixed(_) | Layout::Counted) => put_bytes(
+            buf,
+            at,
+            &i[..size_in(layout, i)],
+        ),
         Layout::OneBoolean => put_boolean(buf, at, &(i[0] != 0)),
         Layout::Values => put_array(buf, at, scratch, i, room - 1),
         Layout::Entries => put_table(buf, at, scratch, i, room - 1),
@@ -132,6 +137,7 @@ fn put_marked(
     room: usize,
 ) -> usize
     requires read { All (λ mark. IsRead (entry_at room content.now mark.place)) marks.now }
+    requires leads { All (HasLead content.now) marks.now }
     requires room { at + length (table_content (last_of_ties (map (marked_entry room content.now) marks.now))) ≤ length buf.old }
     ensures { Puts buf.old buf.new at (table_content (last_of_ties (map (marked_entry room content.now) marks.now))) result }
 {
@@ -169,7 +175,8 @@ fn put_selected(
     end
 }
 
-/// Puts the canonical bytes of an entry.
+/// Puts the canonical bytes of an entry. Most stand in them, and are copied in one piece.
+#[inline(always)]
 #[cycle(write)]
 fn put_entry(buf: &mut [u8], at: usize, scratch: &mut [Mark], i: &[u8], room: usize) -> usize
     requires read { IsRead (judge_entry (judge_value room) i.now) }
@@ -177,8 +184,13 @@ fn put_entry(buf: &mut [u8], at: usize, scratch: &mut [Mark], i: &[u8], room: us
     ensures { Puts buf.old buf.new at (canonical_of entry_bytes (judge_entry (judge_value room) i.now)) result }
 {
     let (key, value) = split_key(i);
-    let place = put_bytes(buf, at, &i[..1 + key.len()]);
-    put_value(buf, place, scratch, value, room)
+    match copied_size(value) {
+        Some(size) => put_bytes(buf, at, &i[..1 + key.len() + size]),
+        None => {
+            let place = put_bytes(buf, at, &i[..1 + key.len()]);
+            put_value(buf, place, scratch, value, room)
+        }
+    }
 }
 
 #[cfg(test)]

@@ -13,11 +13,5 @@ pub mod ReadingBack
 pub mod Sizes
 pub mod Parts
 pub mod Within
-pub mod Standing
-pub mod StrictWalk
-pub mod TableFronts
-pub mod Placed
-pub mod Permuted
-pub mod PayloadsInOrder
-pub mod Reordering
-pub mod EntriesPut
+pub mod Judged
+pub mod Rewritten

@@ -59,7 +59,7 @@ fills_less n used j x e less = ap (filling n) e ∙ rw (ne_eqb used n (λ h. abs
 pub fills_all : {A : Type 0} (n used : ℕ) (j : Judged A) (x : A) → j ≡ took x used → used ≡ n → filling n j ≡ Ok x
 fills_all n used j x e same = ap (filling n) e ∙ rw (eq-eqb used n same) refl
 
-filled_took : {A : Type 0} (n : ℕ) (j : Judged A) (x : A) → filling n j ≡ Ok x → j ≡ took x n
+pub filled_took : {A : Type 0} (n : ℕ) (j : Judged A) (x : A) → filling n j ≡ Ok x → j ≡ took x n
 filled_took n past x h = absurd cc
 filled_took n (fault bad) x h = absurd cc
 filled_took n (took y used) x h = elim (cases_eq used n) [

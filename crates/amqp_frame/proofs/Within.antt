@@ -69,7 +69,7 @@ frame_within bytes (Err error) fits h = tt
 -- ---- errors
 
 -- a fault of what stands in a whole payload, or behind it
-abbrev IsWhole : Fault → Type 0
+abbrev pub IsWhole : Fault → Type 0
 IsWhole trailing_bytes = Unit {0}
 IsWhole bad = IsInside bad
 
@@ -77,7 +77,7 @@ inside_whole : (bad : Fault) → IsInside bad → IsWhole bad
 inside_whole trailing_bytes h = tt
 inside_whole bad h = h
 
-filling_fails : {A : Type 0} (n : ℕ) (j : Judged A) (bad : Fault) → ((one : Fault) → j ≡ fault one → IsInside one) → filling n j ≡ Err bad → IsWhole bad
+pub filling_fails : {A : Type 0} (n : ℕ) (j : Judged A) (bad : Fault) → ((one : Fault) → j ≡ fault one → IsInside one) → filling n j ≡ Err bad → IsWhole bad
 filling_fails n past bad inside h = let same : short_payload ≡ bad = cc in subst IsWhole same tt
 filling_fails n (fault one) bad inside h = let same : one ≡ bad = cc in subst IsWhole same (inside_whole one (inside one refl))
 filling_fails n (took x used) bad inside h = elim (cases_eq used n) [
@@ -101,20 +101,20 @@ whole_fails kinds.Header channel payload bad h = filling_fails (length payload) 
 whole_fails kinds.Body channel payload bad h = absurd cc
 whole_fails kinds.Heartbeat channel payload bad h = absurd cc
 
-error_inside : (error : ParserError) (kind : AMQPFrameType) (channel : ℕ) (payload : List ℕ) → RefusesWhole error (whole_as kind channel payload) → IsPayloadError error
-error_inside errors.Incomplete kind channel payload h = h
-error_inside errors.UnknownFrameType kind channel payload h = whole_fails kind channel payload unknown_frame_type h
-error_inside errors.BadProtocolHeader kind channel payload h = whole_fails kind channel payload bad_protocol_header h
-error_inside errors.BadFrameEnd kind channel payload h = whole_fails kind channel payload bad_frame_end h
-error_inside errors.UnknownClass kind channel payload h = tt
-error_inside errors.UnknownMethod kind channel payload h = tt
-error_inside errors.ShortPayload kind channel payload h = tt
-error_inside errors.TrailingBytes kind channel payload h = tt
-error_inside errors.NotUtf8 kind channel payload h = tt
-error_inside errors.UnknownTag kind channel payload h = tt
-error_inside errors.TooDeep kind channel payload h = tt
-error_inside errors.NoMemory kind channel payload h = tt
+pub error_whole : {A : Type 0} (error : ParserError) (read : Result A Fault) → ((bad : Fault) → read ≡ Err bad → IsWhole bad) → RefusesWhole error read → IsPayloadError error
+error_whole errors.Incomplete read fails h = h
+error_whole errors.UnknownFrameType read fails h = fails unknown_frame_type h
+error_whole errors.BadProtocolHeader read fails h = fails bad_protocol_header h
+error_whole errors.BadFrameEnd read fails h = fails bad_frame_end h
+error_whole errors.UnknownClass read fails h = tt
+error_whole errors.UnknownMethod read fails h = tt
+error_whole errors.ShortPayload read fails h = tt
+error_whole errors.TrailingBytes read fails h = tt
+error_whole errors.NotUtf8 read fails h = tt
+error_whole errors.UnknownTag read fails h = tt
+error_whole errors.TooDeep read fails h = tt
+error_whole errors.NoMemory read fails h = tt
 
 pub payload_error : (kind : AMQPFrameType) (channel : ℕ) (payload : List ℕ) (r : Result AMQPFrame ParserError) → AnswersWhole frame_of r (whole_as kind channel payload) → IfErr r IsPayloadError
 payload_error kind channel payload (Ok frame) h = tt
-payload_error kind channel payload (Err error) h = error_inside error kind channel payload h
+payload_error kind channel payload (Err error) h = error_whole error (whole_as kind channel payload) (whole_fails kind channel payload) h

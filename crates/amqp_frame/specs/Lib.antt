@@ -9,12 +9,5 @@ pub mod Canonical
 pub mod Outlines
 pub mod Fronts
 pub mod Laws
-pub mod Shapes
-pub mod StrictFronts
-pub mod StrictSpans
 pub mod Rewrites
-pub mod StrictTables
-pub mod Reordered
-pub mod LentEntries
-pub mod Places
-pub mod Lending
+pub mod Judgements

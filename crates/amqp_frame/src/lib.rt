@@ -6,21 +6,17 @@ mod content_header;
 mod frame;
 mod frame_type;
 mod generation;
+mod judging;
 mod laws;
-mod lent_entries;
 mod looking;
 mod outline;
 mod parsing;
 mod raw_frame;
-mod reordered;
-mod reordered_tables;
 mod rewriting;
-mod shapes;
-mod strict;
-mod strict_tables;
 mod tidiness;
 mod version;
 
+pub use amqp_canonical::Mark;
 pub use amqp_types::{GenError, ParserError};
 pub use channel::AMQPChannel;
 pub use content_header::{AMQPContentHeader, parse_content_header};
@@ -29,6 +25,7 @@ pub use frame_type::AMQPFrameType;
 pub use generation::{
     frame_head, frame_size, gen_frame, gen_frame_slice, header_bytes, heartbeat_bytes, put_frame,
 };
+pub use judging::{FrameJudgement, judge_frame};
 pub use laws::{
     canonical_bytes_are_shortest, canonical_bytes_read_back, equal_bytes_are_equal_frames,
     front_is_longest, levels_nest, no_frame_begins_another, one_canonical_spelling, one_meaning,

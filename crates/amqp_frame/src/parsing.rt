@@ -113,7 +113,7 @@ fn heartbeat(channel_id: ChannelId) -> AMQPFrame
 }
 
 /// A refusal of what stands inside a payload whose bytes are all there.
-fn inside(error: ParserError) -> ParserError
+pub(crate) fn inside(error: ParserError) -> ParserError
     ensures { result ≡ inside_error error }
 {
     match error {

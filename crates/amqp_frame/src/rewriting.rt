@@ -1,98 +1,123 @@
-//! Putting the one spelling of a lent frame. Most frames come in it, and are copied as they stand.
+//! Putting the canonical bytes of a borrowed frame, without memory. Most frames come in them, and are copied.
 
-ghost use Rattle.std.specs.Prelude.{◌≡◌, ◌+◌, ◌^◌, ◌<◌, ◌≤◌, length, Err, IfOk, IfErr};
-ghost use Rattle.amqp_frame.specs.Frames.{raw_of, IsTyped, OwnsMemory};
+ghost use Rattle.std.specs.Prelude.{◌≡◌, ◌≢◌, ◌+◌, ◌^◌, ◌<◌, ◌≤◌, ℕ, List, Ok, Err, length, IfOk, IfErr};
+ghost use Rattle.amqp_types.specs.Methods.{judge_payload, payload_bytes};
+ghost use Rattle.amqp_types.specs.ContentHeaders.{judge_content_header, content_header_bytes};
+ghost use Rattle.amqp_types.specs.Writing.{Puts};
+ghost use Rattle.amqp_canonical.specs.Writes.{IsRead, canonical_of};
+ghost use Rattle.amqp_frame.specs.Frames.{raw_of};
+ghost use Rattle.amqp_frame.specs.Judgements.{JudgesFrame};
 ghost use Rattle.amqp_frame.specs.Rewrites.{Rewrites};
-ghost use Rattle.amqp_frame.specs.Verdicts.{IsPayloadError, whole};
+ghost use Rattle.amqp_frame.specs.Spelling.{framed};
+ghost use Rattle.amqp_frame.specs.Verdicts.{IsPayloadError, whole, whole_as};
 
-use crate::frame::release;
 use crate::frame_type::AMQPFrameType;
-use crate::generation::{put_frame, put_framed};
-use crate::parsing::parse_payload;
+use crate::generation::{frame_head, heartbeat_bytes, put_framed};
+use crate::judging::{FrameJudgement, judge_frame};
 use crate::raw_frame::AMQPRawFrame;
-use crate::reordered::{reordered_content_header, reordered_method};
-use crate::strict::{is_strict_content_header, is_strict_method};
-use amqp_types::ParserError;
-use std::alloc::Global;
+use amqp_canonical::{Mark, put_content_header, put_payload};
+use amqp_types::{ChannelId, ParserError, put_bytes};
 
-/// Reads a payload into memory, and puts the canonical bytes of its frame.
-fn put_read(
-    alloc: Global,
-    buf: &mut [u8],
-    at: usize,
-    raw: AMQPRawFrame<'_>,
-) -> Result<usize, ParserError>
-    requires few { length raw.payload.now < 2 ^ 32 }
-    requires room { at + length raw.payload.now + 8 ≤ length buf.old }
-    ensures whole { Rewrites buf.old buf.new at (whole (raw_of raw.entry)) result }
-    ensures within { IfOk result (λ end. end ≤ at + length raw.entry.payload.now + 8) }
-    ensures inside { IfErr result IsPayloadError }
-    ensures memory { result ≡ Err ParserError.NoMemory → OwnsMemory raw.entry.frame_type }
+/// Puts a frame around a payload that stands from 7 bytes behind a place to `end`.
+fn put_around(buf: &mut [u8], at: usize, end: usize, frame_type: u8, channel_id: ChannelId) -> usize
+    requires payload { at + 7 ≤ end }
+    requires few { end < at + 7 + 2 ^ 32 }
+    requires room { end < length buf.old }
+    ensures { (before payload : List ℕ) → Puts before buf.old (at + 7) payload end
+        → at + length (framed frame_type channel_id payload) ≤ length before
+        → Puts before buf.new at (framed frame_type channel_id payload) result }
 {
-    let frame = parse_payload(alloc, raw)?;
-    let end = put_frame(buf, at, &frame);
-    release(frame);
-    Ok(end)
+    put_bytes(
+        buf,
+        at,
+        &frame_head(frame_type, channel_id, (end - at - 7) as u32),
+    );
+    put_bytes(buf, end, &[206])
 }
 
-/// Puts the canonical bytes of a frame that does not come in them. This stands apart so that the way
-/// of most frames is short.
-#[inline(never)]
-#[tactic(auto, using(crate::proofs::Sizes::framed_length))]
-fn put_rewritten(
-    alloc: Global,
+/// Puts the frame of a method in its canonical bytes.
+fn put_method(
     buf: &mut [u8],
     at: usize,
-    raw: AMQPRawFrame<'_>,
-) -> Result<usize, ParserError>
-    requires few { length raw.payload.now < 2 ^ 32 }
-    requires room { at + length raw.payload.now + 8 ≤ length buf.old }
-    ensures whole { Rewrites buf.old buf.new at (whole (raw_of raw.entry)) result }
-    ensures within { IfOk result (λ end. end ≤ at + length raw.entry.payload.now + 8) }
-    ensures inside { IfErr result IsPayloadError }
-    ensures memory { result ≡ Err ParserError.NoMemory → OwnsMemory raw.entry.frame_type }
+    scratch: &mut [Mark],
+    channel_id: ChannelId,
+    payload: &[u8],
+) -> usize
+    requires read { IsRead (judge_payload payload.now) }
+    requires few { length payload.now < 2 ^ 32 }
+    requires room { at + length payload.now + 8 ≤ length buf.old }
+    ensures { Puts buf.old buf.new at (framed 1 channel_id (canonical_of payload_bytes (judge_payload payload.now))) result }
 {
-    let (channel_id, payload) = (raw.channel_id, raw.payload);
-    match raw.frame_type {
-        AMQPFrameType::Method => match reordered_method(alloc, payload) {
-            Some(written) => Ok(put_framed(buf, at, 1, channel_id, &written)),
-            None => put_read(alloc, buf, at, raw),
-        },
-        AMQPFrameType::Header => match reordered_content_header(alloc, payload) {
-            Some(written) => Ok(put_framed(buf, at, 2, channel_id, &written)),
-            None => put_read(alloc, buf, at, raw),
-        },
-        _ => put_read(alloc, buf, at, raw),
+    let end = put_payload(buf, at + 7, scratch, payload);
+    put_around(buf, at, end, 1, channel_id)
+}
+
+/// Puts the frame of a content header in its canonical bytes.
+fn put_header(
+    buf: &mut [u8],
+    at: usize,
+    scratch: &mut [Mark],
+    channel_id: ChannelId,
+    payload: &[u8],
+) -> usize
+    requires read { IsRead (judge_content_header payload.now) }
+    requires few { length payload.now < 2 ^ 32 }
+    requires room { at + length payload.now + 8 ≤ length buf.old }
+    ensures { Puts buf.old buf.new at (framed 2 channel_id (canonical_of content_header_bytes (judge_content_header payload.now))) result }
+{
+    let end = put_content_header(buf, at + 7, scratch, payload);
+    put_around(buf, at, end, 2, channel_id)
+}
+
+/// Puts the canonical bytes of the frame that a judged payload of this type is.
+fn put_judged(
+    buf: &mut [u8],
+    at: usize,
+    scratch: &mut [Mark],
+    frame_type: AMQPFrameType,
+    channel_id: ChannelId,
+    payload: &[u8],
+    judged: FrameJudgement,
+) -> usize
+    requires whole { JudgesFrame (record { kind = frame_type; channel = channel_id; payload = payload.now }) (Ok judged) }
+    requires few { length payload.now < 2 ^ 32 }
+    requires room { at + length payload.now + 8 ≤ length buf.old }
+    ensures puts { Rewrites buf.old buf.new at (whole_as frame_type channel_id payload.now) (Ok result) }
+    ensures within { result ≤ at + length payload.now + 8 }
+{
+    match frame_type {
+        AMQPFrameType::ProtocolHeader => {
+            let at = put_bytes(buf, at, b"AMQP\0");
+            put_bytes(buf, at, payload)
+        }
+        AMQPFrameType::Method if judged.canonical => put_framed(buf, at, 1, channel_id, payload),
+        AMQPFrameType::Method => put_method(buf, at, scratch, channel_id, payload),
+        AMQPFrameType::Header if judged.canonical => put_framed(buf, at, 2, channel_id, payload),
+        AMQPFrameType::Header => put_header(buf, at, scratch, channel_id, payload),
+        AMQPFrameType::Body => put_framed(buf, at, 3, channel_id, payload),
+        AMQPFrameType::Heartbeat => put_bytes(buf, at, &heartbeat_bytes(channel_id)),
     }
 }
 
-/// Puts the canonical bytes of the frame that a whole payload is at a place of a slice, and answers
-/// the place behind them. Only methods and content headers that come otherwise spelled take memory.
-#[tactic(auto, using(crate::proofs::Sizes::framed_length))]
+/// Puts the canonical bytes of the frame that a whole payload is at a place of a slice, and returns the place after
+/// them. No memory is taken: entries of tables in no order are sorted in the scratch, of which a payload of n bytes wants
+/// n / 2 marks, and takes quadratic time where there are fewer.
 pub fn put_canonical(
-    alloc: Global,
     buf: &mut [u8],
     at: usize,
+    scratch: &mut [Mark],
     raw: AMQPRawFrame<'_>,
 ) -> Result<usize, ParserError>
     requires few { length raw.payload.now < 2 ^ 32 }
     requires room { at + length raw.payload.now + 8 ≤ length buf.old }
     ensures whole { Rewrites buf.old buf.new at (whole (raw_of raw.entry)) result }
 
-    // No more bytes are put than the lent frame has.
+    // No more bytes are put than the borrowed frame has.
     ensures within { IfOk result (λ end. end ≤ at + length raw.entry.payload.now + 8) }
     ensures inside { IfErr result IsPayloadError }
-    ensures memory { result ≡ Err ParserError.NoMemory → IsTyped raw.entry.frame_type }
+    ensures memory { result ≢ Err ParserError.NoMemory }
 {
-    let (channel_id, payload) = (raw.channel_id, raw.payload);
-    match raw.frame_type {
-        AMQPFrameType::Method if is_strict_method(payload) => {
-            Ok(put_framed(buf, at, 1, channel_id, payload))
-        }
-        AMQPFrameType::Header if is_strict_content_header(payload) => {
-            Ok(put_framed(buf, at, 2, channel_id, payload))
-        }
-        AMQPFrameType::Body => Ok(put_framed(buf, at, 3, channel_id, payload)),
-        _ => put_rewritten(alloc, buf, at, raw),
-    }
+    let judged = judge_frame(raw)?;
+    let (frame_type, channel_id, payload) = (raw.frame_type, raw.channel_id, raw.payload);
+    Ok(put_judged(buf, at, scratch, frame_type, channel_id, payload, judged))
 }

@@ -1,9 +1,6 @@
 //! Memory that runs out: `rt try --test --fail-alloc N` lets the Nth allocation of each test fail.
 
-use amqp_frame::{
-    AMQPFrame, AMQPFrameType, AMQPRawFrame, GenError, ParserError, gen_frame, parse_frame,
-    put_canonical, release,
-};
+use amqp_frame::{AMQPFrame, GenError, ParserError, gen_frame, parse_frame, release};
 use std::alloc::Global;
 
 /// A body `h` on channel 1.
@@ -65,25 +62,4 @@ fn refused_memory_leaves_the_vector(rt: HostRuntime) {
 #[test]
 fn refused_memory_leaves_a_start_unread(rt: HostRuntime) {
     assert!(rt; is_rewritten(rt.alloc(), &START, &START_IN_ORDER));
-}
-
-/// A borrowed frame is put in order, or memory is refused and the slice stays.
-#[test]
-fn refused_memory_leaves_the_slice(rt: HostRuntime) {
-    let raw = AMQPRawFrame {
-        frame_type: AMQPFrameType::Method,
-        channel_id: 0,
-        payload: &START[7..96],
-    };
-    let mut buf = [7; 97];
-    match put_canonical(rt.alloc(), &mut buf, 0, raw) {
-        Ok(end) => {
-            assert_eq!(rt; end, 97);
-            assert!(rt; buf == START_IN_ORDER);
-        }
-        Err(error) => {
-            assert_eq!(rt; error, ParserError::NoMemory);
-            assert!(rt; buf == [7; 97]);
-        }
-    }
 }

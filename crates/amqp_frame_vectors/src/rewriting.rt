@@ -1,21 +1,120 @@
-//! The one spelling, put from a lent frame.
+//! Canonical bytes that are put in place of a borrowed frame, and how such a frame is judged.
 
-use amqp_frame::{AMQPFrameType, AMQPRawFrame, put_canonical};
+use amqp_frame::AMQPFrameType::{self, Body, Header, Heartbeat, Method, ProtocolHeader};
+use amqp_frame::{AMQPRawFrame, FrameJudgement, Mark, ParserError, judge_frame, put_canonical};
 use amqp_vectors::asking::same;
 use std::test::Fail;
 
-/// Whether unused bits are set or not, the same bytes are put.
+/// A type, a channel, a payload, and the canonical bytes of the frame.
+type Row = (AMQPFrameType, u16, &'static [u8], &'static [u8]);
+
+const ROWS: [Row; 8] = [
+    (ProtocolHeader, 0, &[0, 9, 1], b"AMQP\0\0\x09\x01"),
+    // An unused flag bit, and then all of them.
+    (
+        Method,
+        3,
+        &[0, 85, 0, 10, 1],
+        &[1, 0, 3, 0, 0, 0, 5, 0, 85, 0, 10, 1, 206],
+    ),
+    (
+        Method,
+        3,
+        &[0, 85, 0, 10, 255],
+        &[1, 0, 3, 0, 0, 0, 5, 0, 85, 0, 10, 1, 206],
+    ),
+    // A table whose keys fall, with one of them twice.
+    (
+        Method,
+        1,
+        &[
+            0, 50, 0, 10, 0, 0, 0, 0, 0, 0, 0, 11, 1, 98, 86, 1, 97, 86, 1, 98, 85, 0, 5,
+        ],
+        &[
+            1, 0, 1, 0, 0, 0, 20, 0, 50, 0, 10, 0, 0, 0, 0, 0, 0, 0, 8, 1, 97, 86, 1, 98, 115, 0,
+            5, 206,
+        ],
+    ),
+    // A weight, and the two bits of the mask that no property has.
+    (
+        Header,
+        1,
+        &[0, 60, 0, 7, 0, 0, 0, 0, 0, 0, 0, 5, 16, 3, 2],
+        &[
+            2, 0, 1, 0, 0, 0, 15, 0, 60, 0, 0, 0, 0, 0, 0, 0, 0, 0, 5, 16, 0, 2, 206,
+        ],
+    ),
+    (Body, 1, &[104, 105], &[3, 0, 1, 0, 0, 0, 2, 104, 105, 206]),
+    (Heartbeat, 0, &[1, 2, 3], &[8, 0, 0, 0, 0, 0, 0, 206]),
+    (Heartbeat, 5, &[], &[8, 0, 5, 0, 0, 0, 0, 206]),
+];
+
+/// Whether just these bytes are put after a byte that stands before.
+fn puts(raw: AMQPRawFrame<'_>, wanted: &[u8]) -> bool {
+    if raw.payload.len() > 40 {
+        return false;
+    }
+    let mut scratch = [Mark::default(); 20];
+    let mut buf = [7; 64];
+    match put_canonical(&mut buf, 1, &mut scratch, raw) {
+        Ok(end) => buf[0] == 7 && &buf[1..end] == wanted && buf[end..].iter().all(|b| *b == 7),
+        Err(_) => false,
+    }
+}
+
 #[test]
-fn canonical_bytes_are_put(rt: HostRuntime) -> Result<(), Fail> {
-    for flags in [1, 255] {
+fn canonical_bytes_are_put(rt: HostRuntime) {
+    for (frame_type, channel_id, payload, wanted) in ROWS {
         let raw = AMQPRawFrame {
-            frame_type: AMQPFrameType::Method,
-            channel_id: 3,
-            payload: &[0, 85, 0, 10, flags],
+            frame_type,
+            channel_id,
+            payload,
         };
-        let mut buf = [7; 15];
-        same(put_canonical(rt.alloc(), &mut buf, 1, raw), Ok(14))?;
-        same(buf, [7, 1, 0, 3, 0, 0, 0, 5, 0, 85, 0, 10, 1, 206, 7])?;
+        assert!(rt; puts(raw, wanted));
+    }
+}
+
+/// A type, a payload, and how it is judged.
+type Judged = (
+    AMQPFrameType,
+    &'static [u8],
+    Result<(bool, bool), ParserError>,
+);
+
+const JUDGED: [Judged; 10] = [
+    (ProtocolHeader, &[0, 9, 1], Ok((true, true))),
+    (ProtocolHeader, &[0, 9], Err(ParserError::ShortPayload)),
+    (
+        ProtocolHeader,
+        &[0, 9, 1, 1],
+        Err(ParserError::TrailingBytes),
+    ),
+    (Method, &[0, 85, 0, 10, 1], Ok((true, true))),
+    (Method, &[0, 85, 0, 10, 3], Ok((false, false))),
+    (Method, &[0, 85, 0, 10], Err(ParserError::ShortPayload)),
+    (
+        Method,
+        &[0, 85, 0, 10, 1, 0],
+        Err(ParserError::TrailingBytes),
+    ),
+    (Method, &[0, 1, 0, 10], Err(ParserError::UnknownClass)),
+    (Heartbeat, &[9], Ok((false, false))),
+    (Body, &[], Ok((true, true))),
+];
+
+#[test]
+fn payloads_are_judged() -> Result<(), Fail> {
+    for (frame_type, payload, wanted) in JUDGED {
+        let raw = AMQPRawFrame {
+            frame_type,
+            channel_id: 1,
+            payload,
+        };
+        let judged = match judge_frame(raw) {
+            Ok(FrameJudgement { canonical, tidy }) => Ok((canonical, tidy)),
+            Err(error) => Err(error),
+        };
+        same(judged, wanted)?;
     }
     Ok(())
 }

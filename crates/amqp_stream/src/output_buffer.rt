@@ -6,8 +6,7 @@ ghost use Rattle.amqp_frame.specs.Spelling.{framed, head};
 ghost use Rattle.amqp_frame.specs.Verdicts.{IsPayloadError, whole};
 ghost use Rattle.amqp_stream.specs.Buffers.{Adds, AddsAt};
 
-use amqp_canonical::Mark;
-use amqp_frame::{AMQPRawFrame, put_canonical};
+use amqp_frame::{AMQPRawFrame, Mark, put_canonical};
 use amqp_types::{NoMemory, ParserError, put_bytes};
 use std::alloc::Global;
 use std::marker::Model;
@@ -24,10 +23,9 @@ fn put_after(buf: &mut [u8], len: usize, bytes: &[u8]) -> usize
 /// Puts the canonical bytes of a borrowed frame after the first `len` bytes of a buffer, and returns
 /// the place after them.
 fn put_raw_after(
-    alloc: Global,
     buf: &mut [u8],
     len: usize,
-    _scratch: &mut [Mark],
+    scratch: &mut [Mark],
     raw: AMQPRawFrame<'_>,
 ) -> Result<usize, ParserError>
     requires few { length raw.payload.now < 2 ^ 32 }
@@ -37,7 +35,7 @@ fn put_raw_after(
     ensures inside { IfErr result IsPayloadError }
     ensures memory { result ≢ Err ParserError.NoMemory }
 {
-    put_canonical(alloc, buf, len, raw)
+    put_canonical(buf, len, scratch, raw)
 }
 
 /// Bytes that are not written yet, in a buffer that is reserved in full, with the scratch that frames of this size want.
@@ -46,7 +44,6 @@ pub struct OutputBuffer {
     buf: Vec<u8>,
     len: usize,
     scratch: Vec<Mark>,
-    alloc: Global,
 }
 
 impl Model for OutputBuffer {
@@ -71,7 +68,6 @@ impl OutputBuffer {
             buf,
             len: 0,
             scratch,
-            alloc,
         })
     }
 
@@ -125,7 +121,7 @@ impl OutputBuffer {
         ensures inside { IfErr result IsPayloadError }
         ensures memory { result ≢ Err ParserError.NoMemory }
     {
-        self.len = put_raw_after(self.alloc, &mut self.buf, self.len, &mut self.scratch, raw)?;
+        self.len = put_raw_after(&mut self.buf, self.len, &mut self.scratch, raw)?;
         Ok(())
     }
 }

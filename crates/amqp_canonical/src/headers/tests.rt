@@ -1,3 +1,5 @@
+//! Content headers and properties that are judged: canonical, tidy, neither, and faulty ones.
+
 use super::*;
 
 fn told(used: usize, canonical: bool, tidy: bool) -> Result<Judgement, ParserError> {

@@ -1,3 +1,5 @@
+//! Methods and content headers that are written in place of those that were read.
+
 use super::*;
 use crate::headers::judge_content_header;
 use crate::payloads::judge_payload;

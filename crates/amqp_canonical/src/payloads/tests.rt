@@ -1,3 +1,5 @@
+//! Methods that are judged.
+
 use super::*;
 
 fn told(used: usize, canonical: bool, tidy: bool) -> Result<Judgement, ParserError> {

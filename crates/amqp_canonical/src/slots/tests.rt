@@ -1,3 +1,5 @@
+//! Slots of each shape that are judged.
+
 use super::*;
 use Shape::{
     Flags, Long, LongLong, LongString, Octet, ReservedFlag, ReservedLong, ReservedLongString,

@@ -1,3 +1,5 @@
+//! Values, arrays and tables that are judged.
+
 use super::*;
 
 /// A table of one entry of each kind, whose keys are the tags.

@@ -1,3 +1,5 @@
+//! Tables that are written in place of those that were read, with marks enough and too few.
+
 use super::*;
 use crate::values::judge_table;
 use crate::writing_laws::written_is_no_longer;

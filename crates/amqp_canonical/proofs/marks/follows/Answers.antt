@@ -1,14 +1,14 @@
-use Rattle.std.proofs.Common.{inr, ◌∙◌, sym, ap, arith}
+use Rattle.std.proofs.Common.{◌<◌, arith}
 use Rattle.std.proofs.lemmas.Bool.Decides.{nat_tests}
-use Rattle.std.proofs.lemmas.Map.Lookups.{exact_bytes}
-use Rattle.std.proofs.lemmas.Map.Views.{tells_apart}
-use Rattle.std.specs.Ordering.{is_eq}
-use Rattle.amqp_canonical.specs.Writes.{key_in}
+use Rattle.amqp_canonical.proofs.Leading.{lead_tells, more_tells}
 use Rattle.amqp_canonical.proofs.marks.follows.Goals as goal
 
-pub returns-in-Equal : goal.returns-in-Equal
-returns-in-Equal c = λ less.
-    let one = c.split_key.ensures.key ∙ ap key_in c.marked.ensures in
-    let two = c.split_key-2.ensures.key ∙ ap key_in c.marked-2.ensures in
-    let same = tells_apart exact_bytes c.split_key.result.0.now c.split_key-2.result.0.now (ap is_eq (sym c.cmp.ensures ∙ c.in-Equal.is)) in
-    inr (sym one ∙ same ∙ two, grind (arith, nat_tests))
+pub returns-then-previous-mark : goal.returns-then-previous-mark
+returns-then-previous-mark c = λ tested.
+    let less : c.args.previous.now.lead < c.args.mark.now.lead = grind (arith, nat_tests) in
+    lead_tells c.args.content.now c.args.previous.now c.args.mark.now (λ k. omega (arith, c.type_inv.content k)) c.requires.0 c.requires.1 less
+
+pub returns-then-previous-mark-2 : goal.returns-then-previous-mark-2
+returns-then-previous-mark-2 c = λ tested.
+    let less : c.args.previous.now.more < c.args.mark.now.more = grind (arith, nat_tests) in
+    more_tells c.args.content.now c.args.previous.now c.args.mark.now (λ k. omega (arith, c.type_inv.content k)) c.requires.0 c.requires.1 c.if-previous-mark.false less

@@ -1,17 +1,39 @@
-use Rattle.std.proofs.Common.{◌∙◌, sym, ap, ap₂, arith}
-use Rattle.std.specs.Ordering.{is_eq}
-use Rattle.amqp_canonical.specs.Writes.{key_in}
-use Rattle.amqp_canonical.proofs.InOrder.{cmp, not_equal, tied_as}
+use Rattle.std.proofs.Common.{refl, ◌≡◌, ◌<◌, ◌+◌, ◌∙◌, ◌↔◌, false, length, get_or, arith}
+use Rattle.std.specs.Prelude.{IsTrue}
+use Rattle.amqp_canonical.specs.Leads.{key_at}
+use Rattle.amqp_canonical.specs.Marks.{blank}
+use Rattle.amqp_canonical.proofs.InOrder.{cmp, tied_as}
+use Rattle.amqp_canonical.proofs.Leading.{same_lead, same_test, never}
 use Rattle.amqp_canonical.proofs.marks.is_tied.Goals as goal
 
-pub returns-in-Equal : goal.returns-in-Equal
-returns-in-Equal c = λ room read.
-    let one = c.split_key.ensures.key ∙ ap key_in c.marked.ensures in
-    let two = c.split_key-2.ensures.key ∙ ap key_in c.marked-2.ensures in
-    sym (ap is_eq c.in-Equal.is) ∙ tied_as room c.args.content.now c.args.marks.now c.args.k c.cmp.result read (omega arith) (c.cmp.ensures ∙ ap₂ (λ a b. cmp a b) one two)
+pub returns-then-mark-next : goal.returns-then-mark-next
+returns-then-mark-next c = λ room read.
+    let content = c.args.content.now in
+    let marks = c.args.marks.now in
+    let k = c.args.k in
+    let more : k + 1 < length marks = omega (arith, c.requires.here, c.if-k-marks.false) in
+    let here = get_or marks k blank in
+    let next = get_or marks (k + 1) blank in
+    let differ = never (key_at content here) (key_at content next) (λ same. c.if-mark-next.true (same_lead content here next (c.requires.leads k blank c.requires.here) (c.requires.leads (k + 1) blank more) same).0) in
+    same_test (key_at content here) (key_at content next) false differ ∙ tied_as room content marks k (cmp (key_at content here) (key_at content next)) read more refl
 
-pub returns-in_default : goal.returns-in_default
-returns-in_default c = λ room read.
-    let one = c.split_key.ensures.key ∙ ap key_in c.marked.ensures in
-    let two = c.split_key-2.ensures.key ∙ ap key_in c.marked-2.ensures in
-    sym (not_equal c.cmp.result c.in_default.not-Equal) ∙ tied_as room c.args.content.now c.args.marks.now c.args.k c.cmp.result read (omega arith) (c.cmp.ensures ∙ ap₂ (λ a b. cmp a b) one two)
+pub returns-then-mark-next-2 : goal.returns-then-mark-next-2
+returns-then-mark-next-2 c = λ room read.
+    let content = c.args.content.now in
+    let marks = c.args.marks.now in
+    let k = c.args.k in
+    let more : k + 1 < length marks = omega (arith, c.requires.here, c.if-k-marks.false) in
+    let here = get_or marks k blank in
+    let next = get_or marks (k + 1) blank in
+    let differ = never (key_at content here) (key_at content next) (λ same. c.if-mark-next-2.true (same_lead content here next (c.requires.leads k blank c.requires.here) (c.requires.leads (k + 1) blank more) same).1) in
+    same_test (key_at content here) (key_at content next) false differ ∙ tied_as room content marks k (cmp (key_at content here) (key_at content next)) read more refl
+
+pub returns : goal.returns
+returns c = λ room read.
+    let content = c.args.content.now in
+    let marks = c.args.marks.now in
+    let k = c.args.k in
+    let more : k + 1 < length marks = omega (arith, c.requires.here, c.if-k-marks.false) in
+    let here = get_or marks k blank in
+    let next = get_or marks (k + 1) blank in
+    same_test (key_at content here) (key_at content next) c.is_same_key.result c.is_same_key.ensures ∙ tied_as room content marks k (cmp (key_at content here) (key_at content next)) read more refl

@@ -1,6 +1,8 @@
 use Rattle.std.proofs.Common.{◌≡◌, List, length, take, drop, sym, subst, arith}
 use Rattle.std.proofs.lemmas.List.{take_at, length-take-le}
-use Rattle.std.proofs.lemmas.List.Sorted.{length_permutation}
+use Rattle.std.proofs.lemmas.List.Sorted.{All-permutation, length_permutation}
+use Rattle.std.specs.Prelude.{All}
+use Rattle.amqp_canonical.specs.Leads.{HasLead}
 use Rattle.amqp_canonical.specs.Marks.{AreOfTable}
 use Rattle.amqp_canonical.specs.declared.marks.Mark.{Mark}
 use Rattle.amqp_canonical.proofs.InOrder.{marks_of_table}
@@ -16,3 +18,15 @@ returns-then-put_in_order-clause-table c = λ room read.
     let same : length new ≡ count = omega (arith, long, length-take-le count c.mark_entries.new.marks c.in_ok-count.ensures.within) in
     let P : List Mark → Type 0 = λ ms. AreOfTable room c.args.content.now ms in
     subst P (sym (take_at new rest count same)) (marks_of_table room c.args.content.now old new (c.in_ok-count.ensures.marked room read) c.put_in_order.ensures.permuted (c.put_in_order.ensures.order c.if-put_in_order.true))
+
+pub returns-then-put_in_order-clause-leads : goal.returns-then-put_in_order-clause-leads
+returns-then-put_in_order-clause-leads c =
+    let count = c.in_ok-count.count in
+    let content = c.args.content.now in
+    let old = take count c.mark_entries.new.marks in
+    let new = c.put_in_order.new.marks in
+    let rest = drop count c.mark_entries.new.marks in
+    let long = length_permutation old new c.put_in_order.ensures.permuted in
+    let same : length new ≡ count = omega (arith, long, length-take-le count c.mark_entries.new.marks c.in_ok-count.ensures.within) in
+    let P : List Mark → Type 0 = λ ms. All (HasLead content) ms in
+    subst P (sym (take_at new rest count same)) (All-permutation (HasLead content) old new c.put_in_order.ensures.permuted c.in_ok-count.ensures.leads)

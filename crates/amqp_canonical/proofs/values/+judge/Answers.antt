@@ -1,14 +1,15 @@
-use Rattle.std.proofs.Common.{ℕ, ◌≤◌, List, Bor, length, drop, get_or, sym, ◌∙◌, inl, inr, arith}
+use Rattle.std.proofs.Common.{ℕ, ◌≤◌, List, Bor, length, drop, get_or, refl, sym, ◌∙◌, arith}
 use Rattle.std.proofs.lemmas.List.{length-drop, take_rest}
+use Rattle.amqp_types.specs.Tags.{tag_at}
 use Rattle.amqp_types.specs.ValueJudging.{judge_value, judge_entry, nested}
 use Rattle.amqp_values.proofs.Filling.{refused_at}
 use Rattle.amqp_canonical.specs.Judgements.{IsCanonicalAfterTag, IsCanonicalValue, IsCanonicalArray, IsCanonicalTable}
 use Rattle.amqp_canonical.proofs.Refusing.{err_judged, entry_err}
-use Rattle.amqp_canonical.proofs.Children.{IsAbove, values_next, values_end, entries_none, entries_next, entries_end}
+use Rattle.amqp_canonical.proofs.Children.{values_next, values_end, entries_none, entries_next_if, entries_end}
 use Rattle.amqp_canonical.proofs.AfterTag.{fixed_past, fixed_took, taken, counted_took, counted_fails, boolean_behind, array_behind, table_behind, array_deep, table_deep, same_told, value_empty, value_unknown, value_fails, value_took_at, entry_unread, entry_fails, entry_took}
+use Rattle.amqp_canonical.proofs.TagBytes.{no_tag, some_tag}
 use Rattle.amqp_canonical.proofs.Whole.{array_unread, array_fails, array_took, table_unread, table_fails, table_took}
 use Rattle.amqp_canonical.proofs.values.+judge.Goals as goal
-use Rattle.amqp_canonical.proofs.values.+judge.Goals.{judge_entries-then-at-eq0, judge_entries-else-at-eq0}
 
 pub judge_array-returns-in_err-n-clause-judged : goal.judge_array-returns-in_err-n-clause-judged
 judge_array-returns-in_err-n-clause-judged t c = err_judged IsCanonicalArray c.args.i.now _ c.in_err-n.field-0.0 _ c.from_residual.ensures.1 (array_unread {A = Bor (List ℕ)} c.args.room c.args.i.now (λ b. b.now) c.in_err-n.field-0.0 c.in_err-n.ensures.judged)
@@ -31,52 +32,48 @@ pub judge_table-returns-clause-judged : goal.judge_table-returns-clause-judged
 judge_table-returns-clause-judged t c = table_took c.args.room c.args.i.now c.in_ok-n.content.now c.in_ok-n.n c.in_ok-canonical.canonical (λ k. omega (arith, c.type_inv.i k)) c.in_ok-n.ensures.judged c.in_ok-canonical.ensures
 
 pub judge_after_tag-returns-then-i-n-clause-judged : goal.judge_after_tag-returns-then-i-n-clause-judged
-judge_after_tag-returns-then-i-n-clause-judged t c = (λ e. cc, fixed_past (nested c.args.room) c.args.tag c.args.i.now c.in-Fixed.n (sym c.layout_of.ensures ∙ c.in-Fixed.is) c.if-i-n.true)
+judge_after_tag-returns-then-i-n-clause-judged t c = λ tag is. (λ e. cc, fixed_past (nested c.args.room) tag c.args.i.now c.in-Fixed.n (is ∙ c.in-Fixed.is) c.if-i-n.true)
 
 pub judge_after_tag-returns-else-i-n-clause-judged : goal.judge_after_tag-returns-else-i-n-clause-judged
-judge_after_tag-returns-else-i-n-clause-judged t c =
-    taken c.args.i.now c.in-Fixed.n _ (fixed_took (nested c.args.room) c.args.tag c.args.i.now c.in-Fixed.n (λ k. omega (arith, c.type_inv.i k)) (sym c.layout_of.ensures ∙ c.in-Fixed.is) (omega (arith, c.if-i-n.false)))
+judge_after_tag-returns-else-i-n-clause-judged t c = λ tag is. taken c.args.i.now c.in-Fixed.n _ (fixed_took (nested c.args.room) tag c.args.i.now c.in-Fixed.n (λ k. omega (arith, c.type_inv.i k)) (is ∙ c.in-Fixed.is) (omega (arith, c.if-i-n.false)))
 
 pub judge_after_tag-returns-in-OneBoolean-clause-judged : goal.judge_after_tag-returns-in-OneBoolean-clause-judged
-judge_after_tag-returns-in-OneBoolean-clause-judged t c = boolean_behind (nested c.args.room) c.args.tag c.args.i.now _ (sym c.layout_of.ensures ∙ c.in-OneBoolean.is) c.judge_boolean.ensures.judged
+judge_after_tag-returns-in-OneBoolean-clause-judged t c = λ tag is. boolean_behind (nested c.args.room) tag c.args.i.now _ (is ∙ c.in-OneBoolean.is) c.judge_boolean.ensures.judged
 
 pub judge_after_tag-returns-in_err-n-in-Counted-clause-judged : goal.judge_after_tag-returns-in_err-n-in-Counted-clause-judged
-judge_after_tag-returns-in_err-n-in-Counted-clause-judged t c =
-    err_judged IsCanonicalAfterTag c.args.i.now _ c.in_err-n-in-Counted.field-0.0 _ c.from_residual.ensures.1 (counted_fails {A = Bor (List ℕ)} (nested c.args.room) c.args.tag c.args.i.now (λ b. b.now) c.in_err-n-in-Counted.field-0.0 (sym c.layout_of.ensures ∙ c.in-Counted.is) c.in_err-n-in-Counted.ensures.judged)
+judge_after_tag-returns-in_err-n-in-Counted-clause-judged t c = λ tag is. err_judged IsCanonicalAfterTag c.args.i.now _ c.in_err-n-in-Counted.field-0.0 _ c.from_residual.ensures.1 (counted_fails {A = Bor (List ℕ)} (nested c.args.room) tag c.args.i.now (λ b. b.now) c.in_err-n-in-Counted.field-0.0 (is ∙ c.in-Counted.is) c.in_err-n-in-Counted.ensures.judged)
 
 pub judge_after_tag-returns-in_ok-n-in-Counted-clause-judged : goal.judge_after_tag-returns-in_ok-n-in-Counted-clause-judged
-judge_after_tag-returns-in_ok-n-in-Counted-clause-judged t c =
-    taken c.args.i.now c.in_ok-n-in-Counted.n _ (counted_took (nested c.args.room) c.args.tag c.args.i.now c.in_ok-n-in-Counted.field-0-1.now c.in_ok-n-in-Counted.n (λ k. omega (arith, c.type_inv.i k)) (sym c.layout_of.ensures ∙ c.in-Counted.is) c.in_ok-n-in-Counted.ensures.judged)
+judge_after_tag-returns-in_ok-n-in-Counted-clause-judged t c = λ tag is. taken c.args.i.now c.in_ok-n-in-Counted.n _ (counted_took (nested c.args.room) tag c.args.i.now c.in_ok-n-in-Counted.field-0-1.now c.in_ok-n-in-Counted.n (λ k. omega (arith, c.type_inv.i k)) (is ∙ c.in-Counted.is) c.in_ok-n-in-Counted.ensures.judged)
 
 pub judge_after_tag-returns-then-room-eq0-clause-judged : goal.judge_after_tag-returns-then-room-eq0-clause-judged
-judge_after_tag-returns-then-room-eq0-clause-judged t c = (λ e. cc, array_deep c.args.room c.args.tag c.args.i.now (sym c.layout_of.ensures ∙ c.in-Values.is) c.if-room-eq0.true)
+judge_after_tag-returns-then-room-eq0-clause-judged t c = λ tag is. (λ e. cc, array_deep c.args.room tag c.args.i.now (is ∙ c.in-Values.is) c.if-room-eq0.true)
 
 pub judge_after_tag-returns-then-room-eq0-2-clause-judged : goal.judge_after_tag-returns-then-room-eq0-2-clause-judged
-judge_after_tag-returns-then-room-eq0-2-clause-judged t c = (λ e. cc, table_deep c.args.room c.args.tag c.args.i.now (sym c.layout_of.ensures ∙ c.in-Entries.is) c.if-room-eq0-2.true)
+judge_after_tag-returns-then-room-eq0-2-clause-judged t c = λ tag is. (λ e. cc, table_deep c.args.room tag c.args.i.now (is ∙ c.in-Entries.is) c.if-room-eq0-2.true)
 
 pub judge_after_tag-returns-else-room-eq0-clause-judged : goal.judge_after_tag-returns-else-room-eq0-clause-judged
-judge_after_tag-returns-else-room-eq0-clause-judged t c = array_behind c.args.room c.args.tag c.args.i.now _ (sym c.layout_of.ensures ∙ c.in-Values.is) (omega (arith, c.if-room-eq0.false)) c.judge_array.ensures.judged
+judge_after_tag-returns-else-room-eq0-clause-judged t c = λ tag is. array_behind c.args.room tag c.args.i.now _ (is ∙ c.in-Values.is) (omega (arith, c.if-room-eq0.false)) c.judge_array.ensures.judged
 
 pub judge_after_tag-returns-else-room-eq0-2-clause-judged : goal.judge_after_tag-returns-else-room-eq0-2-clause-judged
-judge_after_tag-returns-else-room-eq0-2-clause-judged t c = table_behind c.args.room c.args.tag c.args.i.now _ (sym c.layout_of.ensures ∙ c.in-Entries.is) (omega (arith, c.if-room-eq0-2.false)) c.judge_table.ensures.judged
+judge_after_tag-returns-else-room-eq0-2-clause-judged t c = λ tag is. table_behind c.args.room tag c.args.i.now _ (is ∙ c.in-Entries.is) (omega (arith, c.if-room-eq0-2.false)) c.judge_table.ensures.judged
 
 pub judge_value-returns-in-empty-clause-judged : goal.judge_value-returns-in-empty-clause-judged
 judge_value-returns-in-empty-clause-judged t c = (λ e. cc, value_empty c.args.room c.args.i.now (omega (arith, c.in-empty.len_below)))
 
 pub judge_value-returns-in-None-clause-judged : goal.judge_value-returns-in-None-clause-judged
-judge_value-returns-in-None-clause-judged t c = (λ e. cc, value_unknown c.args.room c.args.i.now (omega (arith, c.in-len1-up.len_at_least)) (sym c.from_byte.ensures ∙ c.in-None.is))
+judge_value-returns-in-None-clause-judged t c = (λ e. cc, value_unknown c.args.room c.args.i.now (omega (arith, c.in-len1-up.len_at_least)) (no_tag _ (sym c.layout_after.ensures.is ∙ c.in-None.is)))
 
 pub judge_value-returns-in_err-value-in-Some-clause-judged : goal.judge_value-returns-in_err-value-in-Some-clause-judged
 judge_value-returns-in_err-value-in-Some-clause-judged t c =
+    let one = some_tag (tag_at (get_or c.args.i.now 0 0)) c.in-Some.layout (sym c.layout_after.ensures.is ∙ c.in-Some.is) in
     err_judged IsCanonicalValue c.args.i.now _ c.in_err-value-in-Some.field-0.0 _ c.from_residual.ensures.1
-    (value_fails c.args.room c.args.i.now c.in-Some.tag c.in_err-value-in-Some.field-0.0 (omega (arith, c.in-len1-up.len_at_least)) (sym c.from_byte.ensures ∙ c.in-Some.is) (rw take_rest at c.in_err-value-in-Some.ensures.judged))
+    (value_fails c.args.room c.args.i.now one.0 c.in_err-value-in-Some.field-0.0 (omega (arith, c.in-len1-up.len_at_least)) one.1 (let judged = rw take_rest at c.in_err-value-in-Some.ensures.judged in judged one.0 one.2))
 
 pub judge_value-returns-in_ok-value-in-Some-clause-judged : goal.judge_value-returns-in_ok-value-in-Some-clause-judged
 judge_value-returns-in_ok-value-in-Some-clause-judged t c =
-    let told = same_told c.to_byte.result (get_or c.args.i.now 0 0) in
-    let written = c.to_byte.ensures in
-    value_took_at c.args.room c.args.i.now c.in-Some.tag c.in_ok-value-in-Some.value _ (omega (arith, c.in-len1-up.len_at_least)) (sym c.from_byte.ensures ∙ c.in-Some.is) (λ e. sym written ∙ told.0 e, λ e. told.1 (written ∙ e))
-    (rw take_rest at c.in_ok-value-in-Some.ensures.judged)
+    let one = some_tag (tag_at (get_or c.args.i.now 0 0)) c.in-Some.layout (sym c.layout_after.ensures.is ∙ c.in-Some.is) in
+    value_took_at c.args.room c.args.i.now one.0 c.in_ok-value-in-Some.value _ (omega (arith, c.in-len1-up.len_at_least)) one.1 (c.is_written.ensures one.0 one.1) (let judged = rw take_rest at c.in_ok-value-in-Some.ensures.judged in judged one.0 one.2)
 
 pub judge_values-returns-in-Err : goal.judge_values-returns-in-Err
 judge_values-returns-in-Err t c =
@@ -118,14 +115,9 @@ judge_entries-loop-at-preserved t c =
     let key = c.in-Ok.found.1.now in
     let found = rw take_rest at c.in-Ok.ensures.judged in
     let used = c.in-Ok.ensures.used in
-    let fits : item.used ≤ length (drop l.at all) = rw take_rest at used.1 in
-    let above : IsAbove l.at l.previous.now key c.if-at-eq0.above =
-    elim c.if-at-eq0.branch [
-      | judge_entries-then-at-eq0 w ↦ let first = same_told l.at 0 in inl (w.if-at-eq0.true, w.above-is ∙ first.1 w.if-at-eq0.true)
-      | judge_entries-else-at-eq0 w ↦ inr (omega (arith, w.if-at-eq0.false), (λ t. w.is_above-above.ensures.0 (sym w.above-is ∙ t), λ b. w.above-is ∙ w.is_above-above.ensures.1 b))
-    ] in (
+    let fits : item.used ≤ length (drop l.at all) = rw take_rest at used.1 in (
       omega (arith, fits, length-drop l.at all),
-      entries_next c.args.room all l.at item.used l.previous.now key found.value l.canonical item.canonical c.if-at-eq0.above (λ k. omega (arith, c.type_inv.content k)) c.loop-at-test.true found.is used.0 fits found.told above l.invariant.1,
+      entries_next_if c.args.room all l.at item.used l.previous.now key found.value l.canonical item.canonical c.is_next-above.result (λ k. omega (arith, c.type_inv.content k)) c.loop-at-test.true found.is used.0 fits found.told c.is_next-above.ensures l.invariant.1,
     )
 
 pub judge_entries-returns : goal.judge_entries-returns
@@ -141,4 +133,4 @@ judge_entry-returns-in_err-value-clause-judged t c =
 pub judge_entry-returns-clause-judged : goal.judge_entry-returns-clause-judged
 judge_entry-returns-clause-judged t c =
     let used = c.in_ok-value.ensures.used in
-    entry_took c.args.room c.args.i.now c.in_ok-n.key.now c.as_bytes.result.now c.in_ok-n.n c.in_ok-value.value (λ k. omega (arith, c.type_inv.i k)) c.in_ok-n.ensures.judged c.as_bytes.ensures.value (rw take_rest at c.in_ok-value.ensures.judged) (rw take_rest at used.1)
+    entry_took c.args.room c.args.i.now c.in_ok-n.key.now c.in_ok-n.key.now c.in_ok-n.n c.in_ok-value.value (λ k. omega (arith, c.type_inv.i k)) c.in_ok-n.ensures.judged refl (rw take_rest at c.in_ok-value.ensures.judged) (rw take_rest at used.1)

@@ -6,71 +6,71 @@ use Rattle.amqp_canonical.specs.Writes.{IsRead, canonical_of, entry_bytes}
 use Rattle.amqp_canonical.specs.Marks.{blank}
 use Rattle.amqp_types.proofs.Puts.{puts-length}
 use Rattle.amqp_canonical.proofs.ReadParts.{tag_parts, none_read, unknown_read}
-use Rattle.amqp_canonical.proofs.PutParts.{copied_at, boolean_put, array_inside, table_inside, array_holds, table_holds, length_put, entry_put, entry_some, entry_fits, value_fits, puts_as}
+use Rattle.amqp_canonical.proofs.PutParts.{copied_at, boolean_put, array_inside, table_inside, array_holds, table_holds, length_put, entry_put, entry_some, entry_fits, entry_whole, value_fits, puts_as}
 use Rattle.amqp_canonical.proofs.Written.{EntriesPut, SelectedPut, values_none, value_fits_here, value_here, values_end, entries_none, entries_tied, entry_kept, selected_none, selected_here, selected_end}
 use Rattle.amqp_canonical.proofs.writing.+write.Goals as goal
 use Rattle.amqp_canonical.proofs.writing.+write.Goals.{put_marked-then-not-is_tied, put_marked-else-not-is_tied}
 
 pub put_after_tag-slice_bounds-put_bytes-end : goal.put_after_tag-slice_bounds-put_bytes-end
 put_after_tag-slice_bounds-put_bytes-end t c =
-    let h = copied_at (nested c.args.room) c.args.tag c.args.i.now c.size_after_tag.result c.layout_of.result (λ k. omega (arith, c.type_inv.i k)) c.layout_of.ensures c.in-Fixed.is c.requires.read (c.size_after_tag.ensures.used c.args.room) in
-    sym (length-take-le c.size_after_tag.result c.args.i.now h.within)
+    let h = copied_at (nested c.args.room) c.args.tag c.args.i.now c.size_in.result c.layout_of.result (λ k. omega (arith, c.type_inv.i k)) c.layout_of.ensures.is c.in-Fixed.is c.requires.read (c.size_in.ensures.used c.args.room c.args.tag (sym c.layout_of.ensures.is)) in
+    sym (length-take-le c.size_in.result c.args.i.now h.within)
 
 pub put_after_tag-put_bytes-requires : goal.put_after_tag-put_bytes-requires
 put_after_tag-put_bytes-requires t c =
-    let h = copied_at (nested c.args.room) c.args.tag c.args.i.now c.size_after_tag.result c.layout_of.result (λ k. omega (arith, c.type_inv.i k)) c.layout_of.ensures c.in-Fixed.is c.requires.read (c.size_after_tag.ensures.used c.args.room) in
+    let h = copied_at (nested c.args.room) c.args.tag c.args.i.now c.size_in.result c.layout_of.result (λ k. omega (arith, c.type_inv.i k)) c.layout_of.ensures.is c.in-Fixed.is c.requires.read (c.size_in.ensures.used c.args.room c.args.tag (sym c.layout_of.ensures.is)) in
     record { room = omega (arith, ap length h.bytes_are, c.requires.room) }
 
 pub put_after_tag-returns-in-Fixed : goal.put_after_tag-returns-in-Fixed
 put_after_tag-returns-in-Fixed t c =
-    let h = copied_at (nested c.args.room) c.args.tag c.args.i.now c.size_after_tag.result c.layout_of.result (λ k. omega (arith, c.type_inv.i k)) c.layout_of.ensures c.in-Fixed.is c.requires.read (c.size_after_tag.ensures.used c.args.room) in
+    let h = copied_at (nested c.args.room) c.args.tag c.args.i.now c.size_in.result c.layout_of.result (λ k. omega (arith, c.type_inv.i k)) c.layout_of.ensures.is c.in-Fixed.is c.requires.read (c.size_in.ensures.used c.args.room c.args.tag (sym c.layout_of.ensures.is)) in
     puts_as c.args.buf.now c.put_bytes.new.buf c.args.at c.put_bytes.result _ _ h.bytes_are c.put_bytes.ensures
 
 pub put_after_tag-bounds-i-0 : goal.put_after_tag-bounds-i-0
 put_after_tag-bounds-i-0 t c =
-    let h = boolean_put (nested c.args.room) c.args.tag c.args.i.now (sym c.layout_of.ensures ∙ c.in-OneBoolean.is) c.requires.read in
+    let h = boolean_put (nested c.args.room) c.args.tag c.args.i.now (sym c.layout_of.ensures.is ∙ c.in-OneBoolean.is) c.requires.read in
     search (rules, h.0)
 
 pub put_after_tag-put_boolean-requires : goal.put_after_tag-put_boolean-requires
 put_after_tag-put_boolean-requires t c =
-    let h = boolean_put (nested c.args.room) c.args.tag c.args.i.now (sym c.layout_of.ensures ∙ c.in-OneBoolean.is) c.requires.read in
+    let h = boolean_put (nested c.args.room) c.args.tag c.args.i.now (sym c.layout_of.ensures.is ∙ c.in-OneBoolean.is) c.requires.read in
     record { room = omega (arith, ap length h.1, c.requires.room) }
 
 pub put_after_tag-returns-in-OneBoolean : goal.put_after_tag-returns-in-OneBoolean
 put_after_tag-returns-in-OneBoolean t c =
-    let h = boolean_put (nested c.args.room) c.args.tag c.args.i.now (sym c.layout_of.ensures ∙ c.in-OneBoolean.is) c.requires.read in
+    let h = boolean_put (nested c.args.room) c.args.tag c.args.i.now (sym c.layout_of.ensures.is ∙ c.in-OneBoolean.is) c.requires.read in
     puts_as c.args.buf.now c.put_boolean.new.buf c.args.at c.put_boolean.result _ _ (sym h.1) c.put_boolean.ensures
 
 pub put_after_tag-overflow_sub-room : goal.put_after_tag-overflow_sub-room
 put_after_tag-overflow_sub-room t c =
-    let h = array_inside c.args.room c.args.tag c.args.i.now (sym c.layout_of.ensures ∙ c.in-Values.is) c.requires.read in
+    let h = array_inside c.args.room c.args.tag c.args.i.now (sym c.layout_of.ensures.is ∙ c.in-Values.is) c.requires.read in
     omega (arith, h.up)
 
 pub put_after_tag-put_array-requires : goal.put_after_tag-put_array-requires
 put_after_tag-put_array-requires t c =
-    let h = array_inside c.args.room c.args.tag c.args.i.now (sym c.layout_of.ensures ∙ c.in-Values.is) c.requires.read in
+    let h = array_inside c.args.room c.args.tag c.args.i.now (sym c.layout_of.ensures.is ∙ c.in-Values.is) c.requires.read in
     let up = h.up in
     (search rules, (h.read, omega (arith, ap length h.bytes_are, c.requires.room)))
 
 pub put_after_tag-returns-in-Values : goal.put_after_tag-returns-in-Values
 put_after_tag-returns-in-Values t c =
-    let h = array_inside c.args.room c.args.tag c.args.i.now (sym c.layout_of.ensures ∙ c.in-Values.is) c.requires.read in
+    let h = array_inside c.args.room c.args.tag c.args.i.now (sym c.layout_of.ensures.is ∙ c.in-Values.is) c.requires.read in
     puts_as c.args.buf.now c.put_array.new.buf c.args.at c.put_array.result _ _ (sym h.bytes_are) c.put_array.ensures
 
 pub put_after_tag-overflow_sub-room-in-Entries : goal.put_after_tag-overflow_sub-room-in-Entries
 put_after_tag-overflow_sub-room-in-Entries t c =
-    let h = table_inside c.args.room c.args.tag c.args.i.now (sym c.layout_of.ensures ∙ c.in-Entries.is) c.requires.read in
+    let h = table_inside c.args.room c.args.tag c.args.i.now (sym c.layout_of.ensures.is ∙ c.in-Entries.is) c.requires.read in
     omega (arith, h.up)
 
 pub put_after_tag-put_table-requires : goal.put_after_tag-put_table-requires
 put_after_tag-put_table-requires t c =
-    let h = table_inside c.args.room c.args.tag c.args.i.now (sym c.layout_of.ensures ∙ c.in-Entries.is) c.requires.read in
+    let h = table_inside c.args.room c.args.tag c.args.i.now (sym c.layout_of.ensures.is ∙ c.in-Entries.is) c.requires.read in
     let up = h.up in
     (search rules, (h.read, omega (arith, ap length h.bytes_are, c.requires.room)))
 
 pub put_after_tag-returns-in-Entries : goal.put_after_tag-returns-in-Entries
 put_after_tag-returns-in-Entries t c =
-    let h = table_inside c.args.room c.args.tag c.args.i.now (sym c.layout_of.ensures ∙ c.in-Entries.is) c.requires.read in
+    let h = table_inside c.args.room c.args.tag c.args.i.now (sym c.layout_of.ensures.is ∙ c.in-Entries.is) c.requires.read in
     puts_as c.args.buf.now c.put_table.new.buf c.args.at c.put_table.result _ _ (sym h.bytes_are) c.put_table.ensures
 
 pub put_array-put_values-end-requires : goal.put_array-put_values-end-requires
@@ -117,6 +117,21 @@ put_table-returns t c =
 
 pub put_entry-slice_bounds-put_bytes-end : goal.put_entry-slice_bounds-put_bytes-end
 put_entry-slice_bounds-put_bytes-end t c =
+    let h = entry_whole c.args.room c.args.i.now c.split_key.result.0.now c.split_key.result.1.now c.in-Some.size c.split_key.ensures.key c.split_key.ensures.rest c.requires.read (c.in-Some.ensures.copied c.args.room) in
+    sym (length-take-le (1 + length c.split_key.result.0.now + c.in-Some.size) c.args.i.now h.within)
+
+pub put_entry-put_bytes-requires : goal.put_entry-put_bytes-requires
+put_entry-put_bytes-requires t c =
+    let h = entry_whole c.args.room c.args.i.now c.split_key.result.0.now c.split_key.result.1.now c.in-Some.size c.split_key.ensures.key c.split_key.ensures.rest c.requires.read (c.in-Some.ensures.copied c.args.room) in
+    record { room = omega (arith, ap length h.bytes_are, c.requires.room) }
+
+pub put_entry-returns-in-Some : goal.put_entry-returns-in-Some
+put_entry-returns-in-Some t c =
+    let h = entry_whole c.args.room c.args.i.now c.split_key.result.0.now c.split_key.result.1.now c.in-Some.size c.split_key.ensures.key c.split_key.ensures.rest c.requires.read (c.in-Some.ensures.copied c.args.room) in
+    puts_as c.args.buf.now c.put_bytes.new.buf c.args.at c.put_bytes.result _ _ h.bytes_are c.put_bytes.ensures
+
+pub put_entry-slice_bounds-put_bytes-end-in-None : goal.put_entry-slice_bounds-put_bytes-end-in-None
+put_entry-slice_bounds-put_bytes-end-in-None t c =
     let h = entry_put c.args.room c.args.i.now c.requires.read in
     let key = ap length c.split_key.ensures.key in
     sym (length-take-le (1 + length c.split_key.result.0.now) c.args.i.now (omega (arith, key, h.within)))
@@ -138,8 +153,8 @@ put_entry-put_value-requires t c =
     let rest = ap (λ bs. length (canonical_of tagged_bytes (judge_value c.args.room bs))) c.split_key.ensures.rest in
     (search rules, (subst P (sym c.split_key.ensures.rest) h.read, omega (arith, rest, fits.second_fits c.put_bytes-place.new.buf c.put_bytes-place.result put)))
 
-pub put_entry-returns : goal.put_entry-returns
-put_entry-returns t c =
+pub put_entry-returns-in-None : goal.put_entry-returns-in-None
+put_entry-returns-in-None t c =
     let h = entry_put c.args.room c.args.i.now c.requires.read in
     let fits = entry_fits c.args.room c.args.i.now c.args.buf.now c.args.at c.requires.read c.requires.room in
     let key = ap (λ k. take (1 + length k) c.args.i.now) c.split_key.ensures.key in

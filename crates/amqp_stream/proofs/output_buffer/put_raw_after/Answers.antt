@@ -4,6 +4,3 @@ use Rattle.amqp_stream.proofs.output_buffer.put_raw_after.Goals as goal
 
 pub returns-clause-adds : goal.returns-clause-adds
 returns-clause-adds c = rewritten_after c.args.buf.now c.put_canonical.new.buf c.args.len (length c.args.raw.payload.now) _ _ c.requires.room c.put_canonical.ensures.within c.put_canonical.ensures.whole
-
-pub returns-clause-memory : goal.returns-clause-memory
-returns-clause-memory c = ?

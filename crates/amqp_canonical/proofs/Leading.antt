@@ -1,0 +1,157 @@
+-- Keys whose first bytes differ stand as the numbers of those bytes do.
+use Rattle.std.proofs.Common.{◌≡◌, ◌≢◌, ◌<◌, ◌≤◌, ◌⊎◌, inl, inr, ℕ, zero, suc, ◌+◌, ◌*◌, ◌^◌, Bool, true, false, List, [], ◌∷◌, ◌++◌, length, get_or, drop, map, nat_eq, nat_lt, Ordering, Less, Equal, Greater, refl, sym, ap, ap₂, subst, ◌∙◌, arith}
+use Rattle.std.proofs.lemmas.Cmp.{nat_list_cmp_total, tied_itself}
+use Rattle.std.proofs.lemmas.List.{get_or-drop, drop-drop, drop_all}
+use Rattle.std.proofs.lemmas.List.Elements.{All-nil, All-cons, All-append}
+use Rattle.std.proofs.lemmas.Map.Lookups.{exact_bytes}
+use Rattle.std.proofs.lemmas.Map.Views.{tells_apart}
+use Rattle.std.specs.Prelude.{All, IsTrue, ◌↔◌}
+use Rattle.std.proofs.lemmas.Bool.{cases_lt, cases_eq, cases_Bool}
+use Rattle.std.proofs.lemmas.Bool.Decides.{nat_tests}
+use Rattle.std.proofs.Math.Nat.{mul-le-mul_right, pow-succ'}
+use Rattle.std.specs.Cmp.Lexicographic.{slice_cmp}
+use Rattle.std.specs.Ordering.{nat_cmp, is_eq}
+use Rattle.amqp_types.specs.Judging.{IsBytes}
+use Rattle.amqp_types.proofs.Bytes.{IsBytes-drop, IsBytes-take}
+use Rattle.amqp_canonical.specs.Judgements.{IsBelow}
+use Rattle.amqp_canonical.specs.Leads.{leading, key_at, HasLead}
+use Rattle.amqp_canonical.specs.Marks.{Follows}
+use Rattle.amqp_canonical.specs.Writes.{key_in}
+use Rattle.amqp_canonical.specs.declared.marks.Mark.{Mark}
+
+-- n bytes are below the n-th power
+leading-below : (n : ℕ) (key : List ℕ) → IsBytes key → leading n key < 256 ^ n
+unfolding leading
+leading-below zero key fits = omega arith
+leading-below (suc n) [] fits = let rest = leading-below n [] fits in let power : 256 ^ suc n ≡ 256 * 256 ^ n = pow-succ' 256 n in omega (arith, rest, power)
+leading-below (suc n) (b ∷ key) fits =
+    let rest = leading-below n key (λ k. fits (suc k)) in
+    let first : b < 256 = fits 0 in
+    let power : 256 ^ suc n ≡ 256 * 256 ^ n = pow-succ' 256 n in
+    let product : (b + 1) * 256 ^ n ≤ 256 * 256 ^ n = mul-le-mul_right (256 ^ n) (omega (arith, first)) in
+    omega (arith, rest, power, product)
+
+-- the first byte that differs decides
+below_first : (x y : ℕ) (xs ys : List ℕ) → x < y → IsBelow (x ∷ xs) (y ∷ ys)
+below_first x y xs ys less = let e : nat_lt x y ≡ true = grind (arith, nat_tests) in rw e refl
+
+below_rest : (x y : ℕ) (xs ys : List ℕ) → x ≡ y → IsBelow xs ys → IsBelow (x ∷ xs) (y ∷ ys)
+below_rest x y xs ys same less =
+    let not_below : nat_lt x y ≡ false = grind (arith, nat_tests) in
+    let equal : nat_eq x y ≡ true = grind (arith, nat_tests) in
+    rw (not_below, equal) less
+
+-- a key whose first bytes make a lower number comes before
+pub leading-tells : (n : ℕ) (a b : List ℕ) → IsBytes a → IsBytes b → leading n a < leading n b → IsBelow a b
+unfolding leading
+leading-tells zero a b fa fb less = absurd (omega (arith, less))
+leading-tells (suc n) [] [] fa fb less = absurd (omega (arith, less))
+leading-tells (suc n) [] (y ∷ ys) fa fb less = refl
+leading-tells (suc n) (x ∷ xs) [] fa fb less = absurd (omega (arith, less))
+leading-tells (suc n) (x ∷ xs) (y ∷ ys) fa fb less =
+    elim (cases_lt x y) [
+      | inl lower ↦ below_first x y xs ys lower
+      | inr higher ↦ elim (cases_eq x y) [
+        | inl same ↦ below_rest x y xs ys same (leading-tells n xs ys (λ k. fa (suc k)) (λ k. fb (suc k)) (let P : ℕ → Type 0 = λ z. x * 256 ^ n + leading n xs < z * 256 ^ n + leading n ys in let h : x * 256 ^ n + leading n xs < x * 256 ^ n + leading n ys = subst P (sym same) less in omega (arith, h)))
+        | inr other ↦ absurd (
+            let more : y + 1 ≤ x = omega (arith, higher, other) in
+            let product : (y + 1) * 256 ^ n ≤ x * 256 ^ n = mul-le-mul_right (256 ^ n) more in
+            omega (arith, less, product, leading-below n ys (λ k. fb (suc k))))
+      ]
+    ]
+
+leading-none : (n : ℕ) → leading n [] ≡ 0
+unfolding leading
+leading-none zero = refl
+leading-none (suc n) = refl
+
+not_below : (x y power r s : ℕ) → r < power → x * power + r ≡ y * power + s → x < y → ⊥
+not_below x y power r s one same less =
+    let product : (x + 1) * power ≤ y * power = mul-le-mul_right power (omega (arith, less)) in
+    omega (arith, product, one, same)
+
+-- two numbers of a first digit and others below the power are the same in both parts
+same_first : (x y power r s : ℕ) → r < power → s < power → x * power + r ≡ y * power + s → (x ≡ y) × (r ≡ s)
+same_first x y power r s one two same =
+    elim (cases_lt x y) [
+      | inl less ↦ absurd (not_below x y power r s one same less)
+      | inr up ↦ elim (cases_eq x y) [
+        | inl e ↦ (e, let h : x * power + r ≡ x * power + s = same ∙ ap (λ z. z * power + s) (sym e) in omega (arith, h))
+        | inr other ↦ absurd (not_below y x power s r two (sym same) (omega (arith, up, other)))
+      ]
+    ]
+
+-- and so where the first n are the same, and the next ones make a lower number
+pub later-tells : (n m : ℕ) (a b : List ℕ) → IsBytes a → IsBytes b → leading n a ≡ leading n b → leading m (drop n a) < leading m (drop n b) → IsBelow a b
+unfolding leading
+later-tells zero m a b fa fb same less = leading-tells m a b fa fb less
+later-tells (suc n) m [] [] fa fb same less = absurd (omega (arith, less))
+later-tells (suc n) m [] (y ∷ ys) fa fb same less = refl
+later-tells (suc n) m (x ∷ xs) [] fa fb same less = absurd (omega (arith, less, leading-none m))
+later-tells (suc n) m (x ∷ xs) (y ∷ ys) fa fb same less =
+    let one = leading-below n xs (λ k. fa (suc k)) in
+    let two = leading-below n ys (λ k. fb (suc k)) in
+    let first = same_first x y (256 ^ n) (leading n xs) (leading n ys) one two same in
+    below_rest x y xs ys first.0 (later-tells n m xs ys (λ k. fa (suc k)) (λ k. fb (suc k)) first.1 less)
+
+-- ---- the numbers of the bytes
+
+pub beyond : (key : List ℕ) (k : ℕ) → length key ≤ k → get_or key k 0 ≡ 0
+beyond [] zero past = refl
+beyond [] (suc k) past = refl
+beyond (b ∷ key) zero past = absurd (omega (arith, past))
+beyond (b ∷ key) (suc k) past = beyond key k (omega (arith, past))
+
+leading-first : (n : ℕ) (key : List ℕ) → leading (suc n) key ≡ get_or key 0 0 * 256 ^ n + leading n (drop 1 key)
+unfolding leading
+leading-first n [] = omega (arith, leading-none n)
+leading-first n (b ∷ key) = refl
+
+leading-at : (n k : ℕ) (key : List ℕ) → leading (suc n) (drop k key) ≡ get_or key k 0 * 256 ^ n + leading n (drop (k + 1) key)
+leading-at n k key = leading-first n (drop k key) ∙ ap₂ (λ a b. a * 256 ^ n + leading n b) (rw get_or-drop (ap (λ m. get_or key m 0) (let e : k + 0 ≡ k = omega arith in e))) (drop-drop 1 k key)
+
+leading-zero : (key : List ℕ) → leading 0 key ≡ 0
+unfolding leading
+leading-zero key = refl
+
+pub four_are : (key : List ℕ) → leading 4 key ≡ get_or key 0 0 * 16777216 + get_or key 1 0 * 65536 + get_or key 2 0 * 256 + get_or key 3 0
+four_are key = omega (arith, leading-at 3 0 key, leading-at 2 1 key, leading-at 1 2 key, leading-at 0 3 key, leading-zero (drop 4 key))
+
+pub eight_are : (key : List ℕ) → leading 8 key ≡ get_or key 0 0 * 72057594037927936 + get_or key 1 0 * 281474976710656 + get_or key 2 0 * 1099511627776 + get_or key 3 0 * 4294967296 + get_or key 4 0 * 16777216 + get_or key 5 0 * 65536 + get_or key 6 0 * 256 + get_or key 7 0
+eight_are key = omega (arith, leading-at 7 0 key, leading-at 6 1 key, leading-at 5 2 key, leading-at 4 3 key, leading-at 3 4 key, leading-at 2 5 key, leading-at 1 6 key, leading-at 0 7 key, leading-zero (drop 8 key))
+
+pub none_after : (key : List ℕ) → length key < 8 → 0 ≡ leading 4 (drop 8 key)
+none_after key few = sym (ap (leading 4) (drop_all 8 key (omega (arith, few))) ∙ leading-none 4)
+
+-- ---- marks
+
+key_fits : (bytes : List ℕ) → IsBytes bytes → IsBytes (key_in bytes)
+key_fits [] fits = fits
+key_fits (n ∷ bytes) fits = IsBytes-take n bytes (λ k. fits (suc k))
+
+pub lead_tells : (content : List ℕ) (previous mark : Mark) → IsBytes content → HasLead content previous → HasLead content mark → previous.lead < mark.lead → Follows content previous mark
+lead_tells content previous mark fits p m less =
+    inl (leading-tells 8 (key_at content previous) (key_at content mark) (key_fits (drop previous.place content) (IsBytes-drop previous.place content fits)) (key_fits (drop mark.place content) (IsBytes-drop mark.place content fits)) (omega (arith, p.first, m.first, less)))
+
+pub more_tells : (content : List ℕ) (previous mark : Mark) → IsBytes content → HasLead content previous → HasLead content mark → previous.lead ≡ mark.lead → previous.more < mark.more → Follows content previous mark
+more_tells content previous mark fits p m same less =
+    inl (later-tells 8 4 (key_at content previous) (key_at content mark) (key_fits (drop previous.place content) (IsBytes-drop previous.place content fits)) (key_fits (drop mark.place content) (IsBytes-drop mark.place content fits)) (sym p.first ∙ same ∙ m.first) (omega (arith, p.next, m.next, less)))
+
+-- marks of one key have the same numbers
+pub same_lead : (content : List ℕ) (a b : Mark) → HasLead content a → HasLead content b → key_at content a ≡ key_at content b → (a.lead ≡ b.lead) × (a.more ≡ b.more)
+same_lead content a b p q same = (p.first ∙ ap (leading 8) same ∙ sym q.first, p.next ∙ ap (λ k. leading 4 (drop 8 k)) same ∙ sym q.next)
+
+-- keys that differ
+pub never : (a b : List ℕ) → (a ≡ b → ⊥) → IsTrue false ↔ (a ≡ b)
+never a b differ = (λ t. absurd cc, λ same. absurd (differ same))
+
+-- a test that holds exactly where two keys are the same
+pub same_test : (a b : List ℕ) (r : Bool) → IsTrue r ↔ (a ≡ b) → r ≡ is_eq (slice_cmp nat_cmp a b)
+same_test a b true h = let P : List ℕ → Type 0 = λ k. is_eq (slice_cmp nat_cmp a k) ≡ true in sym (subst P (h.0 refl) (ap is_eq (tied_itself nat_list_cmp_total a)))
+same_test a b false h = elim (cases_Bool (is_eq (slice_cmp nat_cmp a b))) [
+  | inl tied ↦ h.1 (tells_apart exact_bytes a b tied) ∙ sym tied
+  | inr apart ↦ sym apart
+]
+
+pub all_leads : (content : List ℕ) (marks : List Mark) (mark : Mark) → All (HasLead content) marks → HasLead content mark → All (HasLead content) (marks ++ mark ∷ [])
+all_leads content marks mark h one = All-append (HasLead content) marks (mark ∷ []) h (All-cons (HasLead content) mark [] one (All-nil (HasLead content)))

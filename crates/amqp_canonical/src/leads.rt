@@ -1,0 +1,58 @@
+//! The first bytes of keys as numbers, which compare faster than keys.
+
+ghost use Rattle.std.specs.Prelude.{◌≡◌, ◌<◌, length, drop};
+ghost use Rattle.amqp_canonical.specs.Leads.{leading};
+
+/// The same of a key of fewer bytes.
+#[inline(never)]
+fn fewer_than_eight(key: &[u8]) -> u64
+    requires { length key.now < 8 }
+    ensures { result ≡ leading 8 key.now }
+{
+    match key {
+        [] => 0,
+        [a] => u64::from_be_bytes([*a, 0, 0, 0, 0, 0, 0, 0]),
+        [a, b] => u64::from_be_bytes([*a, *b, 0, 0, 0, 0, 0, 0]),
+        [a, b, c] => u64::from_be_bytes([*a, *b, *c, 0, 0, 0, 0, 0]),
+        [a, b, c, d] => u64::from_be_bytes([*a, *b, *c, *d, 0, 0, 0, 0]),
+        [a, b, c, d, e] => u64::from_be_bytes([*a, *b, *c, *d, *e, 0, 0, 0]),
+        [a, b, c, d, e, f] => u64::from_be_bytes([*a, *b, *c, *d, *e, *f, 0, 0]),
+        [a, b, c, d, e, f, g, ..] => u64::from_be_bytes([*a, *b, *c, *d, *e, *f, *g, 0]),
+    }
+}
+
+/// The first eight bytes of a key as a number, with zeros after a shorter key.
+#[inline(always)]
+pub(crate) fn first_eight(key: &[u8]) -> u64
+    ensures { result ≡ leading 8 key.now }
+{
+    match key {
+        [a, b, c, d, e, f, g, h, ..] => u64::from_be_bytes([*a, *b, *c, *d, *e, *f, *g, *h]),
+        short => fewer_than_eight(short),
+    }
+}
+
+/// The first four bytes of what follows as a number, with zeros after a shorter one.
+#[inline(always)]
+fn first_four(rest: &[u8]) -> u32
+    ensures { result ≡ leading 4 rest.now }
+{
+    match rest {
+        [a, b, c, d, ..] => u32::from_be_bytes([*a, *b, *c, *d]),
+        [a, b, c] => u32::from_be_bytes([*a, *b, *c, 0]),
+        [a, b] => u32::from_be_bytes([*a, *b, 0, 0]),
+        [a] => u32::from_be_bytes([*a, 0, 0, 0]),
+        [] => 0,
+    }
+}
+
+/// The four bytes of a key after its first eight as a number, with zeros after a shorter key.
+#[inline(always)]
+pub(crate) fn next_four(key: &[u8]) -> u32
+    ensures { result ≡ leading 4 (drop 8 key.now) }
+{
+    match key {
+        [_, _, _, _, _, _, _, _, rest @ ..] => first_four(rest),
+        _ => 0,
+    }
+}
