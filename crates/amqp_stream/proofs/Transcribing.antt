@@ -166,8 +166,8 @@ unfolding refused
 mapping-refused E level bytes_of compact s [] = refl
 mapping-refused E level bytes_of compact s (f ∷ fs) = mapping-refused E level bytes_of compact s fs
 
-pub maps : {S : Type 0} (E : Type 0) (level : Level) (bytes_of : S → Frame → List ℕ) (compact : Bool) (s : S) → Transcriber {E = E} (mapping level bytes_of compact) s (flat_map (bytes_of s))
-maps E level bytes_of compact s = record {
+pub maps : {S E : Type 0} {level : Level} {compact : Bool} (bytes_of : S → Frame → List ℕ) (s : S) → Transcriber {E = E} (mapping level bytes_of compact) s (flat_map (bytes_of s))
+maps {E = E} {level = level} {compact = compact} bytes_of s = record {
   text_is = mapping-text E level bytes_of compact s;
   none_refused = mapping-refused E level bytes_of compact s;
   wants_none = λ kind h. absurd cc;
@@ -176,8 +176,8 @@ maps E level bytes_of compact s = record {
 
 -- ---- writers of canonical bytes
 
-pub canonical : {S : Type 0} (E : Type 0) (level : Level) (s : S) → Transcriber {E = E} (canonical_at level) s canon_row
-canonical E level s = maps E level (λ s f. canon f) _ s
+pub canonical : {S E : Type 0} {level : Level} {s : S} → Transcriber {E = E} (canonical_at level) s canon_row
+canonical {s = s} = maps (λ s f. canon f) s
 
 pub canonicalizes : {level : Level} {m turns : ℕ} {a b : Supply} {k l : Store} {r : Result (Unit {0}) StreamError} → Transcribes canon_row level m turns a b k l r → Canonicalizes level m turns a b k l r
 canonicalizes {level = level} {m = m} call =
