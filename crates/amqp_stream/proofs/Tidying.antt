@@ -40,11 +40,7 @@ tidied raw a before after f e h same = (f, e, h, pushed a before after (canon f)
 
 unread_by : {S : Type 0} (E : Type 0) (level : Level) (s : S) (raw : Raw) (a b : Store) (before after : List ℕ) (cause : Cause) → IsUnread level raw a b before after cause → WritesBy {S = S} {E = E} (canonical_at level) s s raw a b before after (stopped_by cause)
 unread_by E level s raw a b before after (faulty bad) h = (h.0, h.1, refl)
-unread_by E level s raw a b before after out_of_memory h = absurd h
-unread_by E level s raw a b before after cut_short h = absurd h
-unread_by E level s raw a b before after turns_spent h = absurd h
-unread_by E level s raw a b before after read_failed h = absurd h
-unread_by E level s raw a b before after write_failed h = absurd h
+unread_by E level s raw a b before after cause h = absurd h
 
 -- what was put for a method or content header at a level is what this manner writes for it
 pub put_by : {S : Type 0} (E : Type 0) (level : Level) (s : S) (raw : Raw) (a b : Store) (before after : List ℕ) (r : Result (Unit {0}) StreamError) → PutsTyped level raw a b before after r → WritesBy {S = S} {E = E} (canonical_at level) s s raw a b before after (ending_of (as_run r))

@@ -30,12 +30,9 @@ pub record Transcriber {S E : Type 0} (w : Manner S E) (s : S) (text_for : List 
 
 -- a run that stopped early did not stop for memory
 early : {S E : Type 0} {w : Manner S E} {s t : S} {m turns : ℕ} {a b : Supply} {k l : Store} (cause : Cause) → ((kind : AMQPFrameType) → IsTrue (w.wants kind) → ⊥) → (run : Streams w s t m turns a b k l (stopped_by cause)) → IsWrittenUpTo (text_of w s m run.taken) run.written cause × IsCausedBy w.level m turns run.taken a b k l ⊥ cause
-early (faulty bad) none run = (run.writes.text_is, run.cause)
-early cut_short none run = (run.writes.text_is, run.cause)
-early turns_spent none run = (run.writes.text_is, run.cause)
-early read_failed none run = (run.writes.text_is, run.cause)
 early write_failed none run = (run.writes, run.cause)
 early out_of_memory none run = absurd (none run.cause.wanting.raw.kind run.cause.wanting.such)
+early cause none run = (run.writes.text_is, run.cause)
 
 ended : {S E : Type 0} {w : Manner S E} {s t : S} {m turns : ℕ} {a b : Supply} {k l : Store} (r : Result (Unit {0}) StreamError) → ((kind : AMQPFrameType) → IsTrue (w.wants kind) → ⊥) → (run : Streams w s t m turns a b k l (ending_of (as_run r))) → HasWritten (text_of w s m run.taken) run.written r × HasCause w.level m turns run.taken a b k l r
 ended (Ok done) none run = (run.writes.text_is, (run.cause.0, run.cause.1))
@@ -73,12 +70,8 @@ never_out_of_memory {level = level} {m = m} {turns = turns} {a = a} {b = b} {k =
 -- ---- what was written begins the text of all of the front
 
 begins_by : (text_is written : List ℕ) (cause : Cause) → IsWrittenUpTo text_is written cause → IsPrefix written text_is
-begins_by text_is written (faulty bad) h = ([], append-nil written ∙ h)
-begins_by text_is written cut_short h = ([], append-nil written ∙ h)
-begins_by text_is written turns_spent h = ([], append-nil written ∙ h)
-begins_by text_is written read_failed h = ([], append-nil written ∙ h)
 begins_by text_is written write_failed h = h
-begins_by text_is written out_of_memory h = ([], append-nil written ∙ h)
+begins_by text_is written cause h = ([], append-nil written ∙ h)
 
 begins_at : (text_is written : List ℕ) (r : Result (Unit {0}) StreamError) → HasWritten text_is written r → IsPrefix written text_is
 begins_at text_is written (Ok done) h = ([], append-nil written ∙ h)
@@ -142,10 +135,7 @@ exactly {E = E} {w = w} {s = s} {m = m} {bytes = bytes} {r = r} is h =
 unless : {P Q : Type 0} (cause : Cause) → (P → Q) → UnlessStopped cause P → UnlessStopped cause Q
 unless (faulty bad) g h = g h
 unless cut_short g h = g h
-unless turns_spent g h = tt
-unless read_failed g h = tt
-unless write_failed g h = tt
-unless out_of_memory g h = tt
+unless cause g h = tt
 
 exactly_unless : {S E : Type 0} {w : Manner S E} {s : S} {f : List Frame → List ℕ} (m : ℕ) (bytes written : List ℕ) (r : Result (Unit {0}) StreamError) → Transcriber w s f → UnlessStoppedBy (ending_of {E = E} (as_run r)) (IsExact w s m bytes written (ending_of (as_run r))) → IsAnswerTo f w.level m bytes written r
 exactly_unless m bytes written (Ok done) is h = exactly is h

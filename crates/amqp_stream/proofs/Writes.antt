@@ -137,18 +137,12 @@ abbrev pub refusing : ParserError → Result (Unit {0}) ParserError
 refusing error = Err error
 
 pub is_none : (raw : Raw) (error : ParserError) → IsPayloadError error → refusing error ≢ Err parses.NoMemory → RefusesWhole error (whole raw) → IsNone raw (cause_of (payload_fault error))
-is_none raw parses.ShortPayload inside some h = record { bad = _; is_whole = h; other = λ e. absurd cc; tells = refl }
-is_none raw parses.TrailingBytes inside some h = record { bad = _; is_whole = h; other = λ e. absurd cc; tells = refl }
-is_none raw parses.UnknownClass inside some h = record { bad = _; is_whole = h; other = λ e. absurd cc; tells = refl }
-is_none raw parses.UnknownMethod inside some h = record { bad = _; is_whole = h; other = λ e. absurd cc; tells = refl }
-is_none raw parses.NotUtf8 inside some h = record { bad = _; is_whole = h; other = λ e. absurd cc; tells = refl }
-is_none raw parses.UnknownTag inside some h = record { bad = _; is_whole = h; other = λ e. absurd cc; tells = refl }
-is_none raw parses.TooDeep inside some h = record { bad = _; is_whole = h; other = λ e. absurd cc; tells = refl }
 is_none raw parses.NoMemory inside some h = absurd (some refl)
 is_none raw parses.Incomplete inside some h = absurd inside
 is_none raw parses.UnknownFrameType inside some h = absurd inside
 is_none raw parses.BadProtocolHeader inside some h = absurd inside
 is_none raw parses.BadFrameEnd inside some h = absurd inside
+is_none raw error inside some h = record { bad = _; is_whole = h; other = λ e. absurd cc; tells = refl }
 
 -- a method or content header that was not read
 pub added_refused : (raw : Raw) (a : Store) (before after : List ℕ) (error : ParserError) → IsPayloadError error → refusing error ≢ Err parses.NoMemory → RefusesWhole error (whole raw) → after ≡ before → WritesFrame raw a a before after (Err (payload_fault error))
@@ -175,10 +169,7 @@ written_by done steps at h = record { bytes = canon h.0; step = record { frame =
 unwritten_at : {S E : Type 0} (w : Manner S E) (s t : S) (raw : Raw) (a b : Store) (before after : List ℕ) (cause : Cause) → ((f : Frame) → w.step s f ≡ Ok (canon f, t)) → is_at w.level raw ≡ true → IsUnwritten raw a b before after cause → WritesBy w s s raw a b before after (stopped_by cause)
 unwritten_at w s t raw a b before after (faulty bad) steps at h = (is_faulty w.level raw bad h.0 h.1, h.2, refl)
 unwritten_at w s t raw a b before after write_failed steps at h = record { bytes = canon h.0; next = t; step = record { frame = h.0; is_whole = h.1; at_level = at; steps = steps h.0 }; failed = h.2 }
-unwritten_at w s t raw a b before after out_of_memory steps at h = absurd h
-unwritten_at w s t raw a b before after cut_short steps at h = absurd h
-unwritten_at w s t raw a b before after turns_spent steps at h = absurd h
-unwritten_at w s t raw a b before after read_failed steps at h = absurd h
+unwritten_at w s t raw a b before after cause steps at h = absurd h
 
 pub unwritten_by : {S E : Type 0} (w : Manner S E) {s : S} (t : S) (raw : Raw) (a b : Store) (before after : List ℕ) (error : StreamError) → ((f : Frame) → w.step s f ≡ Ok (canon f, t)) → is_at w.level raw ≡ true → WritesFrame raw a b before after (Err error) → WritesBy w s s raw a b before after (stopped_by (cause_of error))
 unwritten_by w {s = s} t raw a b before after error steps at h = unwritten_at w s t raw a b before after (cause_of error) steps at h
