@@ -8,6 +8,7 @@ use Rattle.hex.proofs.HexLemmas.{decode_of-ok}
 use Rattle.amqp_types.specs.Levels.{Level}
 use Rattle.amqp_types.specs.Judging.{Judged, past, fault, took, IsBytes}
 use Rattle.amqp_frame.specs.Frames.{Frame}
+use Rattle.amqp_frame.specs.Canonical.{canon_row}
 use Rattle.amqp_frame.specs.Fronts.{front, place}
 use Rattle.amqp_frame.proofs.Cuts.{IsStop}
 use Rattle.amqp_frame.proofs.Rows.{row_of_all, splits_of}
@@ -15,7 +16,8 @@ use Rattle.amqp_stream.specs.declared.errors.StreamError.{StreamError}
 use Rattle.amqp_stream.specs.Scripts.{Kept, store_of}
 use Rattle.amqp_stream.specs.Ends.{Supply, Store, Takes, Gains, prepended, Bytes}
 use Rattle.amqp_stream.specs.Writing.{WritesAll}
-use Rattle.amqp_stream.specs.Canonicalizing.{IsRow, NoFaults, canon_of, answer_at, answer_to, place_verdict, AnswersExactly, IsAnswerTo}
+use Rattle.amqp_stream.specs.Transcribing.{IsRow, NoFaults, answer_at, answer_to, place_verdict, IsAnswerTo}
+use Rattle.amqp_stream.specs.Canonicalizing.{canon_of, AnswersExactly}
 use Rattle.amqp_stream.specs.declared.sink.SinkFault.{SinkFault}
 use Rattle.amqp_stream.proofs.Adding.{Gains-none}
 use Rattle.amqp_stream.proofs.Exactly.{split_of, all_taken}
@@ -127,10 +129,10 @@ hex_write_fault level a b k l text out status f r e w =
     runs level a b k l r.taken w.piece r.reads 5 r.takes r.at_most w.gains (write_failed refl (record { few = r.ends.1; end = r.ends.2 }) w.err (w.prefix.0, w.prefix.1 ∙ ap (λ p. p.text) all))
 
 -- what a sink that held nothing took is what was written
-pub answered : (level : Level) (m n : ℕ) (bytes : List ℕ) (old new : Kept) (r : Result (Unit {0}) StreamError) → m ≡ n → old ≡ record { bytes = []; faults = 0 } → AnswersExactly level m bytes (store_of old) (store_of new) r → IsAnswerTo level n bytes new.bytes r
+pub answered : (level : Level) (m n : ℕ) (bytes : List ℕ) (old new : Kept) (r : Result (Unit {0}) StreamError) → m ≡ n → old ≡ record { bytes = []; faults = 0 } → AnswersExactly level m bytes (store_of old) (store_of new) r → IsAnswerTo canon_row level n bytes new.bytes r
 answered level m n bytes old new r limit empty h =
     let none : old.bytes ≡ [] = ap (λ s. s.bytes) empty in
     let all : Bytes new.bytes ≡ Bytes (old.bytes ++ h.written) = h.gains.bytes in
     let same : new.bytes ≡ old.bytes ++ h.written = cc in
     let written : h.written ≡ new.bytes = sym (same ∙ ap (λ (xs : List ℕ). xs ++ h.written) none) in
-    subst (λ k. IsAnswerTo level k bytes new.bytes r) limit (subst (λ (xs : List ℕ). IsAnswerTo level m bytes xs r) written h.answer)
+    subst (λ k. IsAnswerTo canon_row level k bytes new.bytes r) limit (subst (λ (xs : List ℕ). IsAnswerTo canon_row level m bytes xs r) written h.answer)

@@ -6,7 +6,8 @@ use Rattle.amqp_stream.specs.declared.errors.StreamError.{StreamError}
 use Rattle.amqp_stream.specs.declared.errors.StreamError.TheVariants as errors
 use Rattle.amqp_stream.specs.Ends.{last}
 use Rattle.amqp_stream.specs.Scripts.{faultless, Counted, count_of}
-use Rattle.amqp_stream.specs.Canonicalizing.{IsRow, Canonicalizes, NeverBegan, IsValid, NoFaults, IsOkOrNoMemory}
+use Rattle.amqp_stream.specs.Transcribing.{IsRow, NeverBegan, IsValid, NoFaults, IsOkOrNoMemory}
+use Rattle.amqp_stream.specs.Canonicalizing.{Canonicalizes}
 use Rattle.amqp_stream.specs.Made.{made, most_frames}
 use Rattle.amqp_stream.proofs.MadeFrames.{all_made}
 use Rattle.amqp_stream.proofs.MadeSizes.{made-short}
@@ -22,9 +23,9 @@ Ran turns bytes rest k l r = Canonicalizes plain max_payload turns (faultless by
 -- no more was counted than there was
 few_counted : (turns : ℕ) (bytes rest : List ℕ) (k l : Counted) (r : Result (Unit {0}) StreamError) → Ran turns bytes rest k l r → l.total ≤ k.total + length bytes
 few_counted turns bytes rest k l r (inl c) =
-    let all : bytes ≡ c.taken ++ rest = let same = c.takes.bytes in cc in
-    let total : l.total ≡ k.total + length c.written = let same = c.gains.bytes in cc in
-    omega (arith, ap length all, length-append c.taken rest, c.no_longer)
+    let all : bytes ≡ c.run.taken ++ rest = let same = c.run.takes.bytes in cc in
+    let total : l.total ≡ k.total + length c.run.written = let same = c.run.gains.bytes in cc in
+    omega (arith, ap length all, length-append c.run.taken rest, c.no_longer)
 few_counted turns bytes rest k l r (inr never) =
     let same : l.total ≡ k.total = let told = ap (λ s. s.taken) never.sink in cc in
     omega arith

@@ -4,40 +4,28 @@ use Rattle.amqp_types.specs.Levels.{plain}
 use Rattle.amqp_stream.specs.declared.errors.StreamError.{StreamError}
 use Rattle.amqp_stream.specs.declared.errors.StreamError.TheVariants as errors
 use Rattle.amqp_stream.specs.Ends.{Supply, Store}
-use Rattle.amqp_stream.specs.Canonicalizing.{Canonicalizes, NeverBegan, AnswersExactly, IsValid, NoFaults, IsOkOrNoMemory}
+use Rattle.amqp_stream.specs.Transcribing.{NeverBegan, IsValid, NoFaults, IsOkOrNoMemory}
+use Rattle.amqp_stream.specs.Canonicalizing.{Canonicalizes, AnswersExactly}
 use Rattle.amqp_program.specs.Reports.{max_payload}
 use Rattle.amqp_program.specs.Runs.{IsDoneOrNoMemory, RunsRaw, raw_turns, status_of}
-use Rattle.amqp_program.proofs.Statuses.{answer_status_not_two}
+use Rattle.amqp_program.proofs.Statuses.{answer_status_not_two, answer_status_three}
 
 done_or_no_memory : (r : Result (Unit {0}) StreamError) → IsOkOrNoMemory r → IsDoneOrNoMemory (status_of r)
 done_or_no_memory (Ok done) h = inl refl
 done_or_no_memory (Err errors.NoMemory) h = inr refl
-done_or_no_memory (Err errors.UnknownFrameType) h = absurd h
-done_or_no_memory (Err errors.BadProtocolHeader) h = absurd h
-done_or_no_memory (Err errors.TooLarge) h = absurd h
-done_or_no_memory (Err errors.BadFrameEnd) h = absurd h
-done_or_no_memory (Err errors.UnknownClass) h = absurd h
-done_or_no_memory (Err errors.UnknownMethod) h = absurd h
-done_or_no_memory (Err errors.ShortPayload) h = absurd h
-done_or_no_memory (Err errors.TrailingBytes) h = absurd h
-done_or_no_memory (Err errors.NotUtf8) h = absurd h
-done_or_no_memory (Err errors.UnknownTag) h = absurd h
-done_or_no_memory (Err errors.TooDeep) h = absurd h
-done_or_no_memory (Err errors.NotTidy) h = absurd h
-done_or_no_memory (Err errors.CutShort) h = absurd h
-done_or_no_memory (Err errors.TurnsSpent) h = absurd h
-done_or_no_memory (Err errors.ReadFault) h = absurd h
-done_or_no_memory (Err errors.WriteFault) h = absurd h
+done_or_no_memory (Err error) h = absurd h
 
 pub raw_not_two : (a b : Supply) (k l : Store) (status : ℕ) → RunsRaw a b k l status → status ≢ 2
 raw_not_two a b k l status run h = answer_status_not_two run.answer (sym run.status_is ∙ h)
 
 -- a run that gave this answer
-pub raw_runs : (a b : Supply) (k l : Store) (answer : Result (Unit {0}) StreamError) (status : ℕ) → status ≡ status_of answer → Canonicalizes plain max_payload raw_turns a b k l answer ⊎ NeverBegan a b k l answer → ((input : List ℕ) → a.left ≡ Some input → AnswersExactly plain max_payload input k l answer) → ((input : List ℕ) → a.left ≡ Some input → IsValid plain max_payload raw_turns input → NoFaults a b k l → IsOkOrNoMemory answer) → RunsRaw a b k l status
-raw_runs a b k l answer status e stream exact complete = record {
+pub raw_runs : (a b : Supply) (k l : Store) (answer : Result (Unit {0}) StreamError) (status : ℕ) → status ≡ status_of answer → Canonicalizes plain max_payload raw_turns a b k l answer ⊎ NeverBegan a b k l answer → (answer ≡ Err errors.NoMemory → NeverBegan a b k l answer) → ((input : List ℕ) → a.left ≡ Some input → AnswersExactly plain max_payload input k l answer) → ((input : List ℕ) → a.left ≡ Some input → IsValid plain max_payload raw_turns input → NoFaults a b k l → IsOkOrNoMemory answer) → RunsRaw a b k l status
+raw_runs a b k l answer status e stream memory exact complete = record {
   answer = answer;
   status_is = e;
   stream = stream;
+  memory = memory;
+  no_memory = λ three. memory (answer_status_three answer (sym e ∙ three));
   exact = exact;
   complete = λ input left valid none. subst IsDoneOrNoMemory (sym e) (done_or_no_memory answer (complete input left valid none));
 }

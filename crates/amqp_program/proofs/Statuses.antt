@@ -1,44 +1,36 @@
 -- Statuses of errors and answers, told apart.
-use Rattle.std.proofs.Common.{◌≡◌, ◌≢◌, ℕ, List, Result, Ok, Err, refl, sym, ◌∙◌, arith}
+use Rattle.std.proofs.Common.{◌≡◌, ◌≢◌, ℕ, List, Result, Ok, Err, refl, sym, ap, ◌∙◌, arith}
 use Rattle.hex.specs.declared.error.FromHexError.{FromHexError}
 use Rattle.amqp_types.specs.Levels.{Level}
 use Rattle.amqp_stream.specs.declared.errors.StreamError.{StreamError}
 use Rattle.amqp_stream.specs.declared.errors.StreamError.TheVariants as errors
 use Rattle.amqp_stream.specs.Errors.{stream_error_status}
-use Rattle.amqp_stream.specs.Canonicalizing.{answer_to}
+use Rattle.amqp_stream.specs.Transcribing.{answer_to}
 use Rattle.amqp_program.specs.Reports.{printed, report_at, report_of, max_payload}
 use Rattle.amqp_program.specs.Runs.{status_of}
 
 -- an error has a status of its own, which is neither 0 nor 2
-abbrev IsErrorStatus : ℕ → Type 0
-IsErrorStatus status = (status ≢ 0) × (status ≢ 2)
 
-error_status : (e : StreamError) → IsErrorStatus (stream_error_status e)
-error_status errors.UnknownFrameType = (λ h. absurd (omega arith), λ h. absurd (omega arith))
-error_status errors.BadProtocolHeader = (λ h. absurd (omega arith), λ h. absurd (omega arith))
-error_status errors.TooLarge = (λ h. absurd (omega arith), λ h. absurd (omega arith))
-error_status errors.BadFrameEnd = (λ h. absurd (omega arith), λ h. absurd (omega arith))
-error_status errors.UnknownClass = (λ h. absurd (omega arith), λ h. absurd (omega arith))
-error_status errors.UnknownMethod = (λ h. absurd (omega arith), λ h. absurd (omega arith))
-error_status errors.ShortPayload = (λ h. absurd (omega arith), λ h. absurd (omega arith))
-error_status errors.TrailingBytes = (λ h. absurd (omega arith), λ h. absurd (omega arith))
-error_status errors.NotUtf8 = (λ h. absurd (omega arith), λ h. absurd (omega arith))
-error_status errors.UnknownTag = (λ h. absurd (omega arith), λ h. absurd (omega arith))
-error_status errors.TooDeep = (λ h. absurd (omega arith), λ h. absurd (omega arith))
-error_status errors.NotTidy = (λ h. absurd (omega arith), λ h. absurd (omega arith))
-error_status errors.CutShort = (λ h. absurd (omega arith), λ h. absurd (omega arith))
-error_status errors.TurnsSpent = (λ h. absurd (omega arith), λ h. absurd (omega arith))
-error_status errors.ReadFault = (λ h. absurd (omega arith), λ h. absurd (omega arith))
-error_status errors.WriteFault = (λ h. absurd (omega arith), λ h. absurd (omega arith))
-error_status errors.NoMemory = (λ h. absurd (omega arith), λ h. absurd (omega arith))
+not_zero : (e : StreamError) → stream_error_status e ≢ 0
+not_zero e h = grind arith
+
+not_two : (e : StreamError) → stream_error_status e ≢ 2
+not_two e h = grind arith
+
+only_memory : (e : StreamError) → stream_error_status e ≡ 3 → e ≡ errors.NoMemory
+only_memory e h = grind arith
 
 pub answer_status_zero : (r : Result (Unit {0}) StreamError) → status_of r ≡ 0 → r ≡ Ok tt
 answer_status_zero (Ok done) e = refl
-answer_status_zero (Err error) e = absurd ((error_status error).0 e)
+answer_status_zero (Err error) e = absurd (not_zero error e)
 
 pub answer_status_not_two : (r : Result (Unit {0}) StreamError) → status_of r ≢ 2
 answer_status_not_two (Ok done) e = absurd (omega arith)
-answer_status_not_two (Err error) e = (error_status error).1 e
+answer_status_not_two (Err error) e = not_two error e
+
+pub answer_status_three : (r : Result (Unit {0}) StreamError) → status_of r ≡ 3 → r ≡ Err errors.NoMemory
+answer_status_three (Ok done) e = absurd (omega arith)
+answer_status_three (Err error) e = ap Err (only_memory error e)
 
 -- what is printed has the status of the answer
 printed-status : (front : List ℕ) (r : Result (Unit {0}) StreamError) → (printed front r).status ≡ status_of r

@@ -6,7 +6,8 @@ use Rattle.hex.specs.declared.error.FromHexError.{FromHexError}
 use Rattle.amqp_types.specs.Levels.{Level}
 use Rattle.amqp_stream.specs.declared.errors.StreamError.{StreamError}
 use Rattle.amqp_stream.specs.Errors.{stream_error_name, stream_error_status}
-use Rattle.amqp_stream.specs.Canonicalizing.{canon_of, answer_to}
+use Rattle.amqp_stream.specs.Transcribing.{answer_to}
+use Rattle.amqp_stream.specs.Canonicalizing.{canon_of}
 use Rattle.amqp_program.specs.declared.report.Report.{Report}
 
 -- the limit on payloads

@@ -1,8 +1,9 @@
 //! What a command prints for a text, made whole before it is written.
 
-ghost use Rattle.std.specs.Prelude.{◌≡◌, ◌++◌, ◌∷◌, [], IfOk};
+ghost use Rattle.std.specs.Prelude.{◌≡◌, ◌≢◌, ◌++◌, ◌∷◌, [], Err, IfOk};
 ghost use Rattle.amqp_types.specs.Levels.{level_of};
-ghost use Rattle.amqp_stream.specs.Canonicalizing.{IsAnswerTo};
+ghost use Rattle.amqp_frame.specs.Canonical.{canon_row};
+ghost use Rattle.amqp_stream.specs.Transcribing.{IsAnswerTo};
 ghost use Rattle.amqp_program.specs.Reports.{max_payload, printed_of, printed, report, report_at};
 ghost use Rattle.hex.specs.Hex.{encode_lower};
 
@@ -26,13 +27,14 @@ fn canonical(
     profile: Profile,
     bytes: &[u8],
 ) -> Result<(VecSink, Result<(), StreamError>), NoMemory>
-    ensures { IfOk result (λ r. IsAnswerTo (level_of profile) max_payload bytes.now r.0.bytes r.1) }
+    ensures answer { IfOk result (λ r. IsAnswerTo canon_row (level_of profile) max_payload bytes.now r.0.bytes r.1) }
+    ensures memory { IfOk result (λ r. r.1 ≢ Err StreamError.NoMemory) }
 {
     let mut source = SliceSource::new(bytes);
     let mut sink = VecSink::new(alloc);
     let mut codec = Codec::open(alloc, MAX_PAYLOAD)?;
     let turns = bytes.len() as u64 + 1;
-    let answer = codec.canonicalize_in(alloc, profile, &mut source, &mut sink, turns);
+    let answer = codec.rewrite(profile, &mut source, &mut sink, turns);
     Ok((sink, answer))
 }
 
@@ -63,7 +65,6 @@ fn report_on(alloc: Global, profile: Profile, bytes: &[u8]) -> Result<Report, No
 {
     let (sink, answer) = canonical(alloc, profile, bytes)?;
     match answer {
-        Err(StreamError::NoMemory) => Err(NoMemory),
         Err(StreamError::WriteFault) => Err(NoMemory),
         Err(StreamError::ReadFault) => Err(NoMemory),
         Err(StreamError::TurnsSpent) => Err(NoMemory),

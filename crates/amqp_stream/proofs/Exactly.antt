@@ -12,7 +12,7 @@ use Rattle.amqp_stream.specs.declared.errors.StreamError.{StreamError}
 use Rattle.amqp_stream.specs.declared.errors.StreamError.TheVariants as errors
 use Rattle.amqp_stream.specs.Errors.{error_of, Cause, faulty, cut_short, turns_spent, read_failed, write_failed, out_of_memory, cause_of}
 use Rattle.amqp_stream.specs.Ends.{Supply, Store, Gains, IsEmpty, prepended}
-use Rattle.amqp_stream.specs.Canonicalizing.{place_verdict, answer_at, answer_to, IsRow, IsValid, NoFaults, UnlessStopped, IsOutOfMemory}
+use Rattle.amqp_stream.specs.Transcribing.{place_verdict, answer_at, answer_to, IsRow, IsValid, NoFaults, UnlessStopped, IsOutOfMemory}
 use Rattle.amqp_stream.specs.Steps.{Manner, text, refused, state}
 use Rattle.amqp_stream.specs.Streaming.{Ending, finished, refused_by, stopped_by, text_of, refused_of, state_of, IsUnended, IsAllWritten, Streams, RunNeverBegan, answer_at_end, answer_of, answer_by, IsExact, UnlessStoppedBy, StreamsExactly, IsWelcome, IsDoneOrWanting}
 use Rattle.amqp_stream.proofs.Adding.{Gains-none}
@@ -54,19 +54,8 @@ pub answer_row : (level : Level) (m : ℕ) (bytes : List ℕ) → IsRow level m 
 answer_row level m bytes row = ap (λ p. answer_at p (place_verdict level m bytes)) (row_place level (Some m) bytes row.0 row.1)
 
 -- each fault has an error that reports it
-pub cause-error_of : (bad : Fault) → cause_of (error_of bad) ≡ faulty bad
-cause-error_of unknown_frame_type = refl
-cause-error_of bad_protocol_header = refl
-cause-error_of too_large = refl
-cause-error_of bad_frame_end = refl
-cause-error_of unknown_class = refl
-cause-error_of unknown_method = refl
-cause-error_of short_payload = refl
-cause-error_of trailing_bytes = refl
-cause-error_of not_utf8 = refl
-cause-error_of unknown_tag = refl
-cause-error_of too_deep = refl
-cause-error_of not_tidy = refl
+cause-error_of : (bad : Fault) → cause_of (error_of bad) ≡ faulty bad
+cause-error_of bad = grind arith
 
 -- the front of more bytes begins with the front
 front-append : (level : Level) (m : ℕ) (bytes rest : List ℕ) → front level (Some m) (bytes ++ rest) ≡ front level (Some m) bytes ++ front level (Some m) (place level (Some m) bytes ++ rest)
@@ -137,10 +126,7 @@ exact_at w s t m turns a b k l (stopped_by cut_short) bytes left c =
       answer = sym (known_error w s m c.taken errors.CutShort c.writes.none_refused (answer_more w.level m c.taken c.cause.0.0 c.cause.0.1));
       text_is = c.writes.text_is;
     })
-exact_at w s t m turns a b k l (stopped_by turns_spent) bytes left c = tt
-exact_at w s t m turns a b k l (stopped_by read_failed) bytes left c = tt
-exact_at w s t m turns a b k l (stopped_by write_failed) bytes left c = tt
-exact_at w s t m turns a b k l (stopped_by out_of_memory) bytes left c = tt
+exact_at w s t m turns a b k l (stopped_by cause) bytes left c = tt
 
 pub streams_exactly : {S E : Type 0} {w : Manner S E} {s t : S} {m turns : ℕ} {a b : Supply} {k l : Store} {e : Ending E} (bytes : List ℕ) → a.left ≡ Some bytes → Streams w s t m turns a b k l e → StreamsExactly w s m bytes k l e
 streams_exactly {w = w} {s = s} {t = t} {m = m} {turns = turns} {a = a} {b = b} {k = k} {l = l} {e = e} bytes left c = record { written = c.written; gains = c.gains; answer = exact_at w s t m turns a b k l e bytes left c }
@@ -150,15 +136,13 @@ streams_exactly {w = w} {s = s} {t = t} {m = m} {turns = turns} {a = a} {b = b} 
 -- valid input that is not refused is done, unless memory runs out
 done_at : {S E : Type 0} (w : Manner S E) (s t : S) (m turns : ℕ) (a b : Supply) (k l : Store) (e : Ending E) (bytes : List ℕ) → answer_by w s m bytes ≡ finished → length bytes < turns → a.left ≡ Some bytes → NoFaults a b k l → (c : Streams w s t m turns a b k l e) → UnlessStoppedBy e (IsExact w s m bytes c.written e) → IsDoneOrWanting e
 done_at w s t m turns a b k l finished bytes p enough left f c h = tt
-done_at w s t m turns a b k l (refused_by why) bytes p enough left f c h = absurd (let x = h.answer ∙ p in cc)
-done_at w s t m turns a b k l (stopped_by (faulty bad)) bytes p enough left f c h = absurd (let x = h.answer ∙ p in cc)
-done_at w s t m turns a b k l (stopped_by cut_short) bytes p enough left f c h = absurd (let x = h.answer ∙ p in cc)
 done_at w s t m turns a b k l (stopped_by turns_spent) bytes p enough left f c h =
     let t = split_of bytes c.taken b.left (sym left ∙ c.takes.bytes) in
     absurd (omega (arith, c.cause.1, ap length t.parts, length-append c.taken t.rest))
 done_at w s t m turns a b k l (stopped_by read_failed) bytes p enough left f c h = absurd (omega (arith, c.cause.1 f.source_below, f.source))
 done_at w s t m turns a b k l (stopped_by write_failed) bytes p enough left f c h = absurd (omega (arith, c.cause f.sink_below, f.sink))
 done_at w s t m turns a b k l (stopped_by out_of_memory) bytes p enough left f c h = tt
+done_at w s t m turns a b k l e bytes p enough left f c h = absurd (let x = h.answer ∙ p in cc)
 
 pub completes : {S E : Type 0} {w : Manner S E} {s t : S} {m turns : ℕ} {a b : Supply} {k l : Store} {e : Ending E} (bytes : List ℕ) → a.left ≡ Some bytes → Streams w s t m turns a b k l e → IsValid w.level m turns bytes → IsWelcome w s m bytes → NoFaults a b k l → IsDoneOrWanting e
 completes {w = w} {s = s} {t = t} {m = m} {turns = turns} {a = a} {b = b} {k = k} {l = l} {e = e} bytes left c v welcome f =

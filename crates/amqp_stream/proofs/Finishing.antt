@@ -21,7 +21,7 @@ use Rattle.amqp_stream.specs.Errors.{stream_error, read_fault, Cause, faulty, cu
 use Rattle.amqp_stream.specs.Ends.{Supply, Store, Gains, Rises, IsEmpty}
 use Rattle.amqp_stream.specs.Reading.{ReadsMore}
 use Rattle.amqp_stream.specs.Writing.{IsPrefix, Keeps, WritesAll, GatherFails, IsFaulty, AsksTidy}
-use Rattle.amqp_stream.specs.Canonicalizing.{place_verdict, IsRow}
+use Rattle.amqp_stream.specs.Transcribing.{place_verdict, IsRow}
 use Rattle.amqp_stream.specs.Steps.{Manner, text, refused, state}
 use Rattle.amqp_stream.specs.Streaming.{Ending, finished, refused_by, stopped_by, error_ending, ending_of, IsRefused, WriteFails, WritesBy, end_with, ended, EndsWith, text_of, refused_of, state_of, AtWanting, IsShortBy, HasCauseBy, IsAllWritten, HasWrittenBy, HasStateBy, Streams}
 use Rattle.amqp_stream.proofs.Adding.{Gains-none, Gains-then, Rises-later}
@@ -121,9 +121,7 @@ finish_fault {r = r} {held = held} bad reads.UnknownFrameType h same found = fin
 finish_fault {r = r} {held = held} bad reads.BadProtocolHeader h same found = finish_bad bad_protocol_header h (verdict-bad r.w.level (Some r.m) held bad_protocol_header (found ∙ cc)) (λ e. absurd cc)
 finish_fault {r = r} {held = held} bad reads.TooLarge h same found = finish_bad too_large h (verdict-bad r.w.level (Some r.m) held too_large (found ∙ cc)) (λ e. absurd cc)
 finish_fault {r = r} {held = held} bad reads.BadFrameEnd h same found = finish_bad bad_frame_end h (verdict-bad r.w.level (Some r.m) held bad_frame_end (found ∙ cc)) (λ e. absurd cc)
-finish_fault bad reads.CutShort h same found = absurd cc
-finish_fault bad reads.TurnsSpent h same found = absurd cc
-finish_fault bad reads.ReadFault h same found = absurd cc
+finish_fault bad error h same found = absurd cc
 
 -- the read budget is spent
 pub finish_spent : {S E : Type 0} {r : Start S E} {u : S} {left : ℕ} {c : Supply} {l : Store} {held : List ℕ} → Clear r u left c l held 0 → outer (Some r.m) held ≡ past → left ≡ 0 → Streams r.w r.s u r.m r.turns r.source c r.sink l (stopped_by turns_spent)
@@ -284,9 +282,7 @@ stop_at {u = u} t raw n (faulty bad) written g found h f = state_as h.2 (flush_t
 stop_at {E = E} {r = r} {c = c} {l'' = l''} t raw n write_failed written g found h f =
     subst (Streams r.w r.s t r.m r.turns r.source c r.sink l'') (sym (none_left E written)) (finish_frame t raw n g found (record { bytes = h.bytes; next = h.next; step = h.step; failed = still_failed h.failed f }))
 stop_at t raw n out_of_memory written g found h f = flush_then t (stopped_by out_of_memory) written (Going-kept g h.1) f (λ clear. finish_memory t raw n clear found h.0)
-stop_at t raw n cut_short written g found h f = absurd h
-stop_at t raw n turns_spent written g found h f = absurd h
-stop_at t raw n read_failed written g found h f = absurd h
+stop_at t raw n cause written g found h f = absurd h
 
 stop_with : {S E : Type 0} {r : Start S E} {u : S} {left : ℕ} {c : Supply} {l l' l'' : Store} {held before after : List ℕ} (t : S) (raw : Raw) (n : ℕ) (error : RunError E) (written : Result (Unit {0}) SinkFault) → Going r u left c l held before → outer (Some r.m) held ≡ took raw n → WritesBy r.w u t raw l l' before after (error_ending error) → WritesAll l' l'' after written → Streams r.w r.s t r.m r.turns r.source c r.sink l'' (ended_by (error_ending error) written)
 stop_with t raw n (ends.Stream error) written g found h f = stop_at t raw n (cause_of error) written g found h f

@@ -163,10 +163,7 @@ Going-kept {r = r} {l = l} {l' = l'} {before = before} {after = after} g k =
 -- a frame has no more bytes than it uses
 around_fits : (kind : AMQPFrameType) (p n : ℕ) → 8 ≤ n → (kind ≢ kinds.ProtocolHeader → p + 8 ≤ n) → length_around kind p ≤ n
 around_fits kinds.ProtocolHeader p n least h = least
-around_fits kinds.Method p n least h = h (λ e. absurd cc)
-around_fits kinds.Header p n least h = h (λ e. absurd cc)
-around_fits kinds.Body p n least h = h (λ e. absurd cc)
-around_fits kinds.Heartbeat p n least h = h (λ e. absurd cc)
+around_fits kind p n least h = h (λ e. absurd cc)
 
 pub frame_fits : (m : ℕ) (held : List ℕ) (raw : Raw) (n : ℕ) → outer (Some m) held ≡ took raw n → frame_length raw ≤ n
 frame_fits m held raw n found = around_fits raw.kind (length raw.payload) n (outer-in_bounds (Some m) held raw n found).least (λ e. outer-beside (Some m) held raw n found e)

@@ -5,8 +5,9 @@ pub mod Writes
 pub mod Passing
 pub mod Going
 pub mod Finishing
+pub mod Turning
 pub mod Exactly
-pub mod Canonically
+pub mod Transcribing
 pub mod Tidying
 pub mod Putting
 pub mod Flushes

@@ -74,9 +74,7 @@ ends_fault P errors.UnknownFrameType bad g room same e = pulls_to P (Err errors.
 ends_fault P errors.BadProtocolHeader bad g room same e = pulls_to P (Err errors.BadProtocolHeader) g room (e ∙ cc, refl)
 ends_fault P errors.TooLarge bad g room same e = pulls_to P (Err errors.TooLarge) g room (e ∙ cc, refl)
 ends_fault P errors.BadFrameEnd bad g room same e = pulls_to P (Err errors.BadFrameEnd) g room (e ∙ cc, refl)
-ends_fault P errors.CutShort bad g room same e = absurd cc
-ends_fault P errors.TurnsSpent bad g room same e = absurd cc
-ends_fault P errors.ReadFault bad g room same e = absurd cc
+ends_fault P error bad g room same e = absurd cc
 
 -- nothing was read: what is held stays, and is undecided still
 pub still_more : (m : ℕ) {s t : Supply} {b c : List ℕ} {r : Result ℕ SourceFault} (h : ReadsMore s t b c r) → length h.piece ≡ 0 → outer (Some m) b ≡ past → outer (Some m) c ≡ past
@@ -130,9 +128,7 @@ tells m b s t turns errors.UnknownFrameType bad e h = fault_told (outer (Some m)
 tells m b s t turns errors.BadProtocolHeader bad e h = fault_told (outer (Some m) b) bad _ e h
 tells m b s t turns errors.TooLarge bad e h = fault_told (outer (Some m) b) bad _ e h
 tells m b s t turns errors.BadFrameEnd bad e h = fault_told (outer (Some m) b) bad _ e h
-tells m b s t turns errors.CutShort bad e h = absurd (fault_decided (outer (Some m) b) bad e h.0)
-tells m b s t turns errors.TurnsSpent bad e h = absurd (fault_decided (outer (Some m) b) bad e h.0)
-tells m b s t turns errors.ReadFault bad e h = absurd (fault_decided (outer (Some m) b) bad e h.0)
+tells m b s t turns error bad e h = absurd (fault_decided (outer (Some m) b) bad e h.0)
 
 -- a fault that is held is answered again
 again : (s t : Supply) (turns_old turns m : ℕ) (before after : List ℕ) (r : Result (Option AMQPRawFrame) ReadError) (bad : Fault) → PullsTo (IsLent m) m s t turns_old turns before after r → outer (Some m) before ≡ fault bad → AnswersAgain bad turns_old turns (holding m before) (holding m after) r

@@ -6,7 +6,7 @@ use Rattle.amqp_types.specs.Answers.{RefusesWhole}
 use Rattle.amqp_types.specs.declared.errors.ParserError.{ParserError}
 use Rattle.amqp_types.specs.declared.errors.ParserError.TheVariants as parses
 use Rattle.amqp_frame.specs.declared.frame_type.AMQPFrameType.TheVariants as kinds
-use Rattle.amqp_frame.specs.Frames.{Raw, Frame, IsTyped, beat_on}
+use Rattle.amqp_frame.specs.Frames.{Raw, Frame, beat_on}
 use Rattle.amqp_frame.specs.Verdicts.{IsPayloadError, whole, whole_as, is_at, is_tidy_as, judged_frame}
 use Rattle.amqp_frame.specs.Canonical.{canon}
 use Rattle.amqp_stream.specs.declared.errors.StreamError.{StreamError}
@@ -16,23 +16,13 @@ use Rattle.amqp_stream.specs.Ends.{Store}
 use Rattle.amqp_stream.specs.Writing.{payload_fault, PutsTyped, IsUnread, IsFaulty}
 use Rattle.amqp_stream.specs.Manners.{canonical_at}
 use Rattle.amqp_stream.specs.Streaming.{stopped_by, ending_of, as_run, WritesBy}
-use Rattle.amqp_stream.proofs.Writes.{kept, pushed}
-use Rattle.amqp_stream.proofs.Canonically.{is_faulty, typed-wants}
+use Rattle.amqp_stream.proofs.Writes.{kept, pushed, refusing, is_none, is_faulty}
 
 -- a method or content header that is none
-pub tidy_refused : (raw : Raw) (a : Store) (before after : List ℕ) (error : ParserError) → IsTyped raw.kind → IsPayloadError error → RefusesWhole error (whole raw) → after ≡ before → PutsTyped tidy raw a a before after (Err (payload_fault error))
-tidy_refused raw a before after parses.ShortPayload t i h e = (is_faulty tidy raw _ h (λ x. absurd cc), kept a before after e)
-tidy_refused raw a before after parses.TrailingBytes t i h e = (is_faulty tidy raw _ h (λ x. absurd cc), kept a before after e)
-tidy_refused raw a before after parses.UnknownClass t i h e = (is_faulty tidy raw _ h (λ x. absurd cc), kept a before after e)
-tidy_refused raw a before after parses.UnknownMethod t i h e = (is_faulty tidy raw _ h (λ x. absurd cc), kept a before after e)
-tidy_refused raw a before after parses.NotUtf8 t i h e = (is_faulty tidy raw _ h (λ x. absurd cc), kept a before after e)
-tidy_refused raw a before after parses.UnknownTag t i h e = (is_faulty tidy raw _ h (λ x. absurd cc), kept a before after e)
-tidy_refused raw a before after parses.TooDeep t i h e = (is_faulty tidy raw _ h (λ x. absurd cc), kept a before after e)
-tidy_refused raw a before after parses.NoMemory t i h e = (t, kept a before after e)
-tidy_refused raw a before after parses.Incomplete t i h e = absurd i
-tidy_refused raw a before after parses.UnknownFrameType t i h e = absurd i
-tidy_refused raw a before after parses.BadProtocolHeader t i h e = absurd i
-tidy_refused raw a before after parses.BadFrameEnd t i h e = absurd i
+pub tidy_refused : (raw : Raw) (a : Store) (before after : List ℕ) (error : ParserError) → IsPayloadError error → refusing error ≢ Err parses.NoMemory → RefusesWhole error (whole raw) → after ≡ before → PutsTyped tidy raw a a before after (Err (payload_fault error))
+tidy_refused raw a before after error inside some h same =
+    let none = is_none raw error inside some h in
+    subst (IsUnread tidy raw a a before after) none.tells (is_faulty tidy raw none.bad none.is_whole none.other, kept a before after same)
 
 untidy_at : (t : Bool) (read : Result Frame Fault) (f : Frame) (n : ℕ) → read ≡ Ok f → t ≡ false → judged_frame t read n ≡ fault not_tidy
 untidy_at true read f n e h = absurd cc
@@ -50,11 +40,7 @@ tidied raw a before after f e h same = (f, e, h, pushed a before after (canon f)
 
 unread_by : {S : Type 0} (E : Type 0) (level : Level) (s : S) (raw : Raw) (a b : Store) (before after : List ℕ) (cause : Cause) → IsUnread level raw a b before after cause → WritesBy {S = S} {E = E} (canonical_at level) s s raw a b before after (stopped_by cause)
 unread_by E level s raw a b before after (faulty bad) h = (h.0, h.1, refl)
-unread_by E level s raw a b before after out_of_memory h = (typed-wants raw.kind h.0, h.1)
-unread_by E level s raw a b before after cut_short h = absurd h
-unread_by E level s raw a b before after turns_spent h = absurd h
-unread_by E level s raw a b before after read_failed h = absurd h
-unread_by E level s raw a b before after write_failed h = absurd h
+unread_by E level s raw a b before after cause h = absurd h
 
 -- what was put for a method or content header at a level is what this manner writes for it
 pub put_by : {S : Type 0} (E : Type 0) (level : Level) (s : S) (raw : Raw) (a b : Store) (before after : List ℕ) (r : Result (Unit {0}) StreamError) → PutsTyped level raw a b before after r → WritesBy {S = S} {E = E} (canonical_at level) s s raw a b before after (ending_of (as_run r))

@@ -1,19 +1,25 @@
 -- Writes one after another.
-use Rattle.std.proofs.Common.{◌≡◌, ℕ, ◌+◌, ◌-◌, List, [], ◌∷◌, ◌++◌, length, get_or, take, drop, inl, inr, Result, Ok, Err, refl, sym, ap, subst, ◌∙◌, arith, append_assoc, append-nil}
+use Rattle.std.proofs.Common.{◌≡◌, ◌≢◌, ℕ, ◌+◌, ◌-◌, List, [], ◌∷◌, ◌++◌, length, get_or, take, drop, inl, inr, Bool, true, false, Result, Ok, Err, refl, sym, ap, subst, ◌∙◌, arith, append_assoc, append-nil}
 use Rattle.std.proofs.lemmas.List.{take_rest, take-append-drop}
 use Rattle.std.proofs.Math.Seq.{take-add}
 use Rattle.std.proofs.lemmas.Bool.{cases_eq, eq-eqb, ne_eqb}
 use Rattle.amqp_frame.specs.declared.frame_type.AMQPFrameType.TheVariants as kinds
-use Rattle.amqp_frame.specs.Frames.{Raw, Frame, Body, Proto, IsTyped, beat_on}
-use Rattle.amqp_frame.specs.Verdicts.{IsPayloadError, whole, whole_as}
+use Rattle.amqp_frame.specs.Frames.{Raw, Frame, Body, Proto, beat_on}
+use Rattle.amqp_frame.specs.Verdicts.{IsPayloadError, whole, whole_as, is_at, judged_frame}
 use Rattle.amqp_frame.specs.Spelling.{framed, proto}
 use Rattle.amqp_frame.specs.Canonical.{canon}
+use Rattle.amqp_types.specs.Levels.{Level}
+use Rattle.amqp_types.specs.Judging.{Fault, not_tidy, fault}
 use Rattle.amqp_types.specs.Answers.{RefusesWhole}
 use Rattle.amqp_types.specs.declared.errors.ParserError.{ParserError}
 use Rattle.amqp_types.specs.declared.errors.ParserError.TheVariants as parses
 use Rattle.amqp_stream.specs.declared.sink.SinkFault.{SinkFault}
+use Rattle.amqp_stream.specs.declared.errors.StreamError.{StreamError}
+use Rattle.amqp_stream.specs.Errors.{Cause, faulty, cut_short, turns_spent, read_failed, write_failed, out_of_memory, cause_of}
 use Rattle.amqp_stream.specs.Ends.{Store, Gains, Rises}
-use Rattle.amqp_stream.specs.Writing.{payload_fault, WritesAll, WritesFrame, Gathered, GatherFails, Gathers, Keeps, stream_result}
+use Rattle.amqp_stream.specs.Writing.{payload_fault, WritesAll, WritesFrame, IsUnwritten, IsFaulty, Gathered, GatherFails, Gathers, Keeps, stream_result}
+use Rattle.amqp_stream.specs.Steps.{Manner}
+use Rattle.amqp_stream.specs.Streaming.{finished, stopped_by, ending_of, as_run, WritesBy}
 use Rattle.amqp_stream.proofs.Adding.{Rises-later, Gains-none, Gains-then}
 
 -- one more write
@@ -118,17 +124,57 @@ wrote-proto raw a before after bytes k e is h = added raw a before after (Proto 
 pub kept : (a : Store) (before after : List ℕ) → after ≡ before → Keeps a a before after
 kept a before after e = record { written = []; gains = Gains-none a; parts = e ∙ sym (append-nil before) }
 
+-- ---- a payload that is none
+
+-- a payload that has a fault, at any level
+pub record IsNone (raw : Raw) (cause : Cause) : Type 0 where
+  pub bad : Fault
+  pub is_whole : whole raw ≡ Err bad
+  pub other : bad ≢ not_tidy
+  pub tells : faulty bad ≡ cause
+
+abbrev pub refusing : ParserError → Result (Unit {0}) ParserError
+refusing error = Err error
+
+pub is_none : (raw : Raw) (error : ParserError) → IsPayloadError error → refusing error ≢ Err parses.NoMemory → RefusesWhole error (whole raw) → IsNone raw (cause_of (payload_fault error))
+is_none raw parses.NoMemory inside some h = absurd (some refl)
+is_none raw parses.Incomplete inside some h = absurd inside
+is_none raw parses.UnknownFrameType inside some h = absurd inside
+is_none raw parses.BadProtocolHeader inside some h = absurd inside
+is_none raw parses.BadFrameEnd inside some h = absurd inside
+is_none raw error inside some h = record { bad = _; is_whole = h; other = λ e. absurd cc; tells = refl }
+
 -- a method or content header that was not read
-pub added_refused : (raw : Raw) (a : Store) (before after : List ℕ) (error : ParserError) → IsTyped raw.kind → IsPayloadError error → RefusesWhole error (whole raw) → after ≡ before → WritesFrame raw a a before after (Err (payload_fault error))
-added_refused raw a before after parses.ShortPayload t i h e = (h, (λ x. absurd cc), kept a before after e)
-added_refused raw a before after parses.TrailingBytes t i h e = (h, (λ x. absurd cc), kept a before after e)
-added_refused raw a before after parses.UnknownClass t i h e = (h, (λ x. absurd cc), kept a before after e)
-added_refused raw a before after parses.UnknownMethod t i h e = (h, (λ x. absurd cc), kept a before after e)
-added_refused raw a before after parses.NotUtf8 t i h e = (h, (λ x. absurd cc), kept a before after e)
-added_refused raw a before after parses.UnknownTag t i h e = (h, (λ x. absurd cc), kept a before after e)
-added_refused raw a before after parses.TooDeep t i h e = (h, (λ x. absurd cc), kept a before after e)
-added_refused raw a before after parses.NoMemory t i h e = (t, kept a before after e)
-added_refused raw a before after parses.Incomplete t i h e = absurd i
-added_refused raw a before after parses.UnknownFrameType t i h e = absurd i
-added_refused raw a before after parses.BadProtocolHeader t i h e = absurd i
-added_refused raw a before after parses.BadFrameEnd t i h e = absurd i
+pub added_refused : (raw : Raw) (a : Store) (before after : List ℕ) (error : ParserError) → IsPayloadError error → refusing error ≢ Err parses.NoMemory → RefusesWhole error (whole raw) → after ≡ before → WritesFrame raw a a before after (Err (payload_fault error))
+added_refused raw a before after error inside some h same =
+    let none = is_none raw error inside some h in
+    subst (IsUnwritten raw a a before after) none.tells (none.is_whole, none.other, kept a before after same)
+
+-- ---- a frame at a level
+
+-- what whole payload has a fault, at each level
+faulty_at : (t : Bool) (read : Result Frame Fault) (bad : Fault) (n : ℕ) → read ≡ Err bad → judged_frame t read n ≡ fault bad
+faulty_at true read bad n e = ap (λ r. judged_frame true r n) e
+faulty_at false read bad n e = ap (λ r. judged_frame false r n) e
+
+-- a frame that is none at any level
+pub is_faulty : (level : Level) (raw : Raw) (bad : Fault) → whole raw ≡ Err bad → bad ≢ not_tidy → IsFaulty level raw bad
+is_faulty level raw bad e other = record { judged_bad = λ n. faulty_at (is_at level raw) (whole raw) bad n e; tidy_only = λ h. absurd (other h) }
+
+-- ---- a step of a writer that writes the canonical bytes of a frame
+
+pub written_by : {S E : Type 0} {w : Manner S E} {s t : S} {raw : Raw} {a b : Store} {before after : List ℕ} (done : Unit {0}) → ((f : Frame) → w.step s f ≡ Ok (canon f, t)) → is_at w.level raw ≡ true → WritesFrame raw a b before after (Ok done) → WritesBy w s t raw a b before after finished
+written_by done steps at h = record { bytes = canon h.0; step = record { frame = h.0; is_whole = h.1; at_level = at; steps = steps h.0 }; gathered = h.2 }
+
+unwritten_at : {S E : Type 0} (w : Manner S E) (s t : S) (raw : Raw) (a b : Store) (before after : List ℕ) (cause : Cause) → ((f : Frame) → w.step s f ≡ Ok (canon f, t)) → is_at w.level raw ≡ true → IsUnwritten raw a b before after cause → WritesBy w s s raw a b before after (stopped_by cause)
+unwritten_at w s t raw a b before after (faulty bad) steps at h = (is_faulty w.level raw bad h.0 h.1, h.2, refl)
+unwritten_at w s t raw a b before after write_failed steps at h = record { bytes = canon h.0; next = t; step = record { frame = h.0; is_whole = h.1; at_level = at; steps = steps h.0 }; failed = h.2 }
+unwritten_at w s t raw a b before after cause steps at h = absurd h
+
+pub unwritten_by : {S E : Type 0} (w : Manner S E) {s : S} (t : S) (raw : Raw) (a b : Store) (before after : List ℕ) (error : StreamError) → ((f : Frame) → w.step s f ≡ Ok (canon f, t)) → is_at w.level raw ≡ true → WritesFrame raw a b before after (Err error) → WritesBy w s s raw a b before after (stopped_by (cause_of error))
+unwritten_by w {s = s} t raw a b before after error steps at h = unwritten_at w s t raw a b before after (cause_of error) steps at h
+
+-- the same of a writer whose state stays
+pub canonical_by : {S E : Type 0} (w : Manner S E) {s : S} (raw : Raw) (a b : Store) (before after : List ℕ) (r : Result (Unit {0}) StreamError) → ((f : Frame) → w.step s f ≡ Ok (canon f, s)) → is_at w.level raw ≡ true → WritesFrame raw a b before after r → WritesBy w s s raw a b before after (ending_of (as_run r))
+canonical_by w raw a b before after (Ok done) steps at h = written_by done steps at h
+canonical_by w {s = s} raw a b before after (Err error) steps at h = unwritten_by w s raw a b before after error steps at h

@@ -146,8 +146,7 @@ fn payload_error(error: ParserError) -> StreamError
     }
 }
 
-/// Gathers the canonical bytes of a method or content header. Memory may run out where its payload
-/// is not canonical.
+/// Puts the canonical bytes of a method or content header after the pending ones.
 #[tactic(auto, using(crate::proofs::Writes::added_refused, crate::proofs::Writes::added))]
 fn write_typed(
     out: &mut OutputBuffer,

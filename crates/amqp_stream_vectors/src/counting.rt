@@ -2,13 +2,11 @@
 
 use amqp_frame::AMQPRawFrame;
 use amqp_stream::{FrameWriter, OutputBuffer, RunError, Sink, write_canonical};
-use std::alloc::Global;
 use std::convert::Infallible;
 
 /// Writes the canonical bytes of each frame, and counts them.
 #[derive(Drop)]
 pub struct Counting {
-    pub alloc: Global,
     pub frames: u64,
 }
 
@@ -25,7 +23,7 @@ impl FrameWriter for Counting {
         sink: &mut K,
         raw: AMQPRawFrame<'_>,
     ) -> Result<(), RunError<Infallible>> {
-        match write_canonical(self.alloc, out, sink, raw) {
+        match write_canonical(out, sink, raw) {
             Ok(()) => {
                 self.frames = self.frames.saturating_add(1);
                 Ok(())

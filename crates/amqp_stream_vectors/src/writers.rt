@@ -4,7 +4,6 @@ use crate::asking::{LIMIT, MESSAGE, TWO_HEARTBEATS};
 use crate::counting::Counting;
 use amqp_stream::{Codec, SliceSource, StreamError, VecSink, run_stream, unrefused};
 use amqp_vectors::asking::same;
-use std::alloc::Global;
 use std::test::Fail;
 
 /// Two heartbeats, and a byte that begins no frame.
@@ -22,17 +21,12 @@ const ROWS: [(&[u8], Result<(), StreamError>, &[u8], u64); 3] = [
     ),
 ];
 
-/// A writer that has counted nothing.
-fn counting(alloc: Global) -> Counting {
-    Counting { alloc, frames: 0 }
-}
-
 #[test]
 fn a_writer_counts(rt: HostRuntime) -> Result<(), Fail> {
     let alloc = rt.alloc();
     let mut codec = Codec::open(alloc, LIMIT)?;
     for (bytes, outcome, written, frames) in ROWS {
-        let mut writer = counting(alloc);
+        let mut writer = Counting { frames: 0 };
         let mut sink = VecSink::new(alloc);
         let run = codec.run(&mut writer, &mut SliceSource::new(bytes), &mut sink, 100);
         same(unrefused(run), outcome)?;
@@ -45,7 +39,7 @@ fn a_writer_counts(rt: HostRuntime) -> Result<(), Fail> {
 #[test]
 fn a_stream_runs_by_itself(rt: HostRuntime) -> Result<(), Fail> {
     let alloc = rt.alloc();
-    let mut writer = counting(alloc);
+    let mut writer = Counting { frames: 0 };
     let mut sink = VecSink::new(alloc);
     let mut source = SliceSource::new(&MESSAGE);
     let run = run_stream(alloc, &mut writer, &mut source, &mut sink, LIMIT, 100);

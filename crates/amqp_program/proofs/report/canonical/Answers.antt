@@ -2,5 +2,5 @@ use Rattle.std.proofs.Common.{rules}
 use Rattle.amqp_program.proofs.HexRuns.{answered}
 use Rattle.amqp_program.proofs.report.canonical.Goals as goal
 
-pub returns : goal.returns
-returns c = answered _ _ _ c.args.bytes.now c.new-sink.result c.canonicalize_in-answer.new.sink c.canonicalize_in-answer.result (search rules) c.new-sink.ensures (c.canonicalize_in-answer.ensures.exact c.args.bytes.now (search rules))
+pub returns-clause-answer : goal.returns-clause-answer
+returns-clause-answer c = answered _ _ _ c.args.bytes.now c.new-sink.result c.rewrite-answer.new.sink c.rewrite-answer.result (search rules) c.new-sink.ensures (c.rewrite-answer.ensures.exact c.args.bytes.now (search rules))

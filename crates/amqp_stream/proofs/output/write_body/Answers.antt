@@ -1,4 +1,4 @@
-use Rattle.std.proofs.Common.{[], ◌∷◌, ◌++◌, length, refl, sym, ap, subst, ◌∙◌, append_assoc, List, ℕ, Err, Ok}
+use Rattle.std.proofs.Common.{[], ◌∷◌, ◌++◌, length, ap, ◌∙◌, append_assoc, List, ℕ}
 use Rattle.amqp_frame.specs.Spelling.{head}
 use Rattle.amqp_stream.proofs.Writes.{WritesAll-then, gather_fails, all_but}
 use Rattle.amqp_stream.proofs.output.write_body.Goals as goal

@@ -1,4 +1,4 @@
-use Rattle.std.proofs.Common.{◌≡◌, ◌-◌, ◌+◌, ◌≤◌, List, ℕ, length, take, drop, refl, ap, ◌∙◌, arith}
+use Rattle.std.proofs.Common.{◌-◌, ◌+◌, ◌≤◌, List, ℕ, length, take, drop, refl, ap, ◌∙◌, arith}
 use Rattle.amqp_frame.specs.Looks.{laid_out}
 use Rattle.amqp_frame.proofs.OuterLook.{outer-in_bounds}
 use Rattle.amqp_stream.proofs.Spans.{part-length, part-frame}

@@ -1,4 +1,4 @@
-use Rattle.std.proofs.Common.{◌≡◌, ◌+◌, ◌-◌, ◌^◌, ◌<◌, ◌≤◌, ℕ, List, length, drop, Ok, Err, Some, None, refl, sym, ap, subst, ◌∙◌, arith}
+use Rattle.std.proofs.Common.{◌+◌, ◌-◌, ◌^◌, ◌<◌, ◌≤◌, ℕ, List, length, drop, Ok, Err, None, refl, sym, ap, subst, ◌∙◌, arith}
 use Rattle.amqp_frame.specs.Looks.{laid_out}
 use Rattle.amqp_stream.specs.Reading.{Holding, LiesIn, IsLent, HasNext}
 use Rattle.amqp_stream.proofs.Spans.{part-drop, part-frame, part-length}

@@ -1,9 +1,11 @@
-use Rattle.amqp_frame.specs.Frames.{raw_of}
-use Rattle.amqp_stream_vectors.proofs.Counted.{counted, uncounted}
+use Rattle.std.proofs.Common.{refl}
+use Rattle.amqp_stream.proofs.Writes.{written_by, unwritten_by}
+use Rattle.amqp_stream_vectors.specs.Counting.{one_more}
+use Rattle.amqp_stream_vectors.proofs.Counted.{counts}
 use Rattle.amqp_stream_vectors.proofs.counting.CountingFrameWriter.write_frame.Goals as goal
 
 pub returns-in-Ok-clause-writes : goal.returns-in-Ok-clause-writes
-returns-in-Ok-clause-writes g c = counted c.args.self.now c.saturating_add-self.result c.saturating_add-self.ensures (raw_of c.args.raw) _ _ _ _ tt c.in-Ok.ensures.writes
+returns-in-Ok-clause-writes g c = written_by tt (counts c.args.self.now _ c.saturating_add-self.ensures) refl c.in-Ok.ensures.writes
 
 pub returns-in-Err-clause-writes : goal.returns-in-Err-clause-writes
-returns-in-Err-clause-writes g c = uncounted c.args.self.now (raw_of c.args.raw) _ _ _ _ c.in-Err.error c.in-Err.ensures.writes
+returns-in-Err-clause-writes g c = unwritten_by _ (one_more c.args.self.now) _ _ _ _ _ c.in-Err.error (λ f. refl) refl c.in-Err.ensures.writes
