@@ -6,6 +6,8 @@ mod laws;
 mod parsing;
 mod rule;
 mod rules;
+#[cfg(test)]
+mod tests;
 
 pub use errors::RuleError;
 pub use laws::{covered_rules_decide_nothing, words_spell_one_rule};
