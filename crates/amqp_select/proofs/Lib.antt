@@ -1,0 +1,5 @@
+pub mod Numerals
+pub mod Words
+pub mod Reading
+pub mod Covered
+pub mod Uncovered

@@ -1,0 +1,6 @@
+pub mod Rules
+pub mod Reading
+pub mod Refusals
+pub mod Matching
+pub mod Covering
+pub mod Laws
