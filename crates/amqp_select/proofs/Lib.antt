@@ -3,3 +3,4 @@ pub mod Words
 pub mod Reading
 pub mod Covered
 pub mod Uncovered
+pub mod Selected

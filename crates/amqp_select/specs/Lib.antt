@@ -4,3 +4,4 @@ pub mod Refusals
 pub mod Matching
 pub mod Covering
 pub mod Laws
+pub mod Selecting
