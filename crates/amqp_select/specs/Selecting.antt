@@ -8,7 +8,7 @@ use Rattle.amqp_frame.specs.Outlines.{outline_of}
 use Rattle.amqp_stream.specs.Steps.{Manner}
 use Rattle.amqp_stream.specs.Manners.{mapping}
 use Rattle.amqp_select.specs.declared.rule.Rule.{Rule}
-use Rattle.amqp_select.specs.declared.select.Select.{Select}
+use Rattle.amqp_select.specs.declared.selecting.Selector.{Selector}
 use Rattle.amqp_select.specs.Matching.{decides, kept}
 
 -- the canonical bytes of the frames that are kept
@@ -20,5 +20,5 @@ abbrev pub selected : List Rule → Frame → List ℕ
 selected rules frame = if decides rules (outline_of frame) then canon frame else []
 
 -- frame by frame, of whatever can be read
-abbrev pub selecting : Manner Select Infallible
+abbrev pub selecting : Manner Selector Infallible
 selecting = mapping plain (λ s frame. selected s.rules.now frame) true

@@ -6,11 +6,11 @@ mod laws;
 mod parsing;
 mod rule;
 mod rules;
-mod select;
+mod selecting;
 #[cfg(test)]
 mod tests;
 
 pub use errors::RuleError;
 pub use laws::{covered_rules_decide_nothing, words_spell_one_rule};
 pub use rules::Rules;
-pub use select::select;
+pub use selecting::select;

@@ -30,7 +30,12 @@ fn rules_of(alloc: Global, words: &[&str]) -> Result<Rules, Fail> {
 const ROWS: [(&[&str], &[u8], usize, Result<(), StreamError>); 7] = [
     (&["keep"], &MESSAGE, 69, Ok(())),
     (&["keep,kind=body"], &MESSAGE, 13, Ok(())),
-    (&["drop,class=60,method=40", "keep,channel=1-5"], &MESSAGE, 47, Ok(())),
+    (
+        &["drop,class=60,method=40", "keep,channel=1-5"],
+        &MESSAGE,
+        47,
+        Ok(()),
+    ),
     (&["keep,channel=2"], &MESSAGE, 0, Ok(())),
     (&["drop"], &HEARTBEAT, 0, Err(StreamError::UnknownFrameType)),
     (&["drop"], &SHORT, 0, Err(StreamError::ShortPayload)),

@@ -17,11 +17,11 @@ use std::convert::Infallible;
 
 /// Writes the canonical bytes of each frame that rules keep. The others are judged all the same.
 #[derive(Drop)]
-pub(crate) struct Select<'a> {
+pub(crate) struct Selector<'a> {
     rules: &'a Rules,
 }
 
-impl<'a> FrameWriter for Select<'a> {
+impl<'a> FrameWriter for Selector<'a> {
     ghost use Rattle.amqp_select.specs.Selecting.{selecting};
 
     type Refusal = Infallible;
@@ -74,15 +74,8 @@ pub fn select<S: Source, K: Sink>(
         → NoFaults (S.supply source.old) (S.supply source.new) (K.store sink.old) (K.store sink.new)
         → IsOkOrNoMemory result }
 {
-    let mut writer = Select { rules };
-    unrefused(run_stream(
-        alloc,
-        &mut writer,
-        source,
-        sink,
-        max_payload,
-        turns,
-    ))
+    let mut writer = Selector { rules };
+    unrefused(run_stream(alloc, &mut writer, source, sink, max_payload, turns))
 }
 
 #[cfg(test)]
