@@ -126,7 +126,7 @@ pub(crate) fn stop<K: Sink, R: Drop>(
 }
 
 /// The error of a whole payload, as an error of a stream.
-fn payload_error(error: ParserError) -> StreamError
+pub fn payload_error(error: ParserError) -> StreamError
     requires { IsPayloadError error }
     ensures { result ≡ payload_fault error }
 {

@@ -1,0 +1,6 @@
+pub mod Numerals
+pub mod Words
+pub mod Reading
+pub mod Covered
+pub mod Uncovered
+pub mod Selected

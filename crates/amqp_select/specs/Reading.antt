@@ -1,0 +1,101 @@
+-- What is read of a word, from the left.
+use Rattle.std.specs.Prelude.{◌≡◌, ℕ, List, [], ◌∷◌, length, take, drop, Bool, true, false, ◌&&◌, ◌==◌, nat_lt, nat_le, slice_index, Option, Some, None, codes, if◌then◌else◌}
+use Rattle.std.specs.Char.{is_ascii_digit}
+use Rattle.std.specs.Fmt.{decimal}
+use Rattle.std.specs.List.{prefix_len}
+use Rattle.std.specs.Option.{option_map}
+use Rattle.std.specs.Str.{bytes_eq}
+use Rattle.std.specs.Str.Parse.{digits_value}
+use Rattle.amqp_frame.specs.declared.frame_type.AMQPFrameType.{AMQPFrameType}
+use Rattle.amqp_frame.specs.declared.frame_type.AMQPFrameType.TheVariants as kinds
+use Rattle.amqp_select.specs.declared.rule.Span.{Span}
+use Rattle.amqp_select.specs.declared.rule.Span.TheVariants as spans
+use Rattle.amqp_select.specs.declared.rule.Rule.{Rule}
+
+-- what was read, and the bytes after it
+abbrev pub Read : Type 0 → Type 0
+Read A = Option (A × List ℕ)
+
+-- a call gives what is read; the bytes after it are borrowed
+abbrev pub Gives : {A R : Type 0} → (R → List ℕ) → Option (A × R) → Read A → Type 0
+Gives bytes_of result read = option_map (λ found. (found.0, bytes_of found.1)) result ≡ read
+
+infixl 10 ◌>>=◌
+abbrev pub ◌>>=◌ : {A B : Type 0} → Option A → (A → Option B) → Option B
+None >>= f = None
+(Some a) >>= f = f a
+
+-- the bytes after this text, where it stands in front
+abbrev pub after : List ℕ → List ℕ → Option (List ℕ)
+after text bytes = if bytes_eq (take (length text) bytes) text then Some (drop (length text) bytes) else None
+
+-- one of several things, each by its text
+abbrev pub or_else : {A : Type 0} → Option (List ℕ) → A → Read A → Read A
+or_else None a others = others
+or_else (Some rest) a others = Some (a, rest)
+
+abbrev pub read_verb : List ℕ → Read Bool
+read_verb bytes = or_else (after (codes "keep") bytes) true (or_else (after (codes "drop") bytes) false None)
+
+-- the number that is printed so
+unfoldable pub number_named : List ℕ → Option ℕ
+number_named digits =
+    let n = digits_value 10 digits in
+    if bytes_eq digits (decimal n) && nat_le n 65535 then Some n else None
+
+-- no number is printed with a zero in front and more after it
+abbrev pub has_leading_zero : List ℕ → Bool
+has_leading_zero digits = nat_lt 1 (length digits) && (slice_index digits 0 == 48)
+
+-- the number of digits in front
+abbrev pub digits_in_front : List ℕ → ℕ
+digits_in_front bytes = prefix_len is_ascii_digit bytes
+
+-- the number that the digits in front name
+abbrev pub read_number : List ℕ → Read ℕ
+read_number bytes = option_map (λ n. (n, drop (digits_in_front bytes) bytes)) (number_named (take (digits_in_front bytes) bytes))
+
+abbrev pub range_to : ℕ → Read ℕ → Read Span
+range_to first None = None
+range_to first (Some last) = if nat_le first last.0 then Some (spans.Range first last.0, last.1) else None
+
+-- a channel alone, or the first of a range where a dash follows
+abbrev pub span_from : ℕ × List ℕ → Option (List ℕ) → Read Span
+span_from first None = Some (spans.One first.0, first.1)
+span_from first (Some rest) = range_to first.0 (read_number rest)
+
+abbrev pub read_span : List ℕ → Read Span
+read_span bytes = do
+  first ← read_number bytes
+  span_from first (after (codes "-") first.1)
+
+abbrev pub read_kind : List ℕ → Read AMQPFrameType
+read_kind bytes =
+    or_else (after (codes "proto") bytes) kinds.ProtocolHeader
+    (or_else (after (codes "method") bytes) kinds.Method
+    (or_else (after (codes "header") bytes) kinds.Header
+    (or_else (after (codes "body") bytes) kinds.Body
+    (or_else (after (codes "beat") bytes) kinds.Heartbeat None))))
+
+abbrev pub part_at : {A : Type 0} → (List ℕ → Read A) → List ℕ → Option (List ℕ) → Read (Option A)
+part_at read bytes None = Some (None, bytes)
+part_at read bytes (Some rest) = option_map (λ part. (Some part.0, part.1)) (read rest)
+
+-- a part, where its name stands in front
+abbrev pub read_part : {A : Type 0} → List ℕ → (List ℕ → Read A) → List ℕ → Read (Option A)
+read_part name read bytes = part_at read bytes (after name bytes)
+
+-- the rule, where nothing comes after it
+abbrev pub at_end : Rule → List ℕ → Option Rule
+at_end rule [] = Some rule
+at_end rule (byte ∷ rest) = None
+
+-- the rule that the whole word is
+abbrev pub read_rule : List ℕ → Option Rule
+read_rule word = do
+  verb ← read_verb word
+  channel ← read_part (codes ",channel=") read_span verb.1
+  kind ← read_part (codes ",kind=") read_kind channel.1
+  class ← read_part (codes ",class=") read_number kind.1
+  method ← read_part (codes ",method=") read_number class.1
+  at_end (record { keep = verb.0; channel = channel.0; kind = kind.0; class_id = class.0; method_id = method.0 }) method.1

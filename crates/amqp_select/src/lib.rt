@@ -1,0 +1,16 @@
+//! Selection of AMQP 0-9-1 frames by rules.
+#![tactic(auto)]
+
+mod errors;
+mod laws;
+mod parsing;
+mod rule;
+mod rules;
+mod selecting;
+#[cfg(test)]
+mod tests;
+
+pub use errors::RuleError;
+pub use laws::{covered_rules_decide_nothing, words_spell_one_rule};
+pub use rules::Rules;
+pub use selecting::select;

@@ -1,0 +1,82 @@
+//! Streams of which the frames that rules keep are written.
+
+ghost use Rattle.std.specs.Prelude.{◌≡◌, ◌≢◌, ◌⊎◌, ℕ, List, Some, Err};
+ghost use Rattle.amqp_types.specs.Levels.{plain};
+ghost use Rattle.amqp_stream.specs.Transcribing.{Transcribes, TranscribesExactly, NeverBegan, IsValid, NoFaults, IsOkOrNoMemory};
+ghost use Rattle.amqp_select.specs.Selecting.{selection};
+
+use crate::rules::Rules;
+use amqp_frame::{AMQPRawFrame, judge_frame, outline_raw};
+use amqp_stream::{
+    FrameWriter, OutputBuffer, RunError, Sink, Source, StreamError, as_run, payload_error,
+    run_stream, unrefused, write_canonical,
+};
+use amqp_types::ChunkSize;
+use std::alloc::Global;
+use std::convert::Infallible;
+
+/// Writes the canonical bytes of each frame that rules keep. The others are judged all the same.
+#[derive(Drop)]
+pub(crate) struct Selector<'a> {
+    rules: &'a Rules,
+}
+
+impl<'a> FrameWriter for Selector<'a> {
+    ghost use Rattle.amqp_select.specs.Selecting.{selecting};
+
+    type Refusal = Infallible;
+
+    ghost manner = { selecting };
+
+    fn write_frame<K: Sink>(
+        &mut self,
+        out: &mut OutputBuffer,
+        sink: &mut K,
+        raw: AMQPRawFrame<'_>,
+    ) -> Result<(), RunError<Infallible>> {
+        if let Err(error) = judge_frame(raw) {
+            return Err(RunError::Stream(payload_error(error)));
+        }
+        if !self.rules.decide_outline(outline_raw(raw)) {
+            return Ok(());
+        }
+        as_run(write_canonical(out, sink, raw))
+    }
+
+    fn finish(&self) -> Result<(), Infallible> {
+        Ok(())
+    }
+}
+
+/// Writes the canonical bytes of the frames that rules keep of a stream, to the end of input or an error. The others are
+/// read and judged all the same. Each read takes one of the read budget.
+pub fn select<S: Source, K: Sink>(
+    alloc: Global,
+    rules: &Rules,
+    source: &mut S,
+    sink: &mut K,
+    max_payload: ChunkSize,
+    turns: u64,
+) -> Result<(), StreamError>
+    ensures stream { Transcribes (selection rules.now) plain max_payload turns (S.supply source.old) (S.supply source.new)
+        (K.store sink.old) (K.store sink.new) result
+        ⊎ NeverBegan (S.supply source.old) (S.supply source.new) (K.store sink.old) (K.store sink.new) result }
+    ensures unread { turns ≡ 0 → source.new ≡ source.old }
+    ensures memory { result ≡ Err StreamError.NoMemory
+        → NeverBegan (S.supply source.old) (S.supply source.new) (K.store sink.old) (K.store sink.new) result }
+    ensures never_untidy { result ≢ Err StreamError.NotTidy }
+
+    // Over a source that tells its bytes, the answer is by all of them, however they are cut.
+    ensures exact { (bytes : List ℕ) → (S.supply source.old).left ≡ Some bytes
+        → TranscribesExactly (selection rules.now) plain max_payload bytes (K.store sink.old) (K.store sink.new) result }
+    ensures complete { (bytes : List ℕ) → (S.supply source.old).left ≡ Some bytes
+        → IsValid plain max_payload turns bytes
+        → NoFaults (S.supply source.old) (S.supply source.new) (K.store sink.old) (K.store sink.new)
+        → IsOkOrNoMemory result }
+{
+    let mut writer = Selector { rules };
+    unrefused(run_stream(alloc, &mut writer, source, sink, max_payload, turns))
+}
+
+#[cfg(test)]
+mod tests;
