@@ -32,7 +32,7 @@ pub use laws::{
     outer_look_is_its_parts, verdicts_are_spellings, verdicts_are_stable, written_again,
 };
 pub use looking::{FrameLayout, Look, look_at};
-pub use outline::{FrameOutline, outline_raw};
+pub use outline::{FrameOutline, outline_front, outline_raw};
 pub use parsing::{
     parse_channel, parse_frame, parse_frame_type, parse_payload, parse_protocol_header,
     parse_raw_frame,

@@ -1,6 +1,6 @@
 //! What rules and trackers ask of a frame, read without its fields and without memory.
 
-ghost use Rattle.std.specs.Prelude.{◌≡◌, ◌≤◌, length, IsOk};
+ghost use Rattle.std.specs.Prelude.{◌≡◌, ◌≤◌, ◌↔◌, Some, length, IsOk, IsTrue};
 ghost use Rattle.amqp_types.specs.Tidiness.{short_at};
 ghost use Rattle.amqp_frame.specs.Frames.{Frame, frame_of, raw_of};
 ghost use Rattle.amqp_frame.specs.Outlines.{IsEnough, long_long_at, outline_at, outline_channel, outline_of};
@@ -135,6 +135,40 @@ fn outline_at(frame_type: AMQPFrameType, channel_id: ChannelId, payload: &[u8]) 
         },
         AMQPFrameType::Heartbeat => FrameOutline::Heartbeat { channel_id },
     }
+}
+
+/// Whether the ids and sizes of a frame of this type are there.
+fn is_enough(frame_type: AMQPFrameType, payload: &[u8]) -> bool
+    ensures { IsTrue result ↔ IsEnough frame_type payload.now }
+{
+    match frame_type {
+        AMQPFrameType::Method => payload.len() >= 4,
+        AMQPFrameType::Header => payload.len() >= 12,
+        _ => true,
+    }
+}
+
+/// The same, where the ids and sizes are there.
+fn outline_if_enough(
+    frame_type: AMQPFrameType,
+    channel_id: ChannelId,
+    payload: &[u8],
+) -> Option<FrameOutline>
+    ensures { (frame : Frame) → whole_as frame_type channel_id payload.now ≡ Ok frame → result ≡ Some (outline_of frame) }
+{
+    if is_enough(frame_type, payload) {
+        Some(outline_at(frame_type, channel_id, payload))
+    } else {
+        None
+    }
+}
+
+/// The outline of the frame that a whole payload is, where it is one. Of a payload with a fault nothing is promised: None
+/// is returned where its ids and sizes are not there.
+pub fn outline_front(raw: AMQPRawFrame<'_>) -> Option<FrameOutline>
+    ensures { (frame : Frame) → whole (raw_of raw.entry) ≡ Ok frame → result ≡ Some (outline_of frame) }
+{
+    outline_if_enough(raw.frame_type, raw.channel_id, raw.payload)
 }
 
 /// The outline of the frame that a whole payload of this type is.
