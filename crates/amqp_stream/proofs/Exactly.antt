@@ -2,7 +2,7 @@
 use Rattle.std.proofs.Common.{◌≡◌, ◌≢◌, ℕ, ◌<◌, List, [], ◌∷◌, ◌++◌, length, ◌⊎◌, Option, Some, None, Result, Ok, Err, refl, sym, ap, subst, ◌∙◌, inl, inr, arith, append_assoc, append-nil}
 use Rattle.std.proofs.lemmas.List.{length-append}
 use Rattle.amqp_types.specs.Levels.{Level}
-use Rattle.amqp_types.specs.Judging.{Fault, unknown_frame_type, bad_protocol_header, too_large, bad_frame_end, unknown_class, unknown_method, short_payload, trailing_bytes, not_utf8, unknown_tag, too_deep, not_tidy, Judged, past, fault}
+use Rattle.amqp_types.specs.Judging.{Fault, Judged, past, fault}
 use Rattle.amqp_frame.specs.Frames.{Frame}
 use Rattle.amqp_frame.specs.Verdicts.{verdict}
 use Rattle.amqp_frame.specs.Fronts.{front, place}
@@ -10,10 +10,10 @@ use Rattle.amqp_frame.proofs.Cuts.{verdict-none}
 use Rattle.amqp_frame.proofs.Rows.{splits_of, place_fault, front_fault, row_place}
 use Rattle.amqp_stream.specs.declared.errors.StreamError.{StreamError}
 use Rattle.amqp_stream.specs.declared.errors.StreamError.TheVariants as errors
-use Rattle.amqp_stream.specs.Errors.{error_of, Cause, faulty, cut_short, turns_spent, read_failed, write_failed, out_of_memory, cause_of}
+use Rattle.amqp_stream.specs.Errors.{error_of, faulty, cut_short, turns_spent, read_failed, write_failed, out_of_memory, cause_of}
 use Rattle.amqp_stream.specs.Ends.{Supply, Store, Gains, IsEmpty, prepended}
-use Rattle.amqp_stream.specs.Transcribing.{place_verdict, answer_at, answer_to, IsRow, IsValid, NoFaults, UnlessStopped, IsOutOfMemory}
-use Rattle.amqp_stream.specs.Steps.{Manner, text, refused, state}
+use Rattle.amqp_stream.specs.Transcribing.{place_verdict, answer_at, answer_to, IsRow, IsValid, NoFaults}
+use Rattle.amqp_stream.specs.Steps.{Manner, text, refused}
 use Rattle.amqp_stream.specs.Streaming.{Ending, finished, refused_by, stopped_by, text_of, refused_of, state_of, IsUnended, IsAllWritten, Streams, RunNeverBegan, answer_at_end, answer_of, answer_by, IsExact, UnlessStoppedBy, StreamsExactly, IsWelcome, IsDoneOrWanting}
 use Rattle.amqp_stream.proofs.Adding.{Gains-none}
 use Rattle.amqp_stream.proofs.Passing.{settled}

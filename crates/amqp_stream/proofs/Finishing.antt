@@ -1,5 +1,5 @@
 -- How a run of the engine ends.
-use Rattle.std.proofs.Common.{◌≡◌, ◌≢◌, ℕ, ◌+◌, ◌-◌, ◌<◌, ◌≤◌, List, [], ◌∷◌, ◌++◌, length, Option, Some, None, Result, Ok, Err, IsTrue, refl, sym, ap, subst, ◌∙◌, arith, append_assoc, append-nil, drop, inl, inr}
+use Rattle.std.proofs.Common.{◌≡◌, ℕ, ◌+◌, ◌-◌, ◌<◌, ◌≤◌, List, [], ◌∷◌, ◌++◌, length, Option, Some, None, Result, Ok, Err, IsTrue, refl, sym, ap, subst, ◌∙◌, arith, append_assoc, append-nil, drop, inl, inr}
 use Rattle.std.proofs.lemmas.List.{take_at, length-append, nil_from_length}
 use Rattle.amqp_types.specs.Levels.{Level}
 use Rattle.amqp_types.specs.Judging.{Fault, unknown_frame_type, bad_protocol_header, too_large, bad_frame_end, not_tidy, past, fault, took, IsBytes}
@@ -12,7 +12,6 @@ use Rattle.amqp_frame.proofs.Cuts.{IsStop, front-stop, front-got, front-none, pl
 use Rattle.amqp_frame.proofs.Rows.{row_of_all}
 use Rattle.amqp_stream.specs.declared.errors.ReadError.{ReadError}
 use Rattle.amqp_stream.specs.declared.errors.ReadError.TheVariants as reads
-use Rattle.amqp_stream.specs.declared.errors.StreamError.TheVariants as errors
 use Rattle.amqp_stream.specs.declared.errors.RunError.{RunError}
 use Rattle.amqp_stream.specs.declared.errors.RunError.TheVariants as ends
 use Rattle.amqp_stream.specs.declared.sink.SinkFault.{SinkFault}
@@ -20,13 +19,13 @@ use Rattle.amqp_stream.specs.declared.source.SourceFault.{SourceFault}
 use Rattle.amqp_stream.specs.Errors.{stream_error, read_fault, Cause, faulty, cut_short, turns_spent, read_failed, write_failed, out_of_memory, cause_of}
 use Rattle.amqp_stream.specs.Ends.{Supply, Store, Gains, Rises, IsEmpty}
 use Rattle.amqp_stream.specs.Reading.{ReadsMore}
-use Rattle.amqp_stream.specs.Writing.{IsPrefix, Keeps, WritesAll, GatherFails, IsFaulty, AsksTidy}
+use Rattle.amqp_stream.specs.Writing.{IsPrefix, WritesAll, GatherFails, IsFaulty, AsksTidy}
 use Rattle.amqp_stream.specs.Transcribing.{place_verdict, IsRow}
 use Rattle.amqp_stream.specs.Steps.{Manner, text, refused, state}
-use Rattle.amqp_stream.specs.Streaming.{Ending, finished, refused_by, stopped_by, error_ending, ending_of, IsRefused, WriteFails, WritesBy, end_with, ended, EndsWith, text_of, refused_of, state_of, AtWanting, IsShortBy, HasCauseBy, IsAllWritten, HasWrittenBy, HasStateBy, Streams}
-use Rattle.amqp_stream.proofs.Adding.{Gains-none, Gains-then, Rises-later}
+use Rattle.amqp_stream.specs.Streaming.{Ending, finished, refused_by, stopped_by, error_ending, ending_of, IsRefused, WriteFails, WritesBy, end_with, ended, EndsWith, text_of, state_of, IsShortBy, HasCauseBy, IsAllWritten, HasWrittenBy, HasStateBy, Streams}
+use Rattle.amqp_stream.proofs.Adding.{Gains-then, Rises-later}
 use Rattle.amqp_stream.proofs.Passing.{Passes-one, Passes-all, refuses_here}
-use Rattle.amqp_stream.proofs.Going.{Start, Spans, Spans-then, Spans-one, Clear, Going, Clear-flushed, Clear-read, Going-kept}
+use Rattle.amqp_stream.proofs.Going.{Start, Spans, Clear, Going, Clear-flushed, Clear-read, Going-kept}
 
 -- ---- what was used is a sequence of frames, and what was written begins with what is written for it
 

@@ -1,9 +1,9 @@
 -- The engine's loop: what was taken, what was written, and what is pending.
-use Rattle.std.proofs.Common.{◌≡◌, ◌≢◌, ℕ, ◌+◌, ◌-◌, ◌*◌, ◌^◌, ◌<◌, ◌≤◌, List, [], ◌∷◌, ◌++◌, length, take, drop, Some, Result, Ok, Err, IsTrue, refl, sym, ap, subst, ◌∙◌, arith, append_assoc, append-nil}
-use Rattle.std.proofs.lemmas.List.{length-append, length-drop, take-append-drop, nil_from_length}
+use Rattle.std.proofs.Common.{◌≡◌, ◌≢◌, ℕ, ◌+◌, ◌-◌, ◌*◌, ◌<◌, ◌≤◌, List, [], ◌∷◌, ◌++◌, length, take, drop, Some, Result, Ok, IsTrue, sym, ap, subst, ◌∙◌, arith, append_assoc, append-nil}
+use Rattle.std.proofs.lemmas.List.{length-append, length-drop, take-append-drop}
 use Rattle.std.proofs.Math.Nat.{mul-le-mul_right}
 use Rattle.amqp_types.specs.Levels.{Level}
-use Rattle.amqp_types.specs.Judging.{past, took, IsBytes}
+use Rattle.amqp_types.specs.Judging.{took, IsBytes}
 use Rattle.amqp_frame.specs.declared.frame_type.AMQPFrameType.{AMQPFrameType}
 use Rattle.amqp_frame.specs.declared.frame_type.AMQPFrameType.TheVariants as kinds
 use Rattle.amqp_frame.specs.declared.looking.FrameLayout.{FrameLayout}
@@ -15,10 +15,9 @@ use Rattle.amqp_frame.proofs.OuterLook.{outer-in_bounds}
 use Rattle.amqp_frame.proofs.Made.{outer-beside}
 use Rattle.amqp_frame.proofs.Cuts.{Precedes-none, Precedes-more, verdict-whole}
 use Rattle.amqp_stream.specs.declared.source.SourceFault.{SourceFault}
-use Rattle.amqp_stream.specs.declared.sink.SinkFault.{SinkFault}
 use Rattle.amqp_stream.specs.Ends.{Supply, Store, Takes, Gains}
 use Rattle.amqp_stream.specs.Reading.{ReadsMore, Lies}
-use Rattle.amqp_stream.specs.Writing.{WritesAll, Gathered, Keeps, frame_length, length_around}
+use Rattle.amqp_stream.specs.Writing.{WritesAll, Keeps, frame_length, length_around}
 use Rattle.amqp_stream.specs.Steps.{Manner}
 use Rattle.amqp_stream.specs.Streaming.{IsStep, Writes}
 use Rattle.amqp_stream.proofs.Adding.{Takes-then, Takes-none, Gains-none, Gains-then, IsBytes-append, IsBytes-nil}

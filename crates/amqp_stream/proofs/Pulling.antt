@@ -13,7 +13,7 @@ use Rattle.amqp_stream.specs.declared.errors.ReadError.{ReadError}
 use Rattle.amqp_stream.specs.declared.errors.ReadError.TheVariants as errors
 use Rattle.amqp_stream.specs.Ends.{Supply, Takes}
 use Rattle.amqp_stream.specs.Errors.{read_fault}
-use Rattle.amqp_stream.specs.Reading.{Holding, ReadsMore, Fails, Ends, idle_reads, Pulls, PullsTo, LiesIn, IsLent, AnswersAgain, HasNext}
+use Rattle.amqp_stream.specs.Reading.{Holding, ReadsMore, Fails, Ends, idle_reads, PullsTo, LiesIn, IsLent, AnswersAgain, HasNext}
 use Rattle.amqp_stream.proofs.Adding.{Takes-then, Takes-none, Rises-later, IsBytes-append, IsBytes-nil}
 
 -- What a pull keeps: what was taken so far. At most `idle` of its reads gave nothing.

@@ -1,5 +1,5 @@
 -- Frames of which only tidy ones are written.
-use Rattle.std.proofs.Common.{◌≡◌, ◌≢◌, ℕ, List, [], ◌++◌, Bool, true, false, Result, Ok, Err, refl, sym, ap, subst, ◌∙◌, append-nil, length, eqb, ◌⊎◌, inl, inr}
+use Rattle.std.proofs.Common.{◌≡◌, ◌≢◌, ℕ, List, ◌++◌, Bool, true, false, Result, Ok, Err, refl, ap, subst, length, eqb, ◌⊎◌, inl, inr}
 use Rattle.amqp_types.specs.Levels.{Level, tidy}
 use Rattle.amqp_types.specs.Judging.{Fault, not_tidy, fault}
 use Rattle.amqp_types.specs.Answers.{RefusesWhole}
@@ -11,7 +11,7 @@ use Rattle.amqp_frame.specs.Verdicts.{IsPayloadError, whole, whole_as, is_at, is
 use Rattle.amqp_frame.specs.Canonical.{canon}
 use Rattle.amqp_stream.specs.declared.errors.StreamError.{StreamError}
 use Rattle.amqp_stream.specs.declared.errors.StreamError.TheVariants as errors
-use Rattle.amqp_stream.specs.Errors.{Cause, faulty, cut_short, turns_spent, read_failed, write_failed, out_of_memory, cause_of}
+use Rattle.amqp_stream.specs.Errors.{Cause, faulty, cause_of}
 use Rattle.amqp_stream.specs.Ends.{Store}
 use Rattle.amqp_stream.specs.Writing.{payload_fault, PutsTyped, IsUnread, IsFaulty}
 use Rattle.amqp_stream.specs.Manners.{canonical_at}

@@ -1,5 +1,5 @@
 -- One turn of the engine's loop, by what stands at the front of the held bytes: a fault, a frame, or neither.
-use Rattle.std.proofs.Common.{◌≡◌, ◌≢◌, ℕ, ◌+◌, ◌-◌, ◌*◌, ◌<◌, ◌≤◌, List, [], length, drop, Option, Some, None, Result, Ok, Err, IsTrue, refl, sym, ap, subst, ◌∙◌, arith}
+use Rattle.std.proofs.Common.{◌≡◌, ◌≢◌, ℕ, ◌+◌, ◌-◌, ◌*◌, ◌<◌, ◌≤◌, List, [], length, drop, Option, Some, None, Result, Ok, Err, IsTrue, sym, ap, ◌∙◌, arith}
 use Rattle.amqp_types.specs.Judging.{past, took}
 use Rattle.amqp_frame.specs.declared.looking.FrameLayout.{FrameLayout}
 use Rattle.amqp_frame.specs.Frames.{Raw}

@@ -15,7 +15,7 @@ use Rattle.amqp_types.specs.declared.errors.ParserError.{ParserError}
 use Rattle.amqp_types.specs.declared.errors.ParserError.TheVariants as parses
 use Rattle.amqp_stream.specs.declared.sink.SinkFault.{SinkFault}
 use Rattle.amqp_stream.specs.declared.errors.StreamError.{StreamError}
-use Rattle.amqp_stream.specs.Errors.{Cause, faulty, cut_short, turns_spent, read_failed, write_failed, out_of_memory, cause_of}
+use Rattle.amqp_stream.specs.Errors.{Cause, faulty, write_failed, cause_of}
 use Rattle.amqp_stream.specs.Ends.{Store, Gains, Rises}
 use Rattle.amqp_stream.specs.Writing.{payload_fault, WritesAll, WritesFrame, IsUnwritten, IsFaulty, Gathered, GatherFails, Gathers, Keeps, stream_result}
 use Rattle.amqp_stream.specs.Steps.{Manner}

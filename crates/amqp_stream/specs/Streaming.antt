@@ -1,7 +1,5 @@
 -- What it is to write for each frame of a stream, one after another.
-use Rattle.std.specs.Prelude.{◌≡◌, ◌⊎◌, ℕ, ◌+◌, ◌≤◌, Bool, true, List, [], ◌∷◌, ◌++◌, length, Option, Some, None, Result, Ok, Err, IsTrue}
-use Rattle.std.specs.List.{flat_map}
-use Rattle.amqp_types.specs.Levels.{Level}
+use Rattle.std.specs.Prelude.{◌≡◌, ◌⊎◌, ℕ, ◌+◌, ◌≤◌, true, List, [], ◌∷◌, ◌++◌, length, Option, Some, None, Result, Ok, Err, IsTrue}
 use Rattle.amqp_types.specs.Judging.{not_tidy, IsBytes}
 use Rattle.amqp_frame.specs.Frames.{Raw, Frame}
 use Rattle.amqp_frame.specs.Outer.{BeginsWith}
@@ -12,8 +10,8 @@ use Rattle.amqp_stream.specs.declared.errors.StreamError.TheVariants as errors
 use Rattle.amqp_stream.specs.declared.errors.RunError.{RunError}
 use Rattle.amqp_stream.specs.declared.errors.RunError.TheVariants as ends
 use Rattle.amqp_stream.specs.declared.sink.SinkFault.{SinkFault}
-use Rattle.amqp_stream.specs.Errors.{Cause, faulty, cut_short, turns_spent, read_failed, write_failed, out_of_memory, cause_of}
-use Rattle.amqp_stream.specs.Ends.{Supply, Store, Takes, Gains, Rises, IsEmpty}
+use Rattle.amqp_stream.specs.Errors.{Cause, faulty, cut_short, turns_spent, write_failed, out_of_memory, cause_of}
+use Rattle.amqp_stream.specs.Ends.{Supply, Store, Takes, Gains, IsEmpty}
 use Rattle.amqp_stream.specs.Writing.{IsPrefix, WritesAll, Gathered, GatherFails, Keeps, IsFaulty, AsksTidy}
 use Rattle.amqp_stream.specs.Transcribing.{answer_to, IsRow, IsCausedBy, UnlessStopped, IsOutOfMemory}
 use Rattle.amqp_stream.specs.Steps.{Manner, text, refused, state}

@@ -12,7 +12,7 @@ use Rattle.amqp_frame.specs.Canonical.{canon}
 use Rattle.amqp_stream.specs.declared.errors.StreamError.{StreamError}
 use Rattle.amqp_stream.specs.declared.errors.StreamError.TheVariants as errors
 use Rattle.amqp_stream.specs.declared.sink.SinkFault.{SinkFault}
-use Rattle.amqp_stream.specs.Errors.{Cause, faulty, cut_short, turns_spent, read_failed, write_failed, out_of_memory, cause_of}
+use Rattle.amqp_stream.specs.Errors.{Cause, faulty, write_failed, cause_of}
 use Rattle.amqp_stream.specs.Ends.{Store, Gains, Rises}
 
 -- the bytes begin so

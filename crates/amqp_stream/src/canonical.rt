@@ -77,9 +77,7 @@ impl FrameWriter for TidyCanonical {
         raw: AMQPRawFrame<'_>,
     ) -> Result<(), RunError<Infallible>> {
         match raw.frame_type {
-            AMQPFrameType::Method | AMQPFrameType::Header => {
-                as_run(push_tidy(out, raw))
-            }
+            AMQPFrameType::Method | AMQPFrameType::Header => as_run(push_tidy(out, raw)),
             AMQPFrameType::Heartbeat => {
                 if !raw.payload.is_empty() {
                     return Err(RunError::Stream(StreamError::NotTidy));

@@ -148,10 +148,7 @@ pub fn payload_error(error: ParserError) -> StreamError
 
 /// Puts the canonical bytes of a method or content header after the pending ones.
 #[tactic(auto, using(crate::proofs::Writes::added_refused, crate::proofs::Writes::added))]
-fn write_typed(
-    out: &mut OutputBuffer,
-    raw: AMQPRawFrame<'_>,
-) -> Result<(), StreamError>
+fn write_typed(out: &mut OutputBuffer, raw: AMQPRawFrame<'_>) -> Result<(), StreamError>
     requires typed { IsTyped raw.frame_type }
     requires few { length raw.payload.now < 2 ^ 32 }
     requires room { length out.old.bytes + (length raw.payload.now + 8) ≤ out.old.room }
@@ -167,10 +164,7 @@ fn write_typed(
 
 /// Puts the canonical bytes of a method or content header after the pending ones, where it is tidy.
 #[tactic(auto, using(crate::proofs::Tidying::tidy_refused, crate::proofs::Tidying::untidy, crate::proofs::Tidying::tidied))]
-pub(crate) fn push_tidy(
-    out: &mut OutputBuffer,
-    raw: AMQPRawFrame<'_>,
-) -> Result<(), StreamError>
+pub(crate) fn push_tidy(out: &mut OutputBuffer, raw: AMQPRawFrame<'_>) -> Result<(), StreamError>
     requires typed { IsTyped raw.frame_type }
     requires few { length raw.payload.now < 2 ^ 32 }
     requires room { length out.old.bytes + (length raw.payload.now + 8) ≤ out.old.room }

@@ -2,9 +2,7 @@
 
 use crate::asking::{LIMIT, MESSAGE, START, START_IN_ORDER, TWO_HEARTBEATS};
 use amqp_frame::{AMQPRawFrame, ParserError, parse_payload, release};
-use amqp_stream::{
-    Codec, CountSink, FrameReader, SliceSource, StreamError, VecSink, canonicalize,
-};
+use amqp_stream::{Codec, CountSink, FrameReader, SliceSource, StreamError, VecSink, canonicalize};
 use amqp_types::Profile;
 use std::alloc::{AllocError, Global};
 
@@ -57,13 +55,18 @@ fn refused_memory_leaves_a_codec(rt: HostRuntime) {
     }
 }
 
-/// A body, a method, and a method with a table that has one key twice. Their canonical bytes are 4 fewer.
+/// A body.
 const BODY: [u8; 11] = [3, 0, 1, 0, 0, 0, 3, 1, 2, 3, 206];
+
+/// A method without a table.
 const METHOD: [u8; 12] = [1, 0, 1, 0, 0, 0, 4, 0, 90, 0, 10, 206];
+
+/// A method with a table that has one key twice. Its canonical bytes are 4 fewer.
 const TABLE: [u8; 28] = [
     1, 0, 1, 0, 0, 0, 20, 0, 50, 0, 10, 0, 0, 0, 31, 0, 0, 0, 8, 1, 97, 116, 0, 1, 97, 116, 7, 206,
 ];
 
+/// The three in each order.
 const ORDERS: [[&[u8]; 3]; 6] = [
     [&BODY, &METHOD, &TABLE],
     [&BODY, &TABLE, &METHOD],

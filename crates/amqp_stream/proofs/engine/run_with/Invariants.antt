@@ -8,9 +8,9 @@ invariant-frames g l =
     let store = g.K.Sink.store in
     record {
       turn : Turn
-        (record { w = g.W.FrameWriter.manner; s = l.fn.writer; m = l.fn.reader.limit; turns = l.fn.turns; source = supply l.fn.source; sink = store l.fn.sink })
-        l.fn.out.room
-        (record { writer = l.writer; left = l.left; source = supply l.source; sink = store l.sink; reader = l.reader; out = l.out });
+          (record { w = g.W.FrameWriter.manner; s = l.fn.writer; m = l.fn.reader.limit; turns = l.fn.turns; source = supply l.fn.source; sink = store l.fn.sink })
+          l.fn.out.room
+          (record { writer = l.writer; left = l.left; source = supply l.source; sink = store l.sink; reader = l.reader; out = l.out });
       unread : l.left ≡ l.fn.turns → l.source ≡ l.fn.source;
     }
 

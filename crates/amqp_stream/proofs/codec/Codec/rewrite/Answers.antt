@@ -1,4 +1,3 @@
-use Rattle.amqp_types.specs.Levels.{plain, tidy}
 use Rattle.amqp_stream.proofs.Transcribing.{canonical, canonicalizes, transcribes, transcribes_exactly, never_out_of_memory, welcome, is_done}
 use Rattle.amqp_stream.proofs.codec.Codec.rewrite.Goals as goal
 
