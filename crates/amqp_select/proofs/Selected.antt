@@ -4,7 +4,6 @@ use Rattle.std.specs.Prelude.{if◌then◌else◌}
 use Rattle.std.specs.List.{flat_map}
 use Rattle.std.specs.declared.string.ParseError.{Infallible}
 use Rattle.amqp_types.specs.Levels.{plain}
-use Rattle.amqp_frame.specs.declared.outline.FrameOutline.{FrameOutline}
 use Rattle.amqp_frame.specs.Frames.{Raw, Frame}
 use Rattle.amqp_frame.specs.Canonical.{canon, canon_row}
 use Rattle.amqp_frame.specs.Outlines.{outline_of}
@@ -13,7 +12,7 @@ use Rattle.amqp_stream.specs.declared.errors.StreamError.{StreamError}
 use Rattle.amqp_stream.specs.Errors.{Cause, faulty, cut_short, turns_spent, read_failed, write_failed, out_of_memory, cause_of}
 use Rattle.amqp_stream.specs.Ends.{Supply, Store}
 use Rattle.amqp_stream.specs.Writing.{IsUnwritten, WritesFrame}
-use Rattle.amqp_stream.specs.Streaming.{finished, stopped_by, ending_of, as_run, WritesBy, Streams, RunNeverBegan}
+use Rattle.amqp_stream.specs.Streaming.{finished, stopped_by, ending_of, as_run, IsStep, WritesBy, Streams, RunNeverBegan}
 use Rattle.amqp_stream.specs.Transcribing.{Transcribes, NeverBegan}
 use Rattle.amqp_stream.proofs.Transcribing.{Transcriber, maps, transcribes, never_began}
 use Rattle.amqp_stream.proofs.Writes.{kept, is_faulty}
@@ -25,45 +24,39 @@ use Rattle.amqp_select.specs.Selecting.{selection, selected, selecting}
 
 -- ---- one frame
 
--- the outline of the frame that a whole payload is
-abbrev pub IsOutlined : Raw → FrameOutline → Type 0
-IsOutlined raw outline = (frame : Frame) → whole raw ≡ Ok frame → outline ≡ outline_of frame
+-- whether the frame that a whole payload is is kept
+abbrev pub IsDecided : Selector → Raw → Bool → Type 0
+IsDecided s raw b = (frame : Frame) → whole raw ≡ Ok frame → b ≡ decides s.rules.now (outline_of frame)
 
-drops : (s : Selector) (frame : Frame) (outline : FrameOutline) → outline ≡ outline_of frame → decides s.rules.now outline ≡ false → selected s.rules.now frame ≡ []
-drops s frame outline same e = rw (ap (decides s.rules.now) (sym same) ∙ e) refl
+drops : (s : Selector) (frame : Frame) → decides s.rules.now (outline_of frame) ≡ false → selected s.rules.now frame ≡ []
+drops s frame e = rw e refl
 
-keeps : (s : Selector) (frame : Frame) (outline : FrameOutline) → outline ≡ outline_of frame → decides s.rules.now outline ≡ true → selected s.rules.now frame ≡ canon frame
-keeps s frame outline same e = rw (ap (decides s.rules.now) (sym same) ∙ e) refl
+keeps : (s : Selector) (frame : Frame) → decides s.rules.now (outline_of frame) ≡ true → selected s.rules.now frame ≡ canon frame
+keeps s frame e = rw e refl
 
 -- a frame that is dropped is one all the same
-pub dropped : (s : Selector) (raw : Raw) (a : Store) (before : List ℕ) (frame : Frame) (outline : FrameOutline) → whole raw ≡ Ok frame → IsOutlined raw outline → decides s.rules.now outline ≡ false → WritesBy selecting s s raw a a before before finished
-dropped s raw a before frame outline is outlined e = record {
+pub dropped : (s : Selector) (raw : Raw) (a : Store) (before : List ℕ) (frame : Frame) (b : Bool) → whole raw ≡ Ok frame → IsDecided s raw b → b ≡ false → WritesBy selecting s s raw a a before before finished
+dropped s raw a before frame b is decided no-keep = record {
   bytes = [];
-  step = record { frame = frame; is_whole = is; at_level = refl; steps = ap (λ (bytes : List ℕ). Ok (bytes, s)) (drops s frame outline (outlined frame is) e) };
+  step = record { frame = frame; is_whole = is; at_level = refl; steps = ap (λ (bytes : List ℕ). Ok (bytes, s)) (drops s frame (sym (decided frame is) ∙ no-keep)) };
   gathered = kept a before before refl;
 }
 
 -- a frame that is kept
-unwritten : (s : Selector) (raw : Raw) (a b : Store) (before after : List ℕ) (outline : FrameOutline) (cause : Cause) → IsOutlined raw outline → decides s.rules.now outline ≡ true → IsUnwritten raw a b before after cause → WritesBy selecting s s raw a b before after (stopped_by cause)
-unwritten s raw a b before after outline (faulty bad) outlined e h = (is_faulty plain raw bad h.0 h.1, h.2, refl)
-unwritten s raw a b before after outline write_failed outlined e h = record {
-  bytes = canon h.0;
-  next = s;
-  step = record { frame = h.0; is_whole = h.1; at_level = refl; steps = ap (λ (bytes : List ℕ). Ok (bytes, s)) (keeps s h.0 outline (outlined h.0 h.1) e) };
-  failed = h.2;
-}
-unwritten s raw a b before after outline out_of_memory outlined e h = absurd h
-unwritten s raw a b before after outline cut_short outlined e h = absurd h
-unwritten s raw a b before after outline turns_spent outlined e h = absurd h
-unwritten s raw a b before after outline read_failed outlined e h = absurd h
+kept_step : (s : Selector) (raw : Raw) (frame : Frame) (b : Bool) → whole raw ≡ Ok frame → IsDecided s raw b → b ≡ true → IsStep selecting s s raw (canon frame)
+kept_step s raw frame b is decided yes-keep = record { frame = frame; is_whole = is; at_level = refl; steps = ap (λ (bytes : List ℕ). Ok (bytes, s)) (keeps s frame (sym (decided frame is) ∙ yes-keep)) }
 
-pub written : (s : Selector) (raw : Raw) (a b : Store) (before after : List ℕ) (outline : FrameOutline) (r : Result (Unit {0}) StreamError) → IsOutlined raw outline → decides s.rules.now outline ≡ true → WritesFrame raw a b before after r → WritesBy selecting s s raw a b before after (ending_of (as_run r))
-written s raw a b before after outline (Ok done) outlined e h = record {
-  bytes = canon h.0;
-  step = record { frame = h.0; is_whole = h.1; at_level = refl; steps = ap (λ (bytes : List ℕ). Ok (bytes, s)) (keeps s h.0 outline (outlined h.0 h.1) e) };
-  gathered = h.2;
-}
-written s raw a b before after outline (Err error) outlined e h = unwritten s raw a b before after outline (cause_of error) outlined e h
+unwritten : (s : Selector) (raw : Raw) (a b : Store) (before after : List ℕ) (keep : Bool) (cause : Cause) → IsDecided s raw keep → keep ≡ true → IsUnwritten raw a b before after cause → WritesBy selecting s s raw a b before after (stopped_by cause)
+unwritten s raw a b before after keep (faulty bad) decided e h = (is_faulty plain raw bad h.0 h.1, h.2, refl)
+unwritten s raw a b before after keep write_failed decided e h = record { bytes = canon h.0; next = s; step = kept_step s raw h.0 keep h.1 decided e; failed = h.2 }
+unwritten s raw a b before after keep out_of_memory decided e h = absurd h
+unwritten s raw a b before after keep cut_short decided e h = absurd h
+unwritten s raw a b before after keep turns_spent decided e h = absurd h
+unwritten s raw a b before after keep read_failed decided e h = absurd h
+
+pub written : (s : Selector) (raw : Raw) (a b : Store) (before after : List ℕ) (keep : Bool) (r : Result (Unit {0}) StreamError) → IsDecided s raw keep → keep ≡ true → WritesFrame raw a b before after r → WritesBy selecting s s raw a b before after (ending_of (as_run r))
+written s raw a b before after keep (Ok done) decided e h = record { bytes = canon h.0; step = kept_step s raw h.0 keep h.1 decided e; gathered = h.2 }
+written s raw a b before after keep (Err error) decided e h = unwritten s raw a b before after keep (cause_of error) decided e h
 
 -- ---- a stream
 

@@ -38,16 +38,17 @@ pub record IsFirstMalformed (words : List (List ℕ)) (place : ℕ) : Type 0 whe
   pub rules_before : AllByRecursion IsRuleWord before
   pub no_rule : ¬ IsRuleWord word
 
--- When each answer comes. Of memory nothing is said.
+-- When each answer comes. Memory runs out only where the words spell rules.
 abbrev pub Parses : List (List ℕ) → Result (List Rule) RuleError → Type 0
 Parses words (Ok rules) = Spell words rules
 Parses words (Err errors.Count) = (length words ≡ 0) ⊎ (64 < length words)
 Parses words (Err (errors.Malformed place)) = IsFirstMalformed words place
-Parses words (Err errors.NoMemory) = Unit {0}
+Parses words (Err errors.NoMemory) = (rules : List Rule) × Spell words rules
 
--- the same of a call that gives them in a vector
+-- The same of a call that gives them in a vector, and that does not look at all words where memory runs out.
 abbrev pub ParsesItems : List (List ℕ) → Result (Vec Rule Global) RuleError → Type 0
 ParsesItems words (Ok rules) = Spell words rules.items
+ParsesItems words (Err errors.NoMemory) = IsCount (length words)
 ParsesItems words (Err error) = Parses words (Err error)
 
 abbrev pub error_text : RuleError → List ℕ

@@ -1,12 +1,12 @@
 //! Rules in order, of which the first that matches a frame decides.
 
-ghost use Rattle.std.specs.Prelude.{◌≡◌, ◌<◌, length, position, IfOk};
+ghost use Rattle.std.specs.Prelude.{◌≡◌, ◌<◌, Err, length, position, IfOk};
 ghost use Rattle.std.specs.Option.{option_copied};
 ghost use Rattle.amqp_frame.specs.Frames.{frame_of};
 ghost use Rattle.amqp_frame.specs.Outlines.{outline_of};
 ghost use Rattle.amqp_select.specs.Matching.{decides, first_match};
 ghost use Rattle.amqp_select.specs.Covering.{covered, covers, uncovered};
-ghost use Rattle.amqp_select.specs.Refusals.{Parses, ParsesItems, texts_of};
+ghost use Rattle.amqp_select.specs.Refusals.{IsCount, Parses, ParsesItems, texts_of};
 
 use crate::errors::RuleError;
 use crate::parsing::read_rule;
@@ -35,12 +35,15 @@ impl Model for Rules {
 }
 
 impl Rules {
-    /// The rules that 1 to 64 words spell, each a word of its own.
+    /// The rules that 1 to 64 words spell, each a word of its own. Whether they do is told without memory.
     pub fn parse(alloc: Global, words: &[String]) -> Result<Rules, RuleError>
         ensures { Parses (texts_of words.now) result }
     {
-        let rules = parse_rules(alloc, words)?;
-        Ok(Rules { rules })
+        match parse_rules(alloc, words) {
+            Ok(rules) => Ok(Rules { rules }),
+            Err(RuleError::NoMemory) => Err(why_refused(words)),
+            Err(error) => Err(error),
+        }
     }
 
     /// How many rules there are.
@@ -99,6 +102,19 @@ fn parse_rules(alloc: Global, words: &[String]) -> Result<Vec<Rule>, RuleError>
         }
     }
     Ok(rules)
+}
+
+/// Why as many words were refused as there may be, where memory ran out before all of them were looked at.
+fn why_refused(words: &[String]) -> RuleError
+    requires { IsCount (length words.now) }
+    ensures { Parses (texts_of words.now) (Err result) }
+{
+    for (place, word) in words.iter().enumerate() {
+        if read_rule(word.as_bytes()).is_none() {
+            return RuleError::Malformed { place };
+        }
+    }
+    RuleError::NoMemory
 }
 
 /// The first rule that matches a frame with this outline.

@@ -1,12 +1,16 @@
 //! Streams of which the frames that rules keep are written.
 
-ghost use Rattle.std.specs.Prelude.{◌≡◌, ◌≢◌, ◌⊎◌, ℕ, List, Some, Err};
+ghost use Rattle.std.specs.Prelude.{◌≡◌, ◌≢◌, ◌⊎◌, ℕ, List, Some, Ok, Err};
 ghost use Rattle.amqp_types.specs.Levels.{plain};
 ghost use Rattle.amqp_stream.specs.Transcribing.{Transcribes, TranscribesExactly, NeverBegan, IsValid, NoFaults, IsOkOrNoMemory};
+ghost use Rattle.amqp_frame.specs.Frames.{Frame, raw_of};
+ghost use Rattle.amqp_frame.specs.Outlines.{outline_of};
+ghost use Rattle.amqp_frame.specs.Verdicts.{whole};
+ghost use Rattle.amqp_select.specs.Matching.{decides};
 ghost use Rattle.amqp_select.specs.Selecting.{selection};
 
 use crate::rules::Rules;
-use amqp_frame::{AMQPRawFrame, judge_frame, outline_raw};
+use amqp_frame::{AMQPRawFrame, judge_frame, outline_front};
 use amqp_stream::{
     FrameWriter, OutputBuffer, RunError, Sink, Source, StreamError, as_run, payload_error,
     run_stream, unrefused, write_canonical,
@@ -19,6 +23,19 @@ use std::convert::Infallible;
 #[derive(Drop)]
 pub(crate) struct Selector<'a> {
     rules: &'a Rules,
+}
+
+impl<'a> Selector<'a> {
+    /// Whether a borrowed frame is kept. Its payload is not judged yet, so that one that is kept is judged once, as it is
+    /// written.
+    fn keeps(&self, raw: AMQPRawFrame<'_>) -> bool
+        ensures { (frame : Frame) → whole (raw_of raw.entry) ≡ Ok frame → result ≡ decides self.now.rules.now (outline_of frame) }
+    {
+        match outline_front(raw) {
+            Some(outline) => self.rules.decide_outline(outline),
+            None => false,
+        }
+    }
 }
 
 impl<'a> FrameWriter for Selector<'a> {
@@ -34,13 +51,13 @@ impl<'a> FrameWriter for Selector<'a> {
         sink: &mut K,
         raw: AMQPRawFrame<'_>,
     ) -> Result<(), RunError<Infallible>> {
-        if let Err(error) = judge_frame(raw) {
-            return Err(RunError::Stream(payload_error(error)));
+        if self.keeps(raw) {
+            return as_run(write_canonical(out, sink, raw));
         }
-        if !self.rules.decide_outline(outline_raw(raw)) {
-            return Ok(());
+        match judge_frame(raw) {
+            Ok(_) => Ok(()),
+            Err(error) => Err(RunError::Stream(payload_error(error))),
         }
-        as_run(write_canonical(out, sink, raw))
     }
 
     fn finish(&self) -> Result<(), Infallible> {
