@@ -70,7 +70,7 @@ selection_is rules (frame ∷ frames) = selection_more (decides rules (outline_o
 
 pub selects : (s : Selector) → Transcriber selecting s (selection s.rules.now)
 selects s =
-    let each = maps Infallible plain (λ (s : Selector) frame. selected s.rules.now frame) true s in
+    let each = maps {E = Infallible} {level = plain} {compact = true} (λ (s : Selector) frame. selected s.rules.now frame) s in
     record {
       text_is = λ frames. each.text_is frames ∙ selection_is s.rules.now frames;
       none_refused = each.none_refused;

@@ -110,8 +110,9 @@ fn why_refused(words: &[String]) -> RuleError
     ensures { Parses (texts_of words.now) (Err result) }
 {
     for (place, word) in words.iter().enumerate() {
-        if read_rule(word.as_bytes()).is_none() {
-            return RuleError::Malformed { place };
+        match read_rule(word.as_bytes()) {
+            Some(_) => {}
+            None => return RuleError::Malformed { place },
         }
     }
     RuleError::NoMemory
