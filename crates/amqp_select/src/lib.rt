@@ -4,6 +4,8 @@
 mod errors;
 mod laws;
 mod parsing;
+#[cfg(test)]
+mod refused;
 mod rule;
 mod rules;
 mod selecting;

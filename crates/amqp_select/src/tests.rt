@@ -7,7 +7,7 @@ use std::alloc::Global;
 use std::test::Fail;
 
 /// These words, in memory.
-fn words_in(alloc: Global, words: &[&str]) -> Result<Vec<String>, NoMemory> {
+pub fn words_in(alloc: Global, words: &[&str]) -> Result<Vec<String>, NoMemory> {
     let mut all = Vec::new(alloc);
     for word in words {
         all.push(String::from_str(alloc, word)?)?;

@@ -1,6 +1,7 @@
 //! Streams of which rules keep some frames.
 
 use super::*;
+use crate::tests::words_in;
 use amqp_stream::{PieceSource, VecSink};
 use std::test::Fail;
 
@@ -16,15 +17,6 @@ const HEARTBEAT: [u8; 9] = [8, 0, 0, 0, 0, 0, 0, 206, 9];
 
 /// A queue declaration whose payload is too short.
 const SHORT: [u8; 12] = [1, 0, 1, 0, 0, 0, 4, 0, 50, 0, 10, 206];
-
-/// The rules that these words spell.
-fn rules_of(alloc: Global, words: &[&str]) -> Result<Rules, Fail> {
-    let mut all = Vec::new(alloc);
-    for word in words {
-        all.push(String::from_str(alloc, word)?)?;
-    }
-    Ok(Rules::parse(alloc, all.as_slice())?)
-}
 
 /// Words, input, how many of its bytes at the end are written, and how the stream ends.
 const ROWS: [(&[&str], &[u8], usize, Result<(), StreamError>); 7] = [
@@ -46,7 +38,8 @@ const ROWS: [(&[&str], &[u8], usize, Result<(), StreamError>); 7] = [
 fn kept_frames_are_written(rt: HostRuntime) -> Result<(), Fail> {
     let alloc = rt.alloc();
     for (words, input, count, wanted) in ROWS {
-        let rules = rules_of(alloc, words)?;
+        let words = words_in(alloc, words)?;
+        let rules = Rules::parse(alloc, words.as_slice())?;
         for pieces in [[].as_slice(), [1; 70].as_slice()] {
             let mut source = PieceSource::new(input, pieces, &[]);
             let mut sink = VecSink::new(alloc);
