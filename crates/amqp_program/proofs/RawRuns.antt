@@ -10,7 +10,7 @@ use Rattle.amqp_program.specs.Reports.{max_payload}
 use Rattle.amqp_program.specs.Runs.{IsDoneOrNoMemory, RunsRaw, raw_turns, status_of}
 use Rattle.amqp_program.proofs.Statuses.{answer_status_not_two, answer_status_three}
 
-done_or_no_memory : (r : Result (Unit {0}) StreamError) → IsOkOrNoMemory r → IsDoneOrNoMemory (status_of r)
+pub done_or_no_memory : (r : Result (Unit {0}) StreamError) → IsOkOrNoMemory r → IsDoneOrNoMemory (status_of r)
 done_or_no_memory (Ok done) h = inl refl
 done_or_no_memory (Err errors.NoMemory) h = inr refl
 done_or_no_memory (Err error) h = absurd h

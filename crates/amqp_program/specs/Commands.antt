@@ -1,17 +1,14 @@
 -- The forms of words.
-use Rattle.std.specs.Prelude.{ℕ, List, [], ◌∷◌, map, codes, Option, Some, None, ◌==◌, ◌&&◌, ◌||◌, Bool, nat_lt, nat_le, length, slice_index, if◌then◌else◌, String, string_bytes}
+use Rattle.std.specs.Prelude.{◌≡◌, ℕ, List, [], ◌∷◌, codes, Option, Some, None, ◌==◌, ◌&&◌, ◌||◌, Bool, nat_lt, nat_le, length, slice_index, if◌then◌else◌}
 use Rattle.std.specs.Fmt.{decimal}
 use Rattle.std.specs.Option.{option_map}
 use Rattle.std.specs.Str.{bytes_eq}
 use Rattle.std.specs.Str.Parse.{digits_value}
-use Rattle.std.specs.declared.alloc.Global.{Global}
 use Rattle.amqp_stream.specs.Made.{most_frames}
+use Rattle.amqp_select.specs.declared.rule.Rule.{Rule}
+use Rattle.amqp_select.specs.Refusals.{Spell}
 use Rattle.amqp_program.specs.declared.command.Command.{Command}
 use Rattle.amqp_program.specs.declared.command.Command.TheVariants as commands
-
--- the texts of the words
-abbrev pub texts_of : List (String Global) → List (List ℕ)
-texts_of words = map (λ word. string_bytes word) words
 
 -- the command of a single word
 abbrev pub command_named : List ℕ → Option Command
@@ -36,9 +33,25 @@ has_padding word = (slice_index word 0 == 43) || (nat_lt 1 (length word) && (sli
 abbrev pub command_with : List ℕ → List ℕ → Option Command
 command_with word number = if bytes_eq word (codes "make") then option_map commands.Make (frames_named number) else None
 
--- the command that the words after the program's name ask for: each form is one word, or two
+-- the command that the words after the program's name ask for, but for selections: each form is one word, or two
 abbrev pub command_of : List (List ℕ) → Option Command
 command_of [] = None
 command_of (word ∷ []) = command_named word
 command_of (word ∷ number ∷ []) = command_with word number
 command_of (word ∷ number ∷ other ∷ more) = None
+
+-- the words after `select`
+abbrev pub after_select : List (List ℕ) → Option (List (List ℕ))
+after_select [] = None
+after_select (word ∷ more) = if bytes_eq word (codes "select") then Some more else None
+
+-- `select`, and words that spell 1 to 64 rules
+pub record IsSelection (texts : List (List ℕ)) (rules : List Rule) : Type 0 where
+  pub words : List (List ℕ)
+  pub are : after_select texts ≡ Some words
+  pub spell : Spell words rules
+
+-- words that are none of the forms
+pub record IsNoForm (texts : List (List ℕ)) : Type 0 where
+  pub no_command : command_of texts ≡ None
+  pub no_selection : (rules : List Rule) → ¬ IsSelection texts rules

@@ -7,9 +7,11 @@ use Rattle.amqp_stream.specs.declared.errors.StreamError.{StreamError}
 use Rattle.amqp_stream.specs.declared.errors.StreamError.TheVariants as errors
 use Rattle.amqp_stream.specs.Errors.{stream_error_status}
 use Rattle.amqp_stream.specs.Ends.{Supply, Store, Takes, Gains, Rises, IsEmpty}
-use Rattle.amqp_stream.specs.Transcribing.{IsRow, NeverBegan, IsValid, NoFaults}
+use Rattle.amqp_stream.specs.Transcribing.{Transcribes, TranscribesExactly, IsRow, NeverBegan, IsValid, NoFaults}
 use Rattle.amqp_stream.specs.Canonicalizing.{canon_of, Canonicalizes, AnswersExactly}
 use Rattle.amqp_stream.specs.Writing.{IsPrefix}
+use Rattle.amqp_select.specs.declared.rule.Rule.{Rule}
+use Rattle.amqp_select.specs.Selecting.{selection}
 use Rattle.amqp_program.specs.Texts.{longest}
 use Rattle.amqp_program.specs.Reports.{max_payload, report}
 
@@ -75,6 +77,15 @@ pub record RunsRaw (a b : Supply) (k l : Store) (status : ℕ) : Type 0 where
   pub memory : answer ≡ Err errors.NoMemory → NeverBegan a b k l answer
   pub no_memory : status ≡ 3 → NeverBegan a b k l answer
   pub exact : (input : List ℕ) → a.left ≡ Some input → AnswersExactly plain max_payload input k l answer
+  pub complete : (input : List ℕ) → a.left ≡ Some input → IsValid plain max_payload raw_turns input → NoFaults a b k l → IsDoneOrNoMemory status
+
+-- the canonical bytes of the frames that rules keep were written
+pub record RunsSelect (rules : List Rule) (a b : Supply) (k l : Store) (status : ℕ) : Type 0 where
+  pub answer : Result (Unit {0}) StreamError
+  pub status_is : status ≡ status_of answer
+  pub stream : Transcribes (selection rules) plain max_payload raw_turns a b k l answer ⊎ NeverBegan a b k l answer
+  pub no_memory : status ≡ 3 → NeverBegan a b k l answer
+  pub exact : (input : List ℕ) → a.left ≡ Some input → TranscribesExactly (selection rules) plain max_payload input k l answer
   pub complete : (input : List ℕ) → a.left ≡ Some input → IsValid plain max_payload raw_turns input → NoFaults a b k l → IsDoneOrNoMemory status
 
 -- a text was printed, or a part of its front and then the sink failed

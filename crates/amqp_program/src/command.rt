@@ -1,5 +1,7 @@
 ghost use Rattle.std.specs.Prelude.{◌≡◌};
-ghost use Rattle.amqp_program.specs.Commands.{command_named, command_of, command_with, frames_named, has_padding, texts_of};
+ghost use Rattle.std.specs.Option.{option_map};
+ghost use Rattle.amqp_select.specs.Refusals.{texts_of};
+ghost use Rattle.amqp_program.specs.Commands.{after_select, command_named, command_of, command_with, frames_named, has_padding};
 
 /// What the words ask for.
 #[derive(Clone, Copy, Debug, PartialEq, Eq)]
@@ -81,6 +83,16 @@ pub fn parse_command(words: &[String]) -> Option<Command>
     match words {
         [word] => parse_word(word.as_str()),
         [word, number] => parse_words(word.as_str(), number.as_str()),
+        _ => None,
+    }
+}
+
+/// The words after `select`, where it is the first.
+pub fn rules_of(words: &[String]) -> Option<&[String]>
+    ensures { option_map (λ rules. texts_of rules.now) result ≡ after_select (texts_of words.now) }
+{
+    match words {
+        [word, rules @ ..] if word.as_str() == "select" => Some(rules),
         _ => None,
     }
 }

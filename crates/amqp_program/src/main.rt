@@ -8,6 +8,7 @@ mod print_command;
 mod raw_command;
 mod report;
 mod run;
+mod select_command;
 mod text;
 
 use amqp_stream::{StdSink, StdSource};
@@ -41,6 +42,8 @@ fn main(rt: HostRuntime) -> ExitCode {
 
 #[cfg(test)]
 mod hostile_tests;
+#[cfg(test)]
+mod select_tests;
 #[cfg(test)]
 mod tests;
 #[cfg(test)]

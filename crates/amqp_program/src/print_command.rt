@@ -11,6 +11,11 @@ pub const HELP: &str = "feksroum: reads AMQP 0-9-1 frames and writes their canon
                       by the status alone
   feksroum tidy       as hex, and takes tidy frames alone: those in which all that reading
                       drops stands as it is written
+  feksroum select RULE..
+                      as raw, and writes the frames alone for which the first rule that
+                      matches says keep: 1 to 64 rules, each keep or drop and then any of
+                      ,channel=A or ,channel=A-B  ,kind=K  ,class=A  ,method=A  in this
+                      order, where K is proto, method, header, body or beat
   feksroum make N     makes N frames, at most 100000, and prints the number of their bytes
                       and of their canonical bytes
   feksroum --help     prints this text

@@ -1,16 +1,19 @@
 //! What the program does for each form of words.
 
-ghost use Rattle.std.specs.Prelude.{◌≡◌, ◌↔◌, ℕ, Some, None};
+ghost use Rattle.std.specs.Prelude.{◌≡◌, ◌↔◌, ℕ, List, Some};
 ghost use Rattle.amqp_types.specs.Levels.{plain, tidy};
-ghost use Rattle.amqp_program.specs.Commands.{command_of, texts_of};
+ghost use Rattle.amqp_select.specs.declared.rule.Rule.{Rule};
+ghost use Rattle.amqp_select.specs.Refusals.{texts_of};
+ghost use Rattle.amqp_program.specs.Commands.{command_of, IsNoForm, IsSelection};
 ghost use Rattle.amqp_program.specs.Makes.{RunsMake};
-ghost use Rattle.amqp_program.specs.Runs.{RunsHex, RunsRaw, Prints};
+ghost use Rattle.amqp_program.specs.Runs.{RunsHex, RunsRaw, RunsSelect, Prints};
 
-use crate::command::{Command, parse_command};
+use crate::command::{Command, parse_command, rules_of};
 use crate::hex_command::run_hex;
 use crate::make_command::run_make;
 use crate::print_command::{HELP, VERSION, print};
 use crate::raw_command::run_raw;
+use crate::select_command::run_select;
 use amqp_stream::{Sink, Source};
 use amqp_types::Profile;
 use std::alloc::Global;
@@ -27,15 +30,20 @@ pub fn run<S: Source, K: Sink>(alloc: Global, words: &[String], source: &mut S, 
         → RunsRaw (S.supply source.old) (S.supply source.new) (K.store sink.old) (K.store sink.new) result }
     ensures make { (n : ℕ) → command_of (texts_of words.now) ≡ Some (Command.Make n)
         → RunsMake n (K.store sink.old) (K.store sink.new) result × (source.new ≡ source.old) }
+    ensures select { (rules : List Rule) → IsSelection (texts_of words.now) rules
+        → RunsSelect rules (S.supply source.old) (S.supply source.new) (K.store sink.old) (K.store sink.new) result }
     ensures help { command_of (texts_of words.now) ≡ Some Command.Help
         → Prints HELP.now (K.store sink.old) (K.store sink.new) result × (source.new ≡ source.old) }
     ensures version { command_of (texts_of words.now) ≡ Some Command.Version
         → Prints VERSION.now (K.store sink.old) (K.store sink.new) result × (source.new ≡ source.old) }
 
     // Words that are none of the forms, and only they, end with 2. Nothing is read or written.
-    ensures usage { (result ≡ 2) ↔ (command_of (texts_of words.now) ≡ None) }
-    ensures nothing { command_of (texts_of words.now) ≡ None → (source.new ≡ source.old) × (sink.new ≡ sink.old) }
+    ensures usage { (result ≡ 2) ↔ IsNoForm (texts_of words.now) }
+    ensures nothing { IsNoForm (texts_of words.now) → (source.new ≡ source.old) × (sink.new ≡ sink.old) }
 {
+    if let Some(rules) = rules_of(words) {
+        return run_select(alloc, rules, source, sink);
+    }
     match parse_command(words) {
         Some(Command::Hex) => run_hex(alloc, Profile::Plain, source, sink),
         Some(Command::Tidy) => run_hex(alloc, Profile::Tidy, source, sink),

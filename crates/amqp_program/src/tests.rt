@@ -112,7 +112,7 @@ fn raw_tells_by_the_status(rt: HostRuntime) -> Result<(), Fail> {
 }
 
 /// A message that a client publishes: its method, its content header and its body.
-const MESSAGE: [u8; 69] = [
+pub const MESSAGE: [u8; 69] = [
     1, 0, 1, 0, 0, 0, 14, 0, 60, 0, 40, 0, 0, 0, 5, 104, 101, 108, 108, 111, 0, 206, 2, 0, 1, 0, 0,
     0, 26, 0, 60, 0, 0, 0, 0, 0, 0, 0, 0, 0, 5, 144, 0, 10, 116, 101, 120, 116, 47, 112, 108, 97,
     105, 110, 2, 206, 3, 0, 1, 0, 0, 0, 5, 104, 101, 108, 108, 111, 206,

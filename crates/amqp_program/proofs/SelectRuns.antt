@@ -1,0 +1,58 @@
+-- A run of `select`.
+use Rattle.std.proofs.Common.{◌≡◌, ◌≢◌, ℕ, List, [], ◌⊎◌, inr, Some, Result, Err, refl, sym, ap, subst, ◌∙◌}
+use Rattle.amqp_types.specs.Levels.{plain}
+use Rattle.amqp_stream.specs.declared.errors.StreamError.{StreamError}
+use Rattle.amqp_stream.specs.declared.errors.StreamError.TheVariants as errors
+use Rattle.amqp_stream.specs.Ends.{Supply, Store}
+use Rattle.amqp_stream.specs.Transcribing.{Transcribes, TranscribesExactly, NeverBegan, IsValid, NoFaults, IsOkOrNoMemory}
+use Rattle.amqp_stream.proofs.Adding.{Gains-none}
+use Rattle.amqp_select.specs.declared.rule.Rule.{Rule}
+use Rattle.amqp_select.specs.Refusals.{Spell}
+use Rattle.amqp_select.specs.Covering.{uncovered}
+use Rattle.amqp_select.specs.Selecting.{selection}
+use Rattle.amqp_program.specs.Reports.{max_payload}
+use Rattle.amqp_program.specs.Runs.{IsDoneOrNoMemory, RunsSelect, raw_turns, status_of}
+use Rattle.amqp_program.proofs.RawRuns.{done_or_no_memory}
+use Rattle.amqp_program.proofs.Selections.{one_spelling, same_selection}
+use Rattle.amqp_program.proofs.Statuses.{answer_status_not_two, answer_status_three}
+
+pub select_not_two : (rules : List Rule) (a b : Supply) (k l : Store) (status : ℕ) → RunsSelect rules a b k l status → status ≢ 2
+select_not_two rules a b k l status run h = answer_status_not_two run.answer (sym run.status_is ∙ h)
+
+-- a run that gave this answer
+pub select_runs : (rules : List Rule) (a b : Supply) (k l : Store) (answer : Result (Unit {0}) StreamError) (status : ℕ) → status ≡ status_of answer → Transcribes (selection rules) plain max_payload raw_turns a b k l answer ⊎ NeverBegan a b k l answer → (answer ≡ Err errors.NoMemory → NeverBegan a b k l answer) → ((input : List ℕ) → a.left ≡ Some input → TranscribesExactly (selection rules) plain max_payload input k l answer) → ((input : List ℕ) → a.left ≡ Some input → IsValid plain max_payload raw_turns input → NoFaults a b k l → IsOkOrNoMemory answer) → RunsSelect rules a b k l status
+select_runs rules a b k l answer status e stream memory exact complete = record {
+  answer = answer;
+  status_is = e;
+  stream = stream;
+  no_memory = λ three. memory (answer_status_three answer (sym e ∙ three));
+  exact = exact;
+  complete = λ input left valid none. subst IsDoneOrNoMemory (sym e) (done_or_no_memory answer (complete input left valid none));
+}
+
+-- the run by the rules that no earlier one covers is the run by all
+by_all : (rules : List Rule) (a b : Supply) (k l : Store) (status : ℕ) → RunsSelect (uncovered rules) a b k l status → RunsSelect rules a b k l status
+by_all rules a b k l status run = record {
+  answer = run.answer;
+  status_is = run.status_is;
+  stream = subst (λ text. Transcribes text plain max_payload raw_turns a b k l run.answer ⊎ NeverBegan a b k l run.answer) (same_selection rules) run.stream;
+  no_memory = run.no_memory;
+  exact = λ input left. subst (λ text. TranscribesExactly text plain max_payload input k l run.answer) (same_selection rules) (run.exact input left);
+  complete = run.complete;
+}
+
+-- these are the rules that the words spell
+pub runs_spelled : (words : List (List ℕ)) (found rest rules : List Rule) (a b : Supply) (k l : Store) (status : ℕ) → Spell words found → Spell words rules → rest ≡ uncovered found → RunsSelect rest a b k l status → RunsSelect rules a b k l status
+runs_spelled words found rest rules a b k l status is spell e run =
+    by_all rules a b k l status (subst (λ kept. RunsSelect kept a b k l status) (e ∙ ap uncovered (one_spelling words found rules is spell)) run)
+
+-- memory ran out before the run began
+pub select_without_memory : (rules : List Rule) (a : Supply) (k : Store) → RunsSelect rules a a k k 3
+select_without_memory rules a k = let never : NeverBegan a a k k (Err errors.NoMemory) = record { no_memory = refl; source = refl; sink = refl } in record {
+  answer = Err errors.NoMemory;
+  status_is = refl;
+  stream = inr never;
+  no_memory = λ three. never;
+  exact = λ input left. record { written = []; gains = Gains-none k; answer = tt };
+  complete = λ input left valid none. inr refl;
+}

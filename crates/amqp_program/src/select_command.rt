@@ -1,0 +1,47 @@
+//! Writes the frames of a stream that rules keep.
+
+ghost use Rattle.std.specs.Prelude.{◌≡◌, ◌↔◌, List};
+ghost use Rattle.amqp_select.specs.declared.rule.Rule.{Rule};
+ghost use Rattle.amqp_select.specs.Refusals.{Spell, texts_of};
+ghost use Rattle.amqp_program.specs.Runs.{RunsSelect};
+
+use crate::raw_command::RAW_TURNS;
+use crate::report::MAX_PAYLOAD;
+use amqp_select::{RuleError, Rules, select};
+use amqp_stream::{Sink, Source};
+use std::alloc::Global;
+
+/// Writes the canonical bytes of the frames that rules keep, and tells a fault by the status alone.
+#[tactic(auto, using(crate::proofs::SelectRuns::select_runs))]
+fn run_rules<S: Source, K: Sink>(alloc: Global, rules: &Rules, source: &mut S, sink: &mut K) -> u8
+    ensures { RunsSelect rules.now (S.supply source.old) (S.supply source.new) (K.store sink.old) (K.store sink.new) result }
+{
+    match select(alloc, rules, source, sink, MAX_PAYLOAD, RAW_TURNS) {
+        Ok(()) => 0,
+        Err(error) => error.status(),
+    }
+}
+
+/// The same for the rules that words spell. A rule that an earlier one covers is left out first: it decides nothing.
+pub fn run_select<S: Source, K: Sink>(
+    alloc: Global,
+    words: &[String],
+    source: &mut S,
+    sink: &mut K,
+) -> u8
+    ensures rules { (rules : List Rule) → Spell (texts_of words.now) rules
+        → RunsSelect rules (S.supply source.old) (S.supply source.new) (K.store sink.old) (K.store sink.new) result }
+    ensures usage { (result ≡ 2) ↔ ((rules : List Rule) → ¬ Spell (texts_of words.now) rules) }
+    ensures nothing { result ≡ 2 → (source.new ≡ source.old) × (sink.new ≡ sink.old) }
+{
+    let rules = match Rules::parse(alloc, words) {
+        Ok(rules) => rules,
+        Err(RuleError::NoMemory) => return 3,
+        Err(RuleError::Count) => return 2,
+        Err(RuleError::Malformed { .. }) => return 2,
+    };
+    match rules.without_covered(alloc) {
+        Ok(uncovered) => run_rules(alloc, &uncovered, source, sink),
+        Err(_) => 3,
+    }
+}
