@@ -36,14 +36,14 @@ last_push q [] e = sym (later-None (value_here q e))
 last_push q (x ∷ es) e = ap (λ o. later o (value_here q x)) (last_push q es e) ∙ later_later (value_here q e) (last_at q es) (value_here q x)
 
 -- the last entry counts for its own key, and for no other
-last_own : (es : List Entry) (e : Entry) → last_at e.0 (es ++ e ∷ []) ≡ Some e.1
+pub last_own : (es : List Entry) (e : Entry) → last_at e.0 (es ++ e ∷ []) ≡ Some e.1
 last_own es e = last_push e.0 es e ∙ ap (λ o. later (cond (is_eq o) (Some e.1) None) (last_at e.0 es)) (tied_itself nat_list_cmp_total e.0)
 
 other_by : (b : Bool) (q : List ℕ) (es : List Entry) (e : Entry) → is_at (cmp q) e.0 ≡ b → (q ≡ e.0 → ⊥) → last_at q (es ++ e ∷ []) ≡ last_at q es
 other_by true q es e is differ = absurd (differ (tells_apart exact_bytes q e.0 is))
 other_by false q es e is differ = last_push q es e ∙ ap (λ b. later (cond b (Some e.1) None) (last_at q es)) is
 
-last_other : (q : List ℕ) (es : List Entry) (e : Entry) → (q ≡ e.0 → ⊥) → last_at q (es ++ e ∷ []) ≡ last_at q es
+pub last_other : (q : List ℕ) (es : List Entry) (e : Entry) → (q ≡ e.0 → ⊥) → last_at q (es ++ e ∷ []) ≡ last_at q es
 last_other q es e differ = other_by (is_at (cmp q) e.0) q es e refl differ
 
 before_by : (b : Bool) (q : List ℕ) (es : List Entry) (e : Entry) (w : FieldValue) → is_at (cmp q) e.0 ≡ b → last_at q (es ++ e ∷ []) ≡ Some w → (q ≡ e.0) ⊎ (last_at q es ≡ Some w)
@@ -148,7 +148,7 @@ pub looked_none : (room : ℕ) (content : List ℕ) (last : Option (List ℕ)) �
 looked_none room content last h = record { front = []; entries = entries_none room content h; finds = λ other w later value. let e : None ≡ Some w = value in cc }
 
 -- the key at the place is that of the entry
-key_here : (room : ℕ) (content : List ℕ) (at : ℕ) (key : List ℕ) → IsRead (entry_at room content at) → key ≡ key_in (drop at content) → key ≡ (entry_of (entry_at room content at)).0
+pub key_here : (room : ℕ) (content : List ℕ) (at : ℕ) (key : List ℕ) → IsRead (entry_at room content at) → key ≡ key_in (drop at content) → key ≡ (entry_of (entry_at room content at)).0
 key_here room content at key read is = is ∙ entry_key room (drop at content) read
 
 finds_taken : (room : ℕ) (content : List ℕ) (last : Option (List ℕ)) (at : ℕ) (key : Bor (List ℕ)) (front : List Entry) (found : Option (ℕ × Bor (List ℕ))) → IsRead (entry_at room content at) → key.now ≡ (entry_of (entry_at room content at)).0

@@ -301,7 +301,7 @@ value_copied room (b ∷ bytes) t n some same parts h = record {
       more ∙ ap₂ (λ x xs. x ∷ xs) (sym same) h.bytes_are ∙ sym parts.bytes_are;
 }
 
-key_dropped : (bytes : List ℕ) → 1 + length (key_in bytes) ≤ length bytes → drop (1 + length (key_in bytes)) bytes ≡ after_key bytes
+pub key_dropped : (bytes : List ℕ) → 1 + length (key_in bytes) ≤ length bytes → drop (1 + length (key_in bytes)) bytes ≡ after_key bytes
 key_dropped [] within = absurd (omega (arith, within))
 key_dropped (n ∷ bytes) within =
     let more : drop (1 + length (take n bytes)) (n ∷ bytes) ≡ drop (length (take n bytes)) bytes = ap (λ k. drop k (n ∷ bytes)) (let e : 1 + length (take n bytes) ≡ suc (length (take n bytes)) = omega arith in e) in

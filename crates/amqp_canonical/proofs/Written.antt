@@ -25,7 +25,7 @@ pub each_entry : IsEach table_content entry_bytes
 each_entry = record { none = refl; more = λ e es. refl }
 
 -- the values in an array from a place on
-abbrev values_from : ℕ → List ℕ → ℕ → List FieldValue
+abbrev pub values_from : ℕ → List ℕ → ℕ → List FieldValue
 values_from room content start = items_of (filled (judge_value room) 0 (drop start content))
 
 pub record ValuesPut (room : ℕ) (content : List ℕ) (start : ℕ) (old new : List ℕ) (at end : ℕ) : Type 0 where

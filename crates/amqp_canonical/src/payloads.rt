@@ -20,6 +20,7 @@ fn is_class(class: Identifier) -> bool
 }
 
 /// Judges a class id, a method id and the slots of that method (AMQP 0-9-1, section 4.2.4).
+#[inline(always)]
 pub fn judge_payload(payload: &[u8]) -> Result<Judgement, ParserError>
     ensures judged { JudgesPayload payload.now result }
     ensures used { IfOk result (λ j. j.used ≤ length payload.now) }

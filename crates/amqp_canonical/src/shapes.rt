@@ -105,6 +105,7 @@ const BINDING: [Shape; 6] = [
 ];
 
 /// The shapes of the slots of a method (AMQP 0-9-1, section 4.2.4), or `None` where the class has no such method.
+#[inline(always)]
 pub fn shapes_of(class: Identifier, id: Identifier) -> Option<&'static [Shape]>
     ensures { option_map slots_of (option_copied result) ≡ slots_at class id }
 {
@@ -213,6 +214,7 @@ fn queue_shapes(id: Identifier) -> Option<&'static [Shape]>
 }
 
 /// Sending messages, and receiving and acknowledging them.
+#[inline(always)]
 fn basic_shapes(id: Identifier) -> Option<&'static [Shape]>
     ensures { option_map slots_of (option_copied result) ≡ slots_at 60 id }
 {

@@ -150,7 +150,7 @@ pub body_put : (old new : List ℕ) (at end : ℕ) (raw : Raw) → raw.kind ≡ 
 unfolding whole_as canon
 body_put old new at end raw kind p = (Body raw.channel raw.payload, rw kind refl, p)
 
-canon_beat : (channel : ℕ) → framed 8 channel [] ≡ canon (beat_on channel)
+pub canon_beat : (channel : ℕ) → framed 8 channel [] ≡ canon (beat_on channel)
 unfolding canon
 canon_beat channel = elim (cases_eq channel 0) [
   | inl zero ↦ rw (eq-eqb channel 0 zero) (ap (λ n. framed 8 n []) zero)

@@ -3,6 +3,7 @@ use Rattle.std.proofs.Common.{◌≡◌, ℕ, ◌+◌, ◌^◌, ◌<◌, ◌≤�
 use Rattle.std.proofs.lemmas.Bool.{cases_Bool}
 use Rattle.std.proofs.lemmas.Bool.Decides.{nat_tests}
 use Rattle.std.proofs.lemmas.List.{length-append}
+use Rattle.amqp_types.specs.Numbers.{bytes2, bytes4, number_bytes}
 use Rattle.amqp_types.specs.Sizes.{measured}
 use Rattle.amqp_types.specs.Writing.{Puts}
 use Rattle.amqp_types.specs.declared.errors.GenError.{GenError}
@@ -19,6 +20,13 @@ use Rattle.amqp_frame.specs.Canonical.{canon, is_deep, is_long, is_long_for, siz
 -- states the frame first, where `grind` picks it up
 pub framed_length : (type channel : ℕ) (payload : List ℕ) → length (framed type channel payload) ≡ length payload + 8
 framed_length type channel payload = omega (arith, length-append payload (206 ∷ []))
+
+-- type, channel and length, put one behind another
+pub puts_head : (buf a b new : List ℕ) (at p q end type channel n : ℕ) → at + 7 ≤ length buf → Puts buf a at (type ∷ []) p → Puts a b p (number_bytes bytes2 channel) q → Puts b new q (number_bytes bytes4 n) end → Puts buf new at (head type channel n) end
+puts_head buf a b new at p q end type channel n room first second third =
+    let len : length a ≡ length buf = puts-length buf a at p (type ∷ []) (omega (arith, room)) first in
+    let behind : Puts a new p (number_bytes bytes2 channel ++ number_bytes bytes4 n) end = puts_then a b new p q end (number_bytes bytes2 channel) (number_bytes bytes4 n) (omega (arith, room, len, first.behind)) second third in
+    puts_then buf a new at p end (type ∷ []) (number_bytes bytes2 channel ++ number_bytes bytes4 n) room first behind
 
 -- three parts of a frame, put one behind another
 pub puts_framed : (buf a b new : List ℕ) (at p q end type channel : ℕ) (front payload : List ℕ) → front ≡ head type channel (length payload) → at + length (framed type channel payload) ≤ length buf → Puts buf a at front p → Puts a b p payload q → Puts b new q (206 ∷ []) end → Puts buf new at (framed type channel payload) end

@@ -13,7 +13,7 @@ use crate::content_header::{AMQPContentHeader, put_content_header, size_content_
 use crate::frame::AMQPFrame;
 use crate::version::ProtocolVersion;
 use amqp_protocol::{AMQPClass, put_class, size_class};
-use amqp_types::{ChannelId, ChunkSize, GenError, grow, put_bytes};
+use amqp_types::{ChannelId, ChunkSize, GenError, grow, put_bytes, put_long_uint, put_short_uint};
 use std::alloc::Global;
 
 /// What stands in front of a payload of this length: type, channel, length.
@@ -126,8 +126,27 @@ fn put_array<const N: usize>(buf: &mut [u8], at: usize, bytes: [u8; N]) -> usize
     end
 }
 
+/// Puts what stands in front of a payload of this length. Each number is stored on its own, so that no array
+/// goes through memory.
+#[inline(always)]
+fn put_head(
+    buf: &mut [u8],
+    at: usize,
+    frame_type: u8,
+    channel_id: ChannelId,
+    len: ChunkSize,
+) -> usize
+    requires { at + 7 ≤ length buf.old }
+    ensures { Puts buf.old buf.new at (head frame_type channel_id len) result }
+{
+    let at = put_array(buf, at, [frame_type]);
+    let at = put_short_uint(buf, at, &channel_id);
+    put_long_uint(buf, at, &len)
+}
+
 /// Puts a frame of this type around a payload.
-pub(crate) fn put_framed(
+#[inline(always)]
+pub fn put_framed(
     buf: &mut [u8],
     at: usize,
     frame_type: u8,
@@ -138,8 +157,7 @@ pub(crate) fn put_framed(
     requires room { at + length (framed frame_type channel_id payload.now) ≤ length buf.old }
     ensures { Puts buf.old buf.new at (framed frame_type channel_id payload.now) result }
 {
-    let head = frame_head(frame_type, channel_id, payload.len() as u32);
-    let at = put_array(buf, at, head);
+    let at = put_head(buf, at, frame_type, channel_id, payload.len() as u32);
     let at = put_bytes(buf, at, payload);
     put_array(buf, at, [206])
 }

@@ -26,6 +26,7 @@ pub struct FrameJudgement {
 }
 
 /// Judges the method that a whole payload is.
+#[inline(always)]
 fn judge_method(payload: &[u8]) -> Result<FrameJudgement, ParserError>
     ensures { JudgesAll judge_payload payload_bytes is_tidy_payload payload.now result }
 {
@@ -54,6 +55,7 @@ fn judge_header(payload: &[u8]) -> Result<FrameJudgement, ParserError>
 }
 
 /// The same of a whole payload of this type.
+#[inline(always)]
 fn judge_as(
     frame_type: AMQPFrameType,
     channel_id: ChannelId,
@@ -87,6 +89,7 @@ fn judge_as(
 }
 
 /// Judges a whole payload, and refuses it as `parse_payload` does. No memory is taken.
+#[inline(always)]
 pub fn judge_frame(raw: AMQPRawFrame<'_>) -> Result<FrameJudgement, ParserError>
     ensures { JudgesFrame (raw_of raw.entry) result }
 {

@@ -24,6 +24,7 @@ pub use frame::{AMQPFrame, release};
 pub use frame_type::AMQPFrameType;
 pub use generation::{
     frame_head, frame_size, gen_frame, gen_frame_slice, header_bytes, heartbeat_bytes, put_frame,
+    put_framed,
 };
 pub use judging::{FrameJudgement, judge_frame};
 pub use laws::{

@@ -70,6 +70,7 @@ fn put_header(
 }
 
 /// Puts the canonical bytes of the frame that a judged payload of this type is.
+#[inline(always)]
 fn put_judged(
     buf: &mut [u8],
     at: usize,
@@ -102,6 +103,7 @@ fn put_judged(
 /// Puts the canonical bytes of the frame that a whole payload is at a place of a slice, and returns the place after
 /// them. No memory is taken: entries of tables in no order are sorted in the scratch, of which a payload of n bytes wants
 /// n / 2 marks, and takes quadratic time where there are fewer.
+#[inline(always)]
 pub fn put_canonical(
     buf: &mut [u8],
     at: usize,

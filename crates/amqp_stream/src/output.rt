@@ -148,6 +148,7 @@ pub fn payload_error(error: ParserError) -> StreamError
 
 /// Puts the canonical bytes of a method or content header after the pending ones.
 #[tactic(auto, using(crate::proofs::Writes::added_refused, crate::proofs::Writes::added))]
+#[inline(always)]
 fn write_typed(out: &mut OutputBuffer, raw: AMQPRawFrame<'_>) -> Result<(), StreamError>
     requires typed { IsTyped raw.frame_type }
     requires few { length raw.payload.now < 2 ^ 32 }
@@ -185,6 +186,7 @@ pub(crate) fn push_tidy(out: &mut OutputBuffer, raw: AMQPRawFrame<'_>) -> Result
 
 /// Gathers the canonical bytes of a borrowed frame. A large body is written from where it lies.
 #[tactic(auto, unfolding(amqp_frame::specs::Verdicts::whole_as, amqp_frame::specs::Canonical::canon))]
+#[inline(always)]
 pub fn write_canonical<K: Sink>(
     out: &mut OutputBuffer,
     sink: &mut K,
@@ -212,7 +214,8 @@ pub fn write_canonical<K: Sink>(
             [_, _, _, _, ..] => Err(StreamError::TrailingBytes),
             _ => Err(StreamError::ShortPayload),
         },
-        AMQPFrameType::Method | AMQPFrameType::Header => write_typed(out, raw),
+        AMQPFrameType::Method => write_typed(out, raw),
+        AMQPFrameType::Header => write_typed(out, raw),
         AMQPFrameType::Body if raw.payload.len() <= SMALL_BODY => {
             push_body(out, raw.channel_id, raw.payload);
             Ok(())

@@ -22,6 +22,7 @@ fn put_after(buf: &mut [u8], len: usize, bytes: &[u8]) -> usize
 
 /// Puts the canonical bytes of a borrowed frame after the first `len` bytes of a buffer, and returns
 /// the place after them.
+#[inline(always)]
 fn put_raw_after(
     buf: &mut [u8],
     len: usize,
@@ -112,6 +113,7 @@ impl OutputBuffer {
     }
 
     /// Puts the canonical bytes of a borrowed frame after the pending ones.
+    #[inline(always)]
     pub fn push_raw(&mut self, raw: AMQPRawFrame<'_>) -> Result<(), ParserError>
         requires few { length raw.payload.now < 2 ^ 32 }
         requires enough { length self.old.bytes + (length raw.payload.now + 8) ≤ self.old.room }

@@ -9,6 +9,9 @@ returns-in-len3-clause-writes g c = wrote-proto (raw_of c.args.raw) _ _ _ _ c.in
 pub returns-in-Method-clause-writes : goal.returns-in-Method-clause-writes
 returns-in-Method-clause-writes g c = c.write_typed.ensures.writes _
 
+pub returns-in-Header-clause-writes : goal.returns-in-Header-clause-writes
+returns-in-Header-clause-writes g c = c.write_typed-in-Header.ensures.writes _
+
 pub returns-in-Body-clause-writes : goal.returns-in-Body-clause-writes
 returns-in-Body-clause-writes g c = wrote-body (raw_of c.args.raw) _ _ _ _ (Ok tt) c.in-Body.is (pushed _ _ _ _ tt c.push_body.ensures.pushed)
 
