@@ -35,7 +35,7 @@ abbrev pub has_method : ℕ → FrameOutline → Bool
 has_method id (outlines.Method channel class method) = method == id
 has_method id outline = false
 
--- a part holds where it is not there
+-- a part that is not there holds of every frame
 abbrev pub holds : {A : Type 0} → (A → Bool) → Option A → Bool
 holds test None = true
 holds test (Some part) = test part

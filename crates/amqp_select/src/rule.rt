@@ -1,6 +1,6 @@
 //! A rule: which frames it speaks of, and whether they are kept.
 
-ghost use Rattle.std.specs.Prelude.{◌≡◌};
+ghost use Rattle.std.specs.Prelude.{◌≡◌, true, IsTrue};
 ghost use Rattle.amqp_select.specs.Matching.{contains, has_class, has_method, is_of_kind};
 ghost use Rattle.amqp_select.specs.Covering.{ends, includes};
 
@@ -96,6 +96,7 @@ fn has_method(id: Identifier, outline: FrameOutline) -> bool
 impl Rule {
     ghost use Rattle.amqp_select.specs.Matching.{matches};
     ghost use Rattle.amqp_select.specs.Covering.{covers};
+    ghost use Rattle.amqp_frame.specs.declared.outline.FrameOutline.{FrameOutline};
 
     /// Whether each part holds for the frame.
     pub fn matches(&self, outline: FrameOutline) -> bool
@@ -106,6 +107,16 @@ impl Rule {
             && self.kind.is_none_or(|kind| is_of_kind(kind, outline))
             && self.class_id.is_none_or(|id| has_class(id, outline))
             && self.method_id.is_none_or(|id| has_method(id, outline))
+    }
+
+    /// Whether there is no part, so that it matches every frame.
+    pub fn is_bare(&self) -> bool
+        ensures { (outline : FrameOutline) → IsTrue result → matches self.now outline ≡ true }
+    {
+        self.channel.is_none()
+            && self.kind.is_none()
+            && self.class_id.is_none()
+            && self.method_id.is_none()
     }
 
     /// Whether each part stands in the other rule too, so that all that the other matches it matches.

@@ -1,9 +1,10 @@
 //! Rules in order, of which the first that matches a frame decides.
 
-ghost use Rattle.std.specs.Prelude.{◌≡◌, ◌<◌, Err, length, position, IfOk};
+ghost use Rattle.std.specs.Prelude.{◌≡◌, ◌<◌, Err, length, position, IfOk, IfSome};
 ghost use Rattle.std.specs.Option.{option_copied};
 ghost use Rattle.amqp_frame.specs.Frames.{frame_of};
 ghost use Rattle.amqp_frame.specs.Outlines.{outline_of};
+ghost use Rattle.amqp_frame.specs.declared.outline.FrameOutline.{FrameOutline};
 ghost use Rattle.amqp_select.specs.Matching.{decides, first_match};
 ghost use Rattle.amqp_select.specs.Covering.{covered, covers, uncovered};
 ghost use Rattle.amqp_select.specs.Refusals.{IsCount, Parses, ParsesItems, texts_of};
@@ -70,6 +71,13 @@ impl Rules {
         }
     }
 
+    /// What is decided of every frame, where the first rule has no part. No outline is needed then.
+    pub(crate) fn decide_all(&self) -> Option<bool>
+        ensures { (outline : FrameOutline) → IfSome result (λ keep. keep ≡ decides self.now outline) }
+    {
+        decide_all(&self.rules)
+    }
+
     /// The first earlier rule that covers rule `k`, which then is never the first to match.
     pub fn covered_by(&self, k: usize) -> Option<usize>
         requires { k < length self.now }
@@ -123,6 +131,16 @@ fn first_match(rules: &[Rule], outline: FrameOutline) -> Option<&Rule>
     ensures { option_copied result ≡ first_match rules.now outline }
 {
     rules.iter().find(|rule| rule.matches(outline))
+}
+
+/// What is decided of every frame, where the first rule has no part.
+fn decide_all(rules: &[Rule]) -> Option<bool>
+    ensures { (outline : FrameOutline) → IfSome result (λ keep. keep ≡ decides rules.now outline) }
+{
+    match rules {
+        [first, ..] if first.is_bare() => Some(first.keep),
+        _ => None,
+    }
 }
 
 /// The first rule that covers this one.

@@ -31,6 +31,9 @@ impl<'a> Selector<'a> {
     fn keeps(&self, raw: AMQPRawFrame<'_>) -> bool
         ensures { (frame : Frame) → whole (raw_of raw.entry) ≡ Ok frame → result ≡ decides self.now.rules.now (outline_of frame) }
     {
+        if let Some(keep) = self.rules.decide_all() {
+            return keep;
+        }
         match outline_front(raw) {
             Some(outline) => self.rules.decide_outline(outline),
             None => false,
