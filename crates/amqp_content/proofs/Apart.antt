@@ -21,7 +21,7 @@ use Rattle.amqp_content.proofs.Running.{run_answers-append, run_state-append, an
 
 -- ---- the frames of a channel
 
-of_channel-in : (channel : ℕ) (frames : List Frame) (frame : Frame) → is_of_channel outline_of channel frame ≡ true → of_channel outline_of channel (frames ++ frame ∷ []) ≡ of_channel outline_of channel frames ++ frame ∷ []
+pub of_channel-in : (channel : ℕ) (frames : List Frame) (frame : Frame) → is_of_channel outline_of channel frame ≡ true → of_channel outline_of channel (frames ++ frame ∷ []) ≡ of_channel outline_of channel frames ++ frame ∷ []
 of_channel-in channel [] frame h = rw h refl
 of_channel-in channel (f ∷ fs) frame h = by_test (is_of_channel outline_of channel f) refl (of_channel-in channel fs frame h)
   where
@@ -29,7 +29,7 @@ of_channel-in channel (f ∷ fs) frame h = by_test (is_of_channel outline_of cha
     by_test true e rest = rw e (ap (λ xs. f ∷ xs) rest)
     by_test false e rest = rw e rest
 
-of_channel-out : (channel : ℕ) (frames : List Frame) (frame : Frame) → is_of_channel outline_of channel frame ≡ false → of_channel outline_of channel (frames ++ frame ∷ []) ≡ of_channel outline_of channel frames
+pub of_channel-out : (channel : ℕ) (frames : List Frame) (frame : Frame) → is_of_channel outline_of channel frame ≡ false → of_channel outline_of channel (frames ++ frame ∷ []) ≡ of_channel outline_of channel frames
 of_channel-out channel [] frame h = rw h refl
 of_channel-out channel (f ∷ fs) frame h = by_test (is_of_channel outline_of channel f) refl (of_channel-out channel fs frame h)
   where
@@ -37,17 +37,17 @@ of_channel-out channel (f ∷ fs) frame h = by_test (is_of_channel outline_of ch
     by_test true e rest = rw e (ap (λ xs. f ∷ xs) rest)
     by_test false e rest = rw e rest
 
-of_own : (frame : Frame) → is_content (outline_of frame) ≡ true → is_of_channel outline_of (channel_id_of frame) frame ≡ true
+pub of_own : (frame : Frame) → is_content (outline_of frame) ≡ true → is_of_channel outline_of (channel_id_of frame) frame ≡ true
 of_own frame h = rw h (eq-eqb _ _ (outline_of-channel frame))
 
-of_other : (channel : ℕ) (frame : Frame) → channel ≢ channel_id_of frame → is_of_channel outline_of channel frame ≡ false
+pub of_other : (channel : ℕ) (frame : Frame) → channel ≢ channel_id_of frame → is_of_channel outline_of channel frame ≡ false
 of_other channel frame ne = by_test (is_content (outline_of frame)) refl
   where
     by_test : (test : Bool) → is_content (outline_of frame) ≡ test → is_of_channel outline_of channel frame ≡ false
     by_test true e = rw e (ne_eqb _ _ (λ same. ne (sym same ∙ outline_of-channel frame)))
     by_test false e = rw e refl
 
-of_none : (channel : ℕ) (frame : Frame) → is_content (outline_of frame) ≡ false → is_of_channel outline_of channel frame ≡ false
+pub of_none : (channel : ℕ) (frame : Frame) → is_content (outline_of frame) ≡ false → is_of_channel outline_of channel frame ≡ false
 of_none channel frame h = rw h refl
 
 -- a frame of a channel is content, and has the channel's number

@@ -25,5 +25,6 @@ pub use mark::Mark;
 pub use message::Message;
 pub use opening::Opening;
 pub use outcome::Outcome;
+pub use progress::{Progress, step};
 pub use splitting::split;
 pub use tracker::Tracker;

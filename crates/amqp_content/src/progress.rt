@@ -1,7 +1,7 @@
 //! How far the message of a channel has come.
 
 ghost use Rattle.std.specs.Prelude.{◌≡◌};
-ghost use Rattle.amqp_content.specs.Steps.{mark_after, header_mark, body_mark, method_mark, headed_progress, progress_marked};
+ghost use Rattle.amqp_content.specs.Steps.{mark_after, header_mark, body_mark, method_mark, headed_progress, progress_marked, progress_after};
 ghost use Rattle.amqp_content.specs.Marks.{is_begun};
 ghost use Rattle.amqp_content.specs.Units.{is_opening_id, size_in};
 
@@ -12,7 +12,7 @@ use amqp_types::{Identifier, PayloadSize};
 
 /// What is kept of a channel on which a message has begun, or a fault has come.
 #[derive(Clone, Copy, Debug, PartialEq, Eq)]
-pub(crate) enum Progress {
+pub enum Progress {
     /// The opening has come.
     Opened,
 
@@ -146,6 +146,20 @@ pub(crate) fn progress_after_mark(
         Mark::Body { after, size, .. } => headed(size, after),
         Mark::Fault(_) => Some(Progress::Faulted),
     }
+}
+
+/// What a frame is to a channel's content, and what is kept of the channel after it, for callers that keep more of a
+/// channel beside it.
+pub fn step(
+    max_body: u64,
+    progress: Option<Progress>,
+    outline: FrameOutline,
+) -> (Mark, Option<Progress>)
+    ensures mark { result.0 ≡ mark_after max_body progress outline }
+    ensures progress { result.1 ≡ progress_after max_body progress outline }
+{
+    let mark = mark(max_body, progress, outline);
+    (mark, progress_after_mark(progress, outline, mark))
 }
 
 /// Whether a message has begun, and no fault has come.
