@@ -1,0 +1,3 @@
+pub mod Rereading
+pub mod Finding
+pub mod Sized
