@@ -4,11 +4,11 @@ use Rattle.amqp_types.specs.Judging.{Judged, IsBytes, took, past, fault}
 use Rattle.amqp_types.specs.Settling.{last_at, settled, value_at}
 use Rattle.amqp_types.specs.Values.{Entry, FieldValue}
 use Rattle.amqp_values.proofs.Settling.{settles}
-use Rattle.amqp_canonical.specs.Marks.{AreEntries, IsAfter, IsNext, HasNoNext, entries_in, entry_at, entry_of}
+use Rattle.amqp_canonical.specs.Marks.{AreEntries, IsAfter, IsNext, IsNextAt, HasNoNext, entries_in, entry_at, entry_of}
 use Rattle.amqp_canonical.specs.Writes.{IsRead, key_in, used_of}
 use Rattle.amqp_canonical.proofs.Marking.{EntriesTo, entries_none, entries_next, entries_end}
 use Rattle.amqp_canonical.proofs.NextKey.{key_here, last_own, last_other}
-use Rattle.amqp_lent.specs.Finding.{FindsLast, HasNoneAfter, IsLeastAfter}
+use Rattle.amqp_lent.specs.Finding.{FindsAfter, FindsLast, HasNoneAfter, IsLeastAfter}
 use Rattle.amqp_lent.specs.Views.{taken}
 
 -- what stands at the place of an entry that was read
@@ -60,3 +60,11 @@ least_after last es e h =
 
 pub none_after : (last : Option (List ℕ)) (es : List Entry) → HasNoNext last es → HasNoneAfter last (settled es)
 none_after last es h other w after value = let all = settles es in h other w after (sym (all.last other) ∙ value)
+
+pub after_found : (room : ℕ) (content : List ℕ) (last : Option (List ℕ)) (place : ℕ) (key : List ℕ) (r : Option Entry) → IsNextAt room content last (entries_in room content) place key → r ≡ taken (entry_at room content place) → FindsAfter last (settled (entries_in room content)) r
+after_found room content last place key r h is =
+    let es = entries_in room content in
+    let e = entry_of (entry_at room content place) in
+    let P : List ℕ → Type 0 = λ k. IsNext last es k e.1 in
+    let Q : Option Entry → Type 0 = λ o. FindsAfter last (settled es) o in
+    subst Q (sym (is ∙ taken_entry (entry_at room content place) h.read)) (least_after last es e (subst P (sym h.key_is) h.next))

@@ -1,3 +1,5 @@
 pub mod Rereading
 pub mod Finding
 pub mod Sized
+pub mod SlotsSized
+pub mod Parts

@@ -11,6 +11,7 @@ use Rattle.amqp_types.specs.ValueJudging.{filled, judge_behind, judge_entry, jud
 use Rattle.amqp_types.specs.Writing.{written, Puts}
 use Rattle.amqp_types.specs.declared.tag.FieldTag.{FieldTag}
 use Rattle.amqp_types.specs.declared.tag.FieldTag.TheVariants as tag
+use Rattle.amqp_types.proofs.Bytes.{IsBytes-drop}
 use Rattle.amqp_types.proofs.Puts.{puts-length}
 use Rattle.amqp_values.proofs.Exactly.{value_exact}
 use Rattle.amqp_canonical.specs.Marks.{AreEntries, FindsNext, entries_in, entry_at}
@@ -149,13 +150,16 @@ pub record EntryLength (room : ℕ) (bytes : List ℕ) : Type 0 where
   pub read : IsRead (judge_value room (after_key bytes))
   pub size : length (canonical_of entry_bytes (judge_entry (judge_value room) bytes)) ≡ 1 + length (key_in bytes) + length (canonical_of tagged_bytes (judge_value room (after_key bytes)))
   pub within : 1 + length (key_in bytes) + length (after_key bytes) ≡ length bytes
+  pub shorter : length (canonical_of tagged_bytes (judge_value room (after_key bytes))) ≤ length (after_key bytes)
 
-pub entry_length : (room : ℕ) (bytes : List ℕ) → IsRead (judge_entry (judge_value room) bytes) → EntryLength room bytes
-entry_length room bytes read =
+pub entry_length : (room : ℕ) (bytes : List ℕ) → IsBytes bytes → IsRead (judge_entry (judge_value room) bytes) → EntryLength room bytes
+entry_length room bytes fits read =
     let put = entry_put room bytes read in
     let k = 1 + length (key_in bytes) in
+    let P : List ℕ → Type 0 = λ bs. IsBytes bs in
     record {
       read = put.read;
       size = ap length put.bytes_are ∙ omega (arith, length-append (take k bytes) (canonical_of tagged_bytes (judge_value room (after_key bytes))), length-take-le k bytes put.within);
       within = omega (arith, ap length (key_dropped bytes put.within), length-drop k bytes, put.within);
+      shorter = value_shorter room (after_key bytes) (subst P (key_dropped bytes put.within) (IsBytes-drop k bytes fits)) put.read;
     }

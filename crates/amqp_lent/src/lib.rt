@@ -2,6 +2,8 @@
 #![tactic(auto)]
 
 mod measuring;
+mod payload_measuring;
+mod payload_writing;
 mod reading;
 mod slot_measuring;
 mod table;

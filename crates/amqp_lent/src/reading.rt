@@ -179,12 +179,12 @@ pub(crate) fn first_item<'a>(content: &'a [u8], room: usize) -> Option<(LentValu
     ensures left { IfSome result (λ found. IsFilled (filled (judge_value room) 0 found.1.now)) }
     ensures first { StartsWith room content.now (option_map (λ found. (value_of found.0, found.1.now)) result) }
 {
-    if content.is_empty() {
-        return None;
-    }
-    match value_in(content, room) {
-        Some(item) => Some((item, bytes_from(content, value_size(content)))),
-        None => None,
+    match content {
+        [] => None,
+        [_, ..] => match value_in(content, room) {
+            Some(item) => Some((item, bytes_from(content, value_size(content)))),
+            None => None,
+        },
     }
 }
 

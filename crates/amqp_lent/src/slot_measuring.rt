@@ -1,6 +1,6 @@
 //! How many canonical bytes there are for slots and properties that were judged.
 
-ghost use Rattle.std.specs.Prelude.{◌≡◌, length};
+ghost use Rattle.std.specs.Prelude.{◌≡◌, ◌<◌, ◌^◌, length};
 ghost use Rattle.amqp_types.specs.Properties.{properties};
 ghost use Rattle.amqp_types.specs.PropertyJudging.{judge_properties, judge_set};
 ghost use Rattle.amqp_types.specs.PropertyBytes.{properties_bytes, set_bytes};
@@ -42,6 +42,7 @@ fn size_slot(shape: Shape, i: &[u8]) -> usize
 /// The size in canonical bytes of slots of these shapes.
 pub(crate) fn size_slots(shapes: &[Shape], i: &[u8]) -> usize
     requires read { IsRead (judge_slots (slots_of shapes.now) i.now) }
+    requires few { length (canonical_of (slots_bytes (slots_of shapes.now)) (judge_slots (slots_of shapes.now) i.now)) < 2 ^ 32 }
     ensures { result ≡ length (canonical_of (slots_bytes (slots_of shapes.now)) (judge_slots (slots_of shapes.now) i.now)) }
 {
     let mut total = 0;
@@ -56,6 +57,7 @@ pub(crate) fn size_slots(shapes: &[Shape], i: &[u8]) -> usize
 /// The size in canonical bytes of the properties whose bits are set in the mask.
 fn size_set(mask: u16, i: &[u8]) -> usize
     requires read { IsRead (judge_set mask properties i.now) }
+    requires few { length (canonical_of (set_bytes properties) (judge_set mask properties i.now)) < 2 ^ 32 }
     ensures { result ≡ length (canonical_of (set_bytes properties) (judge_set mask properties i.now)) }
 {
     let shapes = property_shapes();
@@ -73,10 +75,11 @@ fn size_set(mask: u16, i: &[u8]) -> usize
 /// The size in canonical bytes of a mask and of the properties whose bits are set in it.
 pub(crate) fn size_properties(i: &[u8]) -> usize
     requires read { IsRead (judge_properties i.now) }
+    requires few { length (canonical_of properties_bytes (judge_properties i.now)) < 2 ^ 32 }
     ensures { result ≡ length (canonical_of properties_bytes (judge_properties i.now)) }
 {
     match parse_short_uint(i) {
-        Ok((n, mask)) => 2 + size_set(mask, &i[n..]),
+        Ok((_, mask)) => 2 + size_set(mask, bytes_from(i, 2)),
         Err(_) => 0,
     }
 }

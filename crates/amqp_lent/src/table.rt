@@ -1,10 +1,11 @@
 //! Tables at the front of a slice, and where the entries of a key stand in them.
 
-ghost use Rattle.std.specs.Prelude.{◌≡◌, ◌≤◌, ℕ, length, option_map, IfOk};
+ghost use Rattle.std.specs.Prelude.{◌≡◌, ◌≤◌, ◌↔◌, ℕ, length, option_map, IfOk, IsTrue};
 ghost use Rattle.amqp_types.specs.Answers.{AnswersFully};
 ghost use Rattle.amqp_types.specs.Settling.{last_at, settled};
 ghost use Rattle.amqp_types.specs.ValueJudging.{judge_field_table};
 ghost use Rattle.amqp_canonical.specs.Marks.{AreEntries, entries_in};
+ghost use Rattle.amqp_canonical.specs.Writes.{key_in};
 ghost use Rattle.amqp_lent.specs.Finding.{FindsAfter, FindsLast};
 ghost use Rattle.amqp_lent.specs.Views.{entry_of, value_of};
 
@@ -24,6 +25,14 @@ pub fn lent_table<'a>(i: &'a [u8]) -> Result<(usize, LentTable<'a>), ParserError
     Ok((judged.used, table))
 }
 
+/// Whether an entry has this key.
+fn has_key(entry: &[u8], key: &[u8]) -> bool
+    ensures { IsTrue result ↔ (key_in entry.now ≡ key.now) }
+{
+    let (entry_key, _) = split_key(entry);
+    entry_key == key
+}
+
 /// The place of the last of the entries that fill a table with this key.
 fn last_entry(content: &[u8], key: &[u8]) -> Option<usize>
     ensures { (room : ℕ) → AreEntries room content.now → FindsLast room content.now key.now (entries_in room content.now) result }
@@ -32,8 +41,7 @@ fn last_entry(content: &[u8], key: &[u8]) -> Option<usize>
     let mut at = 0;
     while at < content.len() {
         let entry = bytes_from(content, at);
-        let (entry_key, _) = split_key(entry);
-        if entry_key == key {
+        if has_key(entry, key) {
             found = Some(at);
         }
         at += entry_size(entry);
