@@ -11,3 +11,8 @@ pub returns : goal.returns
 returns c =
     let h = header_parts c.args.class c.args.body_size c.args.properties.now (omega (arith, c.ranges.class)) (omega (arith, c.ranges.body_size)) c.requires.read in
     omega (arith, c.size_properties.ensures, ap length h.bytes_are)
+
+pub overflow_add-result : goal.overflow_add-result
+overflow_add-result c =
+    let h = header_parts c.args.class c.args.body_size c.args.properties.now (omega (arith, c.ranges.class)) (omega (arith, c.ranges.body_size)) c.requires.read in
+    omega (arith, c.size_properties.ensures, ap length h.bytes_are, c.requires.few)

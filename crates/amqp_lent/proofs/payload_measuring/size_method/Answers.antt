@@ -28,3 +28,10 @@ returns-in-None c =
     let h = method_parts c.args.class c.args.id c.args.slots.now (omega (arith, c.ranges.class)) (omega (arith, c.ranges.id)) c.requires.read in
     let e : None ≡ Some h.shapes = c.in-None.ensures ∙ h.known in
     absurd cc
+
+pub overflow_add-result : goal.overflow_add-result
+overflow_add-result c =
+    let h = method_parts c.args.class c.args.id c.args.slots.now (omega (arith, c.ranges.class)) (omega (arith, c.ranges.id)) c.requires.read in
+    let same : slots_of c.in-Some.shapes.now ≡ h.shapes = same_some (slots_of c.in-Some.shapes.now) h.shapes (c.in-Some.ensures ∙ h.known) in
+    let size = ap (λ s. length (canonical_of (slots_bytes s) (judge_slots s c.args.slots.now))) same in
+    omega (arith, c.size_slots.ensures, size, ap length h.bytes_are, c.requires.few)

@@ -25,3 +25,11 @@ returns-in-Ok c =
 
 pub returns-in-Err : goal.returns-in-Err
 returns-in-Err c = absurd (never_refused (λ (n : ℕ). n) _ _ c.in-Err.ensures.judged (mask_read c.args.i.now c.requires.read))
+
+pub overflow_add-result : goal.overflow_add-result
+overflow_add-result c =
+    let i = c.args.i.now in
+    let mask = c.in-Ok.mask in
+    let h = properties_put i mask (λ k. omega (arith, c.type_inv.i k)) c.requires.read (λ read. short_is i mask _ c.in-Ok.ensures.judged) in
+    let size = rw c.bytes_from.ensures at c.size_set.ensures in
+    omega (arith, size, ap length h.bytes_are, c.requires.few)
