@@ -1,10 +1,10 @@
 -- What is found in the entries of a table by a key.
-use Rattle.std.proofs.Common.{◌≡◌, ◌≢◌, ℕ, ◌+◌, ◌<◌, ◌≤◌, List, [], ◌∷◌, ◌++◌, length, drop, Option, Some, None, refl, sym, ap, subst, ◌∙◌, arith}
+use Rattle.std.proofs.Common.{◌≡◌, ℕ, ◌+◌, ◌<◌, ◌≤◌, List, [], ◌∷◌, ◌++◌, length, drop, Option, Some, None, refl, sym, ap, subst, ◌∙◌}
 use Rattle.amqp_types.specs.Judging.{Judged, IsBytes, took, past, fault}
-use Rattle.amqp_types.specs.Settling.{last_at, settled, value_at}
-use Rattle.amqp_types.specs.Values.{Entry, FieldValue}
+use Rattle.amqp_types.specs.Settling.{last_at, settled}
+use Rattle.amqp_types.specs.Values.{Entry}
 use Rattle.amqp_values.proofs.Settling.{settles}
-use Rattle.amqp_canonical.specs.Marks.{AreEntries, IsAfter, IsNext, IsNextAt, HasNoNext, entries_in, entry_at, entry_of}
+use Rattle.amqp_canonical.specs.Marks.{AreEntries, IsNext, IsNextAt, HasNoNext, entries_in, entry_at, entry_of}
 use Rattle.amqp_canonical.specs.Writes.{IsRead, key_in, used_of}
 use Rattle.amqp_canonical.proofs.Marking.{EntriesTo, entries_none, entries_next, entries_end}
 use Rattle.amqp_canonical.proofs.NextKey.{key_here, last_own, last_other}

@@ -1,16 +1,15 @@
 -- Methods and content headers by their borrowed parts.
-use Rattle.std.proofs.Common.{◌≡◌, ◌<◌, ◌≤◌, ◌^◌, ℕ, ◌+◌, List, [], ◌∷◌, ◌++◌, length, take, drop, Some, refl, sym, ap, ap₂, subst, ◌∙◌, arith}
-use Rattle.amqp_types.specs.Judging.{Judge, Judged, took, ◌>>=◌}
+use Rattle.std.proofs.Common.{◌≡◌, ◌<◌, ◌^◌, ℕ, ◌+◌, List, [], ◌∷◌, ◌++◌, length, drop, Some, refl, ap, ◌∙◌, arith}
+use Rattle.amqp_types.specs.Judging.{took, ◌>>=◌}
 use Rattle.amqp_types.specs.Numbers.{NumberWidth, bytes2, bytes8, number_bytes, number_limit, judge_number}
 use Rattle.amqp_types.specs.Slots.{Item, Slot, kept_slot, reserved_slot, number_form, number_item}
 use Rattle.amqp_types.specs.SlotJudging.{judge_dropped, judge_form, judge_slot, judge_slots}
 use Rattle.amqp_types.specs.SlotBytes.{form_bytes, slots_bytes}
 use Rattle.amqp_types.specs.Rows.{slots_at}
 use Rattle.amqp_types.specs.Methods.{judge_payload, payload_bytes}
-use Rattle.amqp_types.specs.Properties.{properties}
 use Rattle.amqp_types.specs.PropertyBytes.{properties_bytes}
-use Rattle.amqp_types.specs.PropertyJudging.{judge_properties, judge_set}
-use Rattle.amqp_types.specs.ContentHeaders.{content_header_bytes, header_of_parts, header_slots, judge_content_header}
+use Rattle.amqp_types.specs.PropertyJudging.{judge_properties}
+use Rattle.amqp_types.specs.ContentHeaders.{content_header_bytes, header_slots, judge_content_header}
 use Rattle.amqp_types.proofs.Numbers.{number_exact}
 use Rattle.amqp_types.proofs.Took.{bind_took}
 use Rattle.amqp_canonical.specs.Writes.{IsRead, canonical_of}

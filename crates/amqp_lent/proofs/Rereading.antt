@@ -1,6 +1,6 @@
 -- What is read anew of bytes that were judged.
-use Rattle.std.proofs.Common.{◌≡◌, ℕ, ◌+◌, ◌<◌, ◌≤◌, List, [], ◌∷◌, length, get_or, drop, Option, Some, None, option_map, Result, Ok, Err, refl, sym, ap, subst, ◌∙◌, arith}
-use Rattle.amqp_types.specs.Judging.{Judged, Judge, Fault, took, past, fault, ◌>>=◌, IsBytes}
+use Rattle.std.proofs.Common.{◌≡◌, ℕ, ◌+◌, ◌<◌, List, ◌∷◌, length, get_or, drop, Some, None, Result, Ok, Err, refl, sym, ap, subst, ◌∙◌, arith}
+use Rattle.amqp_types.specs.Judging.{Judged, Fault, took, ◌>>=◌, IsBytes}
 use Rattle.amqp_types.specs.Answers.{AnswersFully}
 use Rattle.amqp_types.specs.Settling.{settled}
 use Rattle.amqp_types.specs.Strings.{judge_short_string, judge_long_string}

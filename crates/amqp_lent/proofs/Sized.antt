@@ -1,9 +1,8 @@
 -- How many canonical bytes there are for what was read.
-use Rattle.std.proofs.Common.{◌≡◌, ℕ, ◌+◌, ◌<◌, ◌≤◌, ◌-◌, Bool, true, false, List, [], ◌∷◌, ◌++◌, length, get_or, take, drop, Option, Some, None, Bor, refl, sym, ap, subst, ◌∙◌, arith}
+use Rattle.std.proofs.Common.{◌≡◌, ℕ, ◌+◌, ◌<◌, ◌≤◌, Bool, true, false, List, length, take, drop, Option, Some, None, Bor, refl, sym, ap, subst, ◌∙◌, arith}
 use Rattle.std.proofs.lemmas.List.{length-append, length-take-le, length-drop}
 use Rattle.amqp_types.specs.Judging.{Judged, Judge, IsBytes}
 use Rattle.amqp_types.specs.Booleans.{boolean_bytes}
-use Rattle.amqp_types.specs.Levels.{plain}
 use Rattle.amqp_types.specs.Settling.{settled}
 use Rattle.amqp_types.specs.Values.{FieldValue}
 use Rattle.amqp_types.specs.ValueBytes.{tagged_bytes, value_bytes}
@@ -14,8 +13,8 @@ use Rattle.amqp_types.specs.declared.tag.FieldTag.TheVariants as tag
 use Rattle.amqp_types.proofs.Bytes.{IsBytes-drop}
 use Rattle.amqp_types.proofs.Puts.{puts-length}
 use Rattle.amqp_values.proofs.Exactly.{value_exact}
-use Rattle.amqp_canonical.specs.Marks.{AreEntries, FindsNext, entries_in, entry_at}
-use Rattle.amqp_canonical.specs.Writes.{IsRead, IsCopied, IsFilled, used_of, canonical_of, entry_bytes, items_of, array_content, table_content, key_in, after_key}
+use Rattle.amqp_canonical.specs.Marks.{FindsNext, entries_in, entry_at}
+use Rattle.amqp_canonical.specs.Writes.{IsRead, IsCopied, IsFilled, used_of, canonical_of, entry_bytes, array_content, table_content, key_in, after_key}
 use Rattle.amqp_canonical.proofs.NoLonger.{values_no_longer}
 use Rattle.amqp_canonical.proofs.PutParts.{boolean_put, fixed_copied, counted_copied, entry_put, entry_some, key_dropped}
 use Rattle.amqp_canonical.proofs.ReadParts.{TagParts, took_of}

@@ -1,9 +1,8 @@
-use Rattle.std.proofs.Common.{rules, ◌≡◌, ◌+◌, ◌-◌, List, ℕ, Bor, Option, None, length, drop, refl, sym, ap, subst, ◌∙◌, arith}
-use Rattle.amqp_types.specs.ValueBytes.{tagged_bytes}
-use Rattle.amqp_types.specs.ValueJudging.{judge_array, judge_entry, judge_table, judge_value}
+use Rattle.std.proofs.Common.{rules, ◌≡◌, ◌-◌, List, ℕ, Bor, Option, None, length, drop, refl, sym, ap, subst, ◌∙◌, arith}
+use Rattle.amqp_types.specs.ValueJudging.{judge_array, judge_table, judge_value}
 use Rattle.amqp_types.proofs.Bytes.{IsBytes-drop}
 use Rattle.amqp_canonical.specs.Judgements.{layout_at}
-use Rattle.amqp_canonical.specs.Writes.{IsRead, canonical_of, entry_bytes, used_of}
+use Rattle.amqp_canonical.specs.Writes.{IsRead, used_of}
 use Rattle.amqp_canonical.proofs.PutParts.{array_holds, array_inside, table_holds, table_inside}
 use Rattle.amqp_canonical.proofs.ReadParts.{none_read, tag_parts, unknown_read}
 use Rattle.amqp_lent.proofs.Sized.{EntriesSized, entries_sized_end, entries_sized_none, entry_length, entry_sized, plain_sized, value_sized, values_sized_end, values_sized_none}

@@ -1,4 +1,4 @@
-use Rattle.std.proofs.Common.{◌+◌, ◌-◌, ◌*◌, ◌≤◌, length}
+use Rattle.std.proofs.Common.{◌+◌, ◌-◌, ◌*◌, length}
 use Rattle.amqp_lent.proofs.Sized.{ValuesSized, EntriesSized, table_of}
 use Rattle.amqp_lent.proofs.measuring.+measure.Given as goal
 

@@ -1,4 +1,4 @@
-use Rattle.std.proofs.Common.{◌≡◌, List, ℕ, Option, Some, None, refl, sym, subst, ◌∙◌, arith}
+use Rattle.std.proofs.Common.{◌≡◌, List, ℕ, Some, None, refl, sym, subst, ◌∙◌, arith}
 use Rattle.amqp_types.specs.Values.{FieldValue}
 use Rattle.amqp_types.specs.ValueJudging.{filled, judge_value}
 use Rattle.amqp_canonical.specs.Writes.{IsFilled, used_of}

@@ -1,4 +1,4 @@
-use Rattle.std.proofs.Common.{◌≡◌, ◌+◌, ℕ, List, Option, drop, refl, sym, subst, ◌∙◌, arith}
+use Rattle.std.proofs.Common.{◌+◌, ℕ, Option, drop, refl, sym, subst, ◌∙◌, arith}
 use Rattle.std.proofs.lemmas.Bool.{false≢true}
 use Rattle.amqp_canonical.specs.Writes.{key_in}
 use Rattle.amqp_lent.proofs.Finding.{LastTo, last_taken, last_past, last_end}
