@@ -13,7 +13,7 @@ use amqp_types::{Identifier, PayloadSize};
 /// The size of a method's payload in canonical bytes.
 pub(crate) fn size_method(class: Identifier, id: Identifier, slots: &[u8]) -> usize
     requires read { IsRead (judge_payload (method_payload class id slots.now)) }
-    requires few { length (canonical_of payload_bytes (judge_payload (method_payload class id slots.now))) < 2 ^ 32 }
+    requires few { length (method_payload class id slots.now) < 2 ^ 32 }
     ensures { result ≡ length (canonical_of payload_bytes (judge_payload (method_payload class id slots.now))) }
 {
     match shapes_of(class, id) {
@@ -25,7 +25,7 @@ pub(crate) fn size_method(class: Identifier, id: Identifier, slots: &[u8]) -> us
 /// The size of a content header's payload in canonical bytes.
 pub(crate) fn size_header(class: Identifier, body_size: PayloadSize, properties: &[u8]) -> usize
     requires read { IsRead (judge_content_header (header_payload class body_size properties.now)) }
-    requires few { length (canonical_of content_header_bytes (judge_content_header (header_payload class body_size properties.now))) < 2 ^ 32 }
+    requires few { length (header_payload class body_size properties.now) < 2 ^ 32 }
     ensures { result ≡ length (canonical_of content_header_bytes (judge_content_header (header_payload class body_size properties.now))) }
 {
     let _class = class;
