@@ -15,13 +15,13 @@ use crate::frame::LentFrame;
 use crate::payload_measuring::{size_header, size_method};
 use crate::payload_writing::{put_header, put_method};
 use amqp_frame::{frame_head, header_bytes, heartbeat_bytes, put_framed};
-use amqp_types::{ChannelId, ChunkSize, GenError, Identifier, PayloadSize, put_bytes};
+use amqp_types::{ChannelId, GenError, Identifier, PayloadSize, put_bytes};
 
 /// How many canonical bytes the frame has that a borrowed frame stands for.
 pub fn lent_size(frame: LentFrame<'_>) -> u64
-    requires stands { IsFrame frame.entry }
-    requires few { length (payload_of frame.entry) < 2 ^ 32 }
-    ensures { (read : Frame) → StandsFor frame.entry read → result ≡ length (canon read) }
+    requires stands { IsFrame frame }
+    requires few { length (payload_of frame) < 2 ^ 32 }
+    ensures { (read : Frame) → StandsFor frame read → result ≡ length (canon read) }
 {
     match frame {
         LentFrame::Method {
@@ -43,39 +43,43 @@ pub fn lent_size(frame: LentFrame<'_>) -> u64
     }
 }
 
-/// Puts the frame of a method, whose payload has so many canonical bytes, and returns the place after it.
+/// Puts the frame of a method, which has so many canonical bytes, and returns the place after it.
 fn put_method_frame(
     buf: &mut [u8],
     channel: ChannelId,
     class: Identifier,
     id: Identifier,
     slots: &[u8],
-    len: ChunkSize,
+    size: u64,
 ) -> usize
     requires read { IsRead (judge_payload (method_payload class id slots.now)) }
-    requires counted { length (canonical_of payload_bytes (judge_payload (method_payload class id slots.now))) ≡ len }
+    requires few { length (method_payload class id slots.now) < 2 ^ 32 }
+    requires counted { length (canonical_of payload_bytes (judge_payload (method_payload class id slots.now))) + 8 ≡ size }
     requires room { length (framed 1 channel (canonical_of payload_bytes (judge_payload (method_payload class id slots.now)))) ≤ length buf.old }
     ensures { Puts buf.old buf.new 0 (framed 1 channel (canonical_of payload_bytes (judge_payload (method_payload class id slots.now)))) result }
 {
+    let len = (size - 8) as u32;
     let place = put_bytes(buf, 0, &frame_head(1, channel, len));
     let end = put_method(buf, place, class, id, slots);
     put_bytes(buf, end, &[206])
 }
 
-/// Puts the frame of a content header, whose payload has so many canonical bytes, and returns the place after it.
+/// Puts the frame of a content header, which has so many canonical bytes, and returns the place after it.
 fn put_header_frame(
     buf: &mut [u8],
     channel: ChannelId,
     class: Identifier,
     body_size: PayloadSize,
     properties: &[u8],
-    len: ChunkSize,
+    size: u64,
 ) -> usize
     requires read { IsRead (judge_content_header (header_payload class body_size properties.now)) }
-    requires counted { length (canonical_of content_header_bytes (judge_content_header (header_payload class body_size properties.now))) ≡ len }
+    requires few { length (header_payload class body_size properties.now) < 2 ^ 32 }
+    requires counted { length (canonical_of content_header_bytes (judge_content_header (header_payload class body_size properties.now))) + 8 ≡ size }
     requires room { length (framed 2 channel (canonical_of content_header_bytes (judge_content_header (header_payload class body_size properties.now)))) ≤ length buf.old }
     ensures { Puts buf.old buf.new 0 (framed 2 channel (canonical_of content_header_bytes (judge_content_header (header_payload class body_size properties.now)))) result }
 {
+    let len = (size - 8) as u32;
     let place = put_bytes(buf, 0, &frame_head(2, channel, len));
     let end = put_header(buf, place, class, body_size, properties);
     put_bytes(buf, end, &[206])
@@ -83,11 +87,11 @@ fn put_header_frame(
 
 /// Puts the canonical bytes, which are so many, at the front of a slice.
 fn put_lent(buf: &mut [u8], frame: LentFrame<'_>, size: u64) -> usize
-    requires stands { IsFrame frame.entry }
-    requires few { length (payload_of frame.entry) < 2 ^ 32 }
-    requires measured { (read : Frame) → StandsFor frame.entry read → size ≡ length (canon read) }
+    requires stands { IsFrame frame }
+    requires few { length (payload_of frame) < 2 ^ 32 }
+    requires measured { (read : Frame) → StandsFor frame read → size ≡ length (canon read) }
     requires room { size ≤ length buf.old }
-    ensures { (read : Frame) → StandsFor frame.entry read → Puts buf.old buf.new 0 (canon read) result }
+    ensures { (read : Frame) → StandsFor frame read → Puts buf.old buf.new 0 (canon read) result }
 {
     match frame {
         LentFrame::Method {
@@ -95,13 +99,13 @@ fn put_lent(buf: &mut [u8], frame: LentFrame<'_>, size: u64) -> usize
             class_id,
             method_id,
             slots,
-        } => put_method_frame(buf, channel, class_id, method_id, slots, (size - 8) as u32),
+        } => put_method_frame(buf, channel, class_id, method_id, slots, size),
         LentFrame::Header {
             channel,
             class_id,
             body_size,
             properties,
-        } => put_header_frame(buf, channel, class_id, body_size, properties, (size - 8) as u32),
+        } => put_header_frame(buf, channel, class_id, body_size, properties, size),
         LentFrame::Body(channel, content) => put_framed(buf, 0, 3, channel, content),
         LentFrame::ProtocolHeader(version) => put_bytes(buf, 0, &header_bytes(version)),
         LentFrame::Heartbeat => put_bytes(buf, 0, &heartbeat_bytes(0)),
@@ -112,9 +116,9 @@ fn put_lent(buf: &mut [u8], frame: LentFrame<'_>, size: u64) -> usize
 /// Puts the canonical bytes of the frame that a borrowed frame stands for at the front of a slice, and returns how many
 /// they are. A slice that is too short stays as it is, and nothing else is refused.
 pub fn write_lent(buf: &mut [u8], frame: LentFrame<'_>) -> Result<usize, GenError>
-    requires stands { IsFrame frame.entry }
-    requires few { length (payload_of frame.entry) < 2 ^ 32 }
-    ensures { (read : Frame) → StandsFor frame.entry read → SliceAnswers buf.old buf.new (Ok (length (canon read))) (canon read) result }
+    requires stands { IsFrame frame }
+    requires few { length (payload_of frame) < 2 ^ 32 }
+    ensures { (read : Frame) → StandsFor frame read → SliceAnswers buf.old buf.new (Ok (length (canon read))) (canon read) result }
 {
     let size = lent_size(frame);
     if size > buf.len() as u64 {
