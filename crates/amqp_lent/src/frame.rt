@@ -57,7 +57,6 @@ fn method_in<'a>(channel: ChannelId, payload: &'a [u8]) -> LentFrame<'a>
 }
 
 /// The content header in a payload, without its weight.
-#[tactic(auto, unfolding(amqp_frame::specs::Verdicts::whole_as))]
 fn header_in<'a>(channel: ChannelId, payload: &'a [u8]) -> LentFrame<'a>
     requires { 12 ≤ length payload.now }
     ensures same { whole (raw_of_lent result) ≡ whole_as kinds.Header channel payload.now }
