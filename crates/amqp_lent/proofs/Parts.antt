@@ -1,8 +1,8 @@
 -- Methods and content headers by their borrowed parts.
-use Rattle.std.proofs.Common.{◌≡◌, ◌<◌, ◌≤◌, ◌^◌, ℕ, zero, suc, ◌+◌, nat_lt, List, [], ◌∷◌, ◌++◌, length, take, drop, Some, refl, sym, ap, subst, ◌∙◌, arith}
+use Rattle.std.proofs.Common.{◌≡◌, ◌<◌, ◌≤◌, ◌^◌, ℕ, zero, suc, ◌+◌, nat_lt, List, [], ◌∷◌, ◌++◌, length, take, drop, Some, refl, sym, ap, ◌∙◌, arith}
 use Rattle.std.proofs.lemmas.Bool.{le-ltb}
 use Rattle.std.proofs.lemmas.List.{drop-drop, length-drop, take-append-drop}
-use Rattle.amqp_types.specs.Judging.{took, ◌>>=◌}
+use Rattle.amqp_types.specs.Judging.{IsBytes, took, ◌>>=◌}
 use Rattle.amqp_types.specs.Numbers.{NumberWidth, byte_count, bytes2, bytes8, number_bytes, number_limit, judge_number}
 use Rattle.amqp_types.specs.Slots.{Item, Slot, kept_slot, reserved_slot, number_form, number_item}
 use Rattle.amqp_types.specs.SlotJudging.{judge_dropped, judge_form, judge_slot, judge_slots}
@@ -11,7 +11,7 @@ use Rattle.amqp_types.specs.Rows.{slots_at}
 use Rattle.amqp_types.specs.Methods.{judge_payload, payload_bytes}
 use Rattle.amqp_types.specs.PropertyBytes.{properties_bytes}
 use Rattle.amqp_types.specs.PropertyJudging.{judge_properties}
-use Rattle.amqp_types.specs.ContentHeaders.{content_header_bytes, header_slots, judge_content_header}
+use Rattle.amqp_types.specs.ContentHeaders.{header_of_parts, content_header_bytes, header_slots, judge_content_header}
 use Rattle.amqp_types.proofs.Numbers.{number_exact}
 use Rattle.amqp_types.proofs.Bytes.{IsBytes-drop}
 use Rattle.amqp_types.proofs.Took.{bind_took, count_took, guard_took}
