@@ -3,3 +3,4 @@ pub mod Finding
 pub mod Sized
 pub mod SlotsSized
 pub mod Parts
+pub mod Standing
