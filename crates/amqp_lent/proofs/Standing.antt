@@ -1,0 +1,102 @@
+-- The canonical bytes of the frames that borrowed frames stand for.
+use Rattle.std.proofs.Common.{◌≡◌, ◌≤◌, ℕ, ◌+◌, List, [], ◌∷◌, ◌++◌, length, Result, Ok, Err, refl, sym, ap, subst, ◌∙◌, arith}
+use Rattle.std.specs.Prelude.{IsOk}
+use Rattle.amqp_types.specs.Judging.{Fault, IsBytes}
+use Rattle.amqp_types.specs.ValueJudging.{read_map}
+use Rattle.amqp_types.specs.Methods.{judge_payload, method_bytes, payload_bytes}
+use Rattle.amqp_types.specs.ContentHeaders.{judge_content_header, content_header_bytes}
+use Rattle.amqp_types.specs.PropertyBytes.{properties_bytes}
+use Rattle.amqp_canonical.specs.Writes.{IsRead, canonical_of}
+use Rattle.amqp_canonical.proofs.ReadParts.{is_read, took_of}
+use Rattle.amqp_frame.specs.declared.frame_type.AMQPFrameType.TheVariants as kinds
+use Rattle.amqp_frame.specs.Frames.{Frame, Proto, Meth, Head, Body, beat_on}
+use Rattle.amqp_frame.specs.Canonical.{canon}
+use Rattle.amqp_frame.specs.Spelling.{framed, proto}
+use Rattle.amqp_frame.specs.Verdicts.{all_of, filling, whole_as}
+use Rattle.amqp_frame.proofs.Payloads.{filled_took}
+use Rattle.amqp_frame.proofs.Rewritten.{canon_beat, header_shorter, method_shorter}
+use Rattle.amqp_lent.proofs.Parts.{front_bytes}
+
+mapped : {A : Type 0} (make : A → Frame) (r : Result A Fault) (f : Frame) → read_map make r ≡ Ok f → (x : A) × (r ≡ Ok x) × (make x ≡ f)
+mapped make (Ok x) f h = (x, refl, cc)
+mapped make (Err bad) f h = absurd cc
+
+pub method_canon : (channel : ℕ) (payload : List ℕ) (frame : Frame) → whole_as kinds.Method channel payload ≡ Ok frame → IsRead (judge_payload payload) × (framed 1 channel (canonical_of payload_bytes (judge_payload payload)) ≡ canon frame)
+unfolding whole_as canon
+method_canon channel payload frame h =
+    let one = mapped (λ m. Meth channel m) (all_of judge_payload payload) frame h in
+    let is = filled_took (length payload) (judge_payload payload) one.0 one.1 in
+    (is_read (judge_payload payload) one.0 (length payload) is, ap (λ j. framed 1 channel (canonical_of payload_bytes j)) is ∙ ap canon one.2)
+
+pub header_canon : (channel : ℕ) (payload : List ℕ) (frame : Frame) → whole_as kinds.Header channel payload ≡ Ok frame → IsRead (judge_content_header payload) × (framed 2 channel (canonical_of content_header_bytes (judge_content_header payload)) ≡ canon frame)
+unfolding whole_as canon
+header_canon channel payload frame h =
+    let one = mapped (λ header. Head channel header) (all_of judge_content_header payload) frame h in
+    let is = filled_took (length payload) (judge_content_header payload) one.0 one.1 in
+    (is_read (judge_content_header payload) one.0 (length payload) is, ap (λ j. framed 2 channel (canonical_of content_header_bytes j)) is ∙ ap canon one.2)
+
+pub body_canon : (channel : ℕ) (content : List ℕ) (frame : Frame) → whole_as kinds.Body channel content ≡ Ok frame → framed 3 channel content ≡ canon frame
+unfolding whole_as canon
+body_canon channel content frame h = let same : Body channel content ≡ frame = cc in ap canon same
+
+pub version_canon : (channel a b c : ℕ) (frame : Frame) → whole_as kinds.ProtocolHeader channel (a ∷ b ∷ c ∷ []) ≡ Ok frame → proto a b c ≡ canon frame
+unfolding whole_as canon
+version_canon channel a b c frame h = let same : Proto a b c ≡ frame = cc in ap canon same
+
+pub beat_canon : (channel : ℕ) (frame : Frame) → whole_as kinds.Heartbeat channel [] ≡ Ok frame → framed 8 channel [] ≡ canon frame
+unfolding whole_as
+beat_canon channel frame h = let same : beat_on channel ≡ frame = cc in canon_beat channel ∙ ap canon same
+
+-- ---- what a payload is that is a frame
+
+pub ok_is : {A : Type 0} (r : Result A Fault) → IsOk r → (x : A) × (r ≡ Ok x)
+ok_is (Ok x) h = (x, refl)
+ok_is (Err bad) h = absurd (let e = h in cc)
+
+pub is_ok : {A : Type 0} (r : Result A Fault) (x : A) → r ≡ Ok x → IsOk r
+is_ok r x h = subst IsOk (sym h) refl
+
+-- a protocol header has its version alone
+pub version_long : (channel : ℕ) (payload : List ℕ) (frame : Frame) → whole_as kinds.ProtocolHeader channel payload ≡ Ok frame → length payload ≡ 3
+unfolding whole_as
+version_long channel [] frame h = absurd cc
+version_long channel (a ∷ []) frame h = absurd cc
+version_long channel (a ∷ b ∷ []) frame h = absurd cc
+version_long channel (a ∷ b ∷ c ∷ []) frame h = refl
+version_long channel (a ∷ b ∷ c ∷ d ∷ more) frame h = absurd cc
+
+-- on whatever channel
+pub version_any : (one other : ℕ) (payload : List ℕ) → whole_as kinds.ProtocolHeader one payload ≡ whole_as kinds.ProtocolHeader other payload
+unfolding whole_as
+version_any one other [] = refl
+version_any one other (a ∷ []) = refl
+version_any one other (a ∷ b ∷ []) = refl
+version_any one other (a ∷ b ∷ c ∷ []) = refl
+version_any one other (a ∷ b ∷ c ∷ d ∷ more) = refl
+
+-- the payload of a heartbeat means nothing
+pub beat_any : (channel : ℕ) (one other : List ℕ) → whole_as kinds.Heartbeat channel one ≡ whole_as kinds.Heartbeat channel other
+unfolding whole_as
+beat_any channel one other = refl
+
+-- a method has its two ids
+pub method_long : (channel : ℕ) (payload : List ℕ) (frame : Frame) → IsBytes payload → whole_as kinds.Method channel payload ≡ Ok frame → 4 ≤ length payload
+unfolding payload_bytes method_bytes
+method_long channel payload frame fits h =
+    let read = (method_canon channel payload frame h).0 in
+    let one = took_of (judge_payload payload) read in
+    omega (arith, method_shorter payload fits read, ap (λ j. length (canonical_of payload_bytes j)) one.2)
+
+-- a content header has its front
+pub header_long : (channel : ℕ) (payload : List ℕ) (frame : Frame) → IsBytes payload → whole_as kinds.Header channel payload ≡ Ok frame → 12 ≤ length payload
+unfolding content_header_bytes
+header_long channel payload frame fits h =
+    let read = (header_canon channel payload frame h).0 in
+    let one = took_of (judge_content_header payload) read in
+    let front = ap (λ bs. length (bs ++ properties_bytes one.0.options)) (front_bytes one.0.class_id one.0.body_size) in
+    omega (arith, header_shorter payload fits read, ap (λ j. length (canonical_of content_header_bytes j)) one.2, front)
+
+-- payloads of one length of which the same header is read are the same frame
+pub header_whole : (channel : ℕ) (one other : List ℕ) → judge_content_header one ≡ judge_content_header other → length one ≡ length other → whole_as kinds.Header channel one ≡ whole_as kinds.Header channel other
+unfolding whole_as
+header_whole channel one other same long = ap (λ j. read_map (λ header. Head channel header) (filling (length one) j)) same ∙ ap (λ n. read_map (λ header. Head channel header) (filling n (judge_content_header other))) long

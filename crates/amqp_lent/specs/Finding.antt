@@ -1,0 +1,40 @@
+-- What is found in a table by a key.
+use Rattle.std.specs.Prelude.{◌≡◌, ℕ, List, [], ◌∷◌, Option, Some, None}
+use Rattle.amqp_types.specs.Settling.{last_at, value_at}
+use Rattle.amqp_types.specs.Values.{Entry, FieldValue}
+use Rattle.amqp_types.specs.ValueJudging.{filled, judge_value}
+use Rattle.amqp_canonical.specs.Judgements.{IsBelow}
+use Rattle.amqp_canonical.specs.Marks.{IsAfter, entry_at, entry_of}
+use Rattle.amqp_canonical.specs.Writes.{IsRead, items_of}
+
+-- The key is the least one of the table after the last one, where there is a last one, and the value its own.
+pub record IsLeastAfter (last : Option (List ℕ)) (table : List Entry) (e : Entry) : Type 0 where
+  pub after : IsAfter last e.0
+  pub value : value_at e.0 table ≡ Some e.1
+  pub least : (other : List ℕ) (w : FieldValue) → IsAfter last other → value_at other table ≡ Some w → IsBelow other e.0 → ⊥
+
+-- no key of the table comes after the last one
+abbrev pub HasNoneAfter : Option (List ℕ) → List Entry → Type 0
+HasNoneAfter last table = (other : List ℕ) (w : FieldValue) → IsAfter last other → value_at other table ≡ Some w → ⊥
+
+abbrev pub FindsAfter : Option (List ℕ) → List Entry → Option Entry → Type 0
+FindsAfter last table None = HasNoneAfter last table
+FindsAfter last table (Some e) = IsLeastAfter last table e
+
+-- the last of these entries with this key stands at the place
+pub record IsLastAt (room : ℕ) (content key : List ℕ) (es : List Entry) (place : ℕ) : Type 0 where
+  pub read : IsRead (entry_at room content place)
+  pub value : last_at key es ≡ Some (entry_of (entry_at room content place)).1
+
+abbrev pub FindsLast : ℕ → List ℕ → List ℕ → List Entry → Option ℕ → Type 0
+FindsLast room content key es None = last_at key es ≡ None
+FindsLast room content key es (Some place) = IsLastAt room content key es place
+
+-- the values that fill some bytes
+abbrev pub values_in : ℕ → List ℕ → List FieldValue
+values_in room content = items_of (filled (judge_value room) 0 content)
+
+-- the first of the values that fill an array, and the bytes of the others
+abbrev pub StartsWith : ℕ → List ℕ → Option (FieldValue × List ℕ) → Type 0
+StartsWith room content None = values_in room content ≡ []
+StartsWith room content (Some found) = values_in room content ≡ found.0 ∷ values_in room found.1

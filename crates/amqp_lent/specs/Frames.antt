@@ -1,0 +1,41 @@
+-- What borrowed frames stand for.
+use Rattle.std.specs.Prelude.{◌≡◌, ◌≢◌, ℕ, List, [], ◌∷◌, Result, Ok, Err}
+use Rattle.amqp_types.specs.Judging.{Fault}
+use Rattle.amqp_types.specs.Answers.{RefusesWhole}
+use Rattle.amqp_types.specs.declared.errors.ParserError.{ParserError}
+use Rattle.amqp_types.specs.declared.errors.ParserError.TheVariants as errors
+use Rattle.amqp_frame.specs.declared.frame_type.AMQPFrameType.{AMQPFrameType}
+use Rattle.amqp_frame.specs.declared.frame_type.AMQPFrameType.TheVariants as kinds
+use Rattle.amqp_frame.specs.Frames.{Frame, Raw}
+use Rattle.amqp_frame.specs.Verdicts.{whole}
+use Rattle.amqp_lent.specs.Payloads.{header_payload, method_payload}
+use Rattle.amqp_lent.specs.declared.frame.LentFrame.{LentFrame}
+use Rattle.amqp_lent.specs.declared.frame.LentFrame.TheVariants as frames
+
+abbrev pub raw : AMQPFrameType → ℕ → List ℕ → Raw
+raw kind channel payload = record { kind = kind; channel = channel; payload = payload }
+
+-- type, channel and payload; the channel is 0 where none is held
+abbrev pub raw_of : LentFrame → Raw
+raw_of (frames.ProtocolHeader version) = raw kinds.ProtocolHeader 0 (version.major ∷ version.minor ∷ version.revision ∷ [])
+raw_of (frames.Method channel class id slots) = raw kinds.Method channel (method_payload class id slots.now)
+raw_of (frames.Header channel class size properties) = raw kinds.Header channel (header_payload class size properties.now)
+raw_of (frames.Body channel content) = raw kinds.Body channel content.now
+raw_of frames.Heartbeat = raw kinds.Heartbeat 0 []
+raw_of (frames.InvalidHeartbeat channel) = raw kinds.Heartbeat channel []
+
+abbrev pub payload_of : LentFrame → List ℕ
+payload_of lent = (raw_of lent).payload
+
+-- a borrowed frame stands for the frame that its payload is
+abbrev pub StandsFor : LentFrame → Frame → Type 0
+StandsFor lent frame = whole (raw_of lent) ≡ Ok frame
+
+-- it stands for a frame
+abbrev pub IsFrame : LentFrame → Type 0
+IsFrame lent = (frame : Frame) × StandsFor lent frame
+
+-- What stands for the frame that was read is returned, or why none was read. Memory never runs out.
+abbrev pub Lends : Result LentFrame ParserError → Result Frame Fault → Type 0
+Lends (Ok lent) read = (frame : Frame) × (read ≡ Ok frame) × StandsFor lent frame
+Lends (Err error) read = (error ≢ errors.NoMemory) × RefusesWhole error read

@@ -1,0 +1,127 @@
+//! A codec that takes no memory once it is open.
+
+ghost use Rattle.std.specs.Prelude.{◌≡◌, ◌≢◌, ◌⊎◌, ℕ, List, Some, Ok, Err, IfOk};
+ghost use Rattle.amqp_types.specs.Levels.{plain};
+ghost use Rattle.amqp_stream.specs.Transcribing.{NeverBegan, IsValid, NoFaults, IsOkOrNoMemory};
+ghost use Rattle.amqp_stream.specs.Canonicalizing.{Canonicalizes, AnswersExactly};
+ghost use Rattle.amqp_lent.specs.Errors.{as_stream, stream_error};
+
+use crate::errors::LentError;
+use amqp_stream::{Codec, Sink, Source, StreamError};
+use amqp_types::{ChunkSize, NoMemory, Profile};
+use std::alloc::Global;
+use std::marker::Model;
+
+/// A codec that canonicalizes streams and takes no memory once it is open. In contracts it is the limit of payloads.
+#[derive(Drop)]
+pub struct LentCodec {
+    codec: Codec,
+}
+
+impl Model for LentCodec {
+    ghost use Rattle.std.specs.Prelude.{ℕ};
+
+    ghost Value = { ℕ };
+
+    ghost view = { λ lent. lent.codec };
+}
+
+/// The same error, which is neither of the two that never come.
+fn lent_error(error: StreamError) -> LentError
+    requires memory { error ≢ StreamError.NoMemory }
+    requires never_untidy { error ≢ StreamError.NotTidy }
+    ensures { stream_error result ≡ error }
+{
+    match error {
+        StreamError::UnknownFrameType => LentError::UnknownFrameType,
+        StreamError::BadProtocolHeader => LentError::BadProtocolHeader,
+        StreamError::TooLarge => LentError::TooLarge,
+        StreamError::BadFrameEnd => LentError::BadFrameEnd,
+        StreamError::UnknownClass => LentError::UnknownClass,
+        StreamError::UnknownMethod => LentError::UnknownMethod,
+        StreamError::ShortPayload => LentError::ShortPayload,
+        StreamError::TrailingBytes => LentError::TrailingBytes,
+        StreamError::NotUtf8 => LentError::NotUtf8,
+        StreamError::UnknownTag => LentError::UnknownTag,
+        StreamError::TooDeep => LentError::TooDeep,
+        StreamError::CutShort => LentError::CutShort,
+        StreamError::TurnsSpent => LentError::TurnsSpent,
+        StreamError::ReadFault => LentError::ReadFault,
+        StreamError::WriteFault => LentError::WriteFault,
+        StreamError::NotTidy => unreachable!(),
+        StreamError::NoMemory => unreachable!(),
+    }
+}
+
+impl LentCodec {
+    /// A codec for payloads of at most so many bytes. All its memory is taken here.
+    pub fn open(alloc: Global, max_payload: ChunkSize) -> Result<LentCodec, NoMemory>
+        ensures { IfOk result (λ codec. codec ≡ max_payload) }
+    {
+        let codec = Codec::open(alloc, max_payload)?;
+        Ok(LentCodec { codec })
+    }
+
+    /// Writes the canonical bytes of each frame that can be read, to the end of input or an error. Each read takes one of
+    /// the read budget. What an earlier call left in the codec is dropped.
+    pub fn canonicalize<S: Source, K: Sink>(
+        &mut self,
+        source: &mut S,
+        sink: &mut K,
+        turns: u64,
+    ) -> Result<(), LentError>
+        ensures limit { self.new ≡ self.old }
+        ensures stream { Canonicalizes plain self.old turns (S.supply source.old) (S.supply source.new)
+            (K.store sink.old) (K.store sink.new) (as_stream result) }
+        ensures unread { turns ≡ 0 → source.new ≡ source.old }
+
+        // Over a source that tells its bytes, the answer is by all of them, however they are cut.
+        ensures exact { (bytes : List ℕ) → (S.supply source.old).left ≡ Some bytes
+            → AnswersExactly plain self.old bytes (K.store sink.old) (K.store sink.new) (as_stream result) }
+        ensures complete { (bytes : List ℕ) → (S.supply source.old).left ≡ Some bytes
+            → IsValid plain self.old turns bytes
+            → NoFaults (S.supply source.old) (S.supply source.new) (K.store sink.old) (K.store sink.new)
+            → result ≡ Ok tt }
+    {
+        match self.codec.rewrite(Profile::Plain, source, sink, turns) {
+            Ok(()) => Ok(()),
+            Err(error) => Err(lent_error(error)),
+        }
+    }
+}
+
+/// Opens a codec, and canonicalizes with it what can be read. Memory runs out before the first read, or not at all.
+pub fn canonicalize_lent<S: Source, K: Sink>(
+    alloc: Global,
+    source: &mut S,
+    sink: &mut K,
+    max_payload: ChunkSize,
+    turns: u64,
+) -> Result<(), StreamError>
+    ensures stream { Canonicalizes plain max_payload turns (S.supply source.old) (S.supply source.new)
+        (K.store sink.old) (K.store sink.new) result
+        ⊎ NeverBegan (S.supply source.old) (S.supply source.new) (K.store sink.old) (K.store sink.new) result }
+    ensures unread { turns ≡ 0 → source.new ≡ source.old }
+    ensures memory { result ≡ Err StreamError.NoMemory
+        → NeverBegan (S.supply source.old) (S.supply source.new) (K.store sink.old) (K.store sink.new) result }
+    ensures never_untidy { result ≢ Err StreamError.NotTidy }
+
+    // Over a source that tells its bytes, the answer is by all of them, however they are cut.
+    ensures exact { (bytes : List ℕ) → (S.supply source.old).left ≡ Some bytes
+        → AnswersExactly plain max_payload bytes (K.store sink.old) (K.store sink.new) result }
+    ensures complete { (bytes : List ℕ) → (S.supply source.old).left ≡ Some bytes
+        → IsValid plain max_payload turns bytes
+        → NoFaults (S.supply source.old) (S.supply source.new) (K.store sink.old) (K.store sink.new)
+        → IsOkOrNoMemory result }
+{
+    match LentCodec::open(alloc, max_payload) {
+        Ok(codec) => {
+            let mut codec = codec;
+            match codec.canonicalize(source, sink, turns) {
+                Ok(()) => Ok(()),
+                Err(error) => Err(StreamError::from(error)),
+            }
+        }
+        Err(_) => Err(StreamError::NoMemory),
+    }
+}

@@ -1,0 +1,26 @@
+//! Tables, arrays and frames of AMQP 0-9-1 borrowed from bytes that were judged, and a codec that takes no memory once it is open.
+#![tactic(auto)]
+
+mod codec;
+mod errors;
+mod frame;
+#[cfg(test)]
+mod frame_tests;
+mod measuring;
+mod payload_measuring;
+mod payload_parts;
+mod payload_writing;
+mod reading;
+mod slot_measuring;
+mod table;
+#[cfg(test)]
+mod tests;
+mod value;
+mod writing;
+
+pub use codec::{LentCodec, canonicalize_lent};
+pub use errors::LentError;
+pub use frame::{LentFrame, lent_frame};
+pub use table::lent_table;
+pub use value::{LentArray, LentItems, LentTable, LentValue};
+pub use writing::{lent_size, write_lent};

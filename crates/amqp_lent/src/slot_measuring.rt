@@ -1,0 +1,85 @@
+//! How many canonical bytes there are for slots and properties that were judged.
+
+ghost use Rattle.std.specs.Prelude.{◌≡◌, ◌<◌, ◌^◌, length};
+ghost use Rattle.amqp_types.specs.Properties.{properties};
+ghost use Rattle.amqp_types.specs.PropertyJudging.{judge_properties, judge_set};
+ghost use Rattle.amqp_types.specs.PropertyBytes.{properties_bytes, set_bytes};
+ghost use Rattle.amqp_types.specs.SlotBytes.{form_bytes, slots_bytes};
+ghost use Rattle.amqp_types.specs.SlotJudging.{judge_form, judge_slot, judge_slots};
+ghost use Rattle.amqp_canonical.specs.Shapes.{form_of, slot_of, slots_of};
+ghost use Rattle.amqp_canonical.specs.Writes.{IsRead, canonical_of, slot_bytes};
+
+use crate::measuring::size_table;
+use amqp_canonical::{Shape, bytes_from, has_bit, property_shapes, slot_size};
+use amqp_types::parse_short_uint;
+
+/// The size in canonical bytes of what is spelled as a slot of this shape, reserved or not.
+fn size_form(shape: Shape, i: &[u8]) -> usize
+    requires read { IsRead (judge_form (form_of shape) i.now) }
+    ensures { result ≡ length (canonical_of (form_bytes (form_of shape)) (judge_form (form_of shape) i.now)) }
+{
+    match shape {
+        Shape::Table => size_table(i, 63),
+        other => slot_size(other, i),
+    }
+}
+
+/// The size of a slot in canonical bytes.
+fn size_slot(shape: Shape, i: &[u8]) -> usize
+    requires read { IsRead (judge_slot (slot_of shape) i.now) }
+    ensures { result ≡ length (canonical_of (slot_bytes (slot_of shape)) (judge_slot (slot_of shape) i.now)) }
+{
+    match shape {
+        Shape::ReservedShort(_) => 2,
+        Shape::ReservedLong(_) => 4,
+        Shape::ReservedFlag => 1,
+        Shape::ReservedShortString => 1,
+        Shape::ReservedLongString => 4,
+        kept => size_form(kept, i),
+    }
+}
+
+/// The size in canonical bytes of slots of these shapes.
+pub(crate) fn size_slots(shapes: &[Shape], i: &[u8]) -> usize
+    requires read { IsRead (judge_slots (slots_of shapes.now) i.now) }
+    requires few { length (canonical_of (slots_bytes (slots_of shapes.now)) (judge_slots (slots_of shapes.now) i.now)) < 2 ^ 32 }
+    ensures { result ≡ length (canonical_of (slots_bytes (slots_of shapes.now)) (judge_slots (slots_of shapes.now) i.now)) }
+{
+    let mut total = 0;
+    let mut rest = i;
+    for shape in shapes {
+        total += size_slot(*shape, rest);
+        rest = bytes_from(rest, slot_size(*shape, rest));
+    }
+    total
+}
+
+/// The size in canonical bytes of the properties whose bits are set in the mask.
+fn size_set(mask: u16, i: &[u8]) -> usize
+    requires read { IsRead (judge_set mask properties i.now) }
+    requires few { length (canonical_of (set_bytes properties) (judge_set mask properties i.now)) < 2 ^ 32 }
+    ensures { result ≡ length (canonical_of (set_bytes properties) (judge_set mask properties i.now)) }
+{
+    let shapes = property_shapes();
+    let mut total = 0;
+    let mut rest = i;
+    for shape in shapes {
+        if has_bit(mask, shape.0) {
+            total += size_form(shape.1, rest);
+            rest = bytes_from(rest, slot_size(shape.1, rest));
+        }
+    }
+    total
+}
+
+/// The size in canonical bytes of a mask and of the properties whose bits are set in it.
+pub(crate) fn size_properties(i: &[u8]) -> usize
+    requires read { IsRead (judge_properties i.now) }
+    requires few { length (canonical_of properties_bytes (judge_properties i.now)) < 2 ^ 32 }
+    ensures { result ≡ length (canonical_of properties_bytes (judge_properties i.now)) }
+{
+    match parse_short_uint(i) {
+        Ok((_, mask)) => 2 + size_set(mask, bytes_from(i, 2)),
+        Err(_) => 0,
+    }
+}
