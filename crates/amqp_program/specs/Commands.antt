@@ -16,8 +16,9 @@ command_named word =
     if bytes_eq word (codes "hex") then Some commands.Hex
     else (if bytes_eq word (codes "raw") then Some commands.Raw
     else (if bytes_eq word (codes "tidy") then Some commands.Tidy
+    else (if bytes_eq word (codes "lent") then Some commands.Lent
     else (if bytes_eq word (codes "--help") then Some commands.Help
-    else (if bytes_eq word (codes "--version") then Some commands.Version else None))))
+    else (if bytes_eq word (codes "--version") then Some commands.Version else None)))))
 
 -- the number of frames that a word names: the word is how the number is printed, and so many frames can be made
 unfoldable pub frames_named : List ℕ → Option ℕ

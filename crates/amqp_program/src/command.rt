@@ -15,6 +15,9 @@ pub enum Command {
     /// `tidy`: as `hex`, and takes tidy frames alone.
     Tidy,
 
+    /// `lent`: canonicalizes bytes, and takes memory only before the first read.
+    Lent,
+
     /// `make N`: makes so many frames, and prints the number of their bytes and of their
     /// canonical bytes.
     Make(u32),
@@ -57,6 +60,7 @@ fn parse_word(word: &str) -> Option<Command>
         "hex" => Some(Command::Hex),
         "raw" => Some(Command::Raw),
         "tidy" => Some(Command::Tidy),
+        "lent" => Some(Command::Lent),
         "--help" => Some(Command::Help),
         "--version" => Some(Command::Version),
         _ => None,
