@@ -16,14 +16,15 @@ command_named word =
     if bytes_eq word (codes "hex") then Some commands.Hex
     else (if bytes_eq word (codes "raw") then Some commands.Raw
     else (if bytes_eq word (codes "tidy") then Some commands.Tidy
+    else (if bytes_eq word (codes "lent") then Some commands.Lent
     else (if bytes_eq word (codes "--help") then Some commands.Help
-    else (if bytes_eq word (codes "--version") then Some commands.Version else None))))
+    else (if bytes_eq word (codes "--version") then Some commands.Version else None)))))
 
--- the number of frames that a word names: the word is how the number is printed, and so many frames can be made
-unfoldable pub frames_named : List ℕ → Option ℕ
-frames_named word =
+-- the number that a word names, up to a greatest: the word is how the number is printed
+unfoldable pub number_named : ℕ → List ℕ → Option ℕ
+number_named most word =
     let n = digits_value 10 word in
-    if bytes_eq word (decimal n) && nat_le n most_frames then Some n else None
+    if bytes_eq word (decimal n) && nat_le n most then Some n else None
 
 -- no number is printed so: a plus stands first, or a zero and more behind it
 abbrev pub has_padding : List ℕ → Bool
@@ -31,7 +32,7 @@ has_padding word = (slice_index word 0 == 43) || (nat_lt 1 (length word) && (sli
 
 -- the command of two words: `make` and a number of frames
 abbrev pub command_with : List ℕ → List ℕ → Option Command
-command_with word number = if bytes_eq word (codes "make") then option_map commands.Make (frames_named number) else None
+command_with word number = if bytes_eq word (codes "make") then option_map commands.Make (number_named most_frames number) else None
 
 -- the command that the words after the program's name ask for, but for selections: each form is one word, or two
 abbrev pub command_of : List (List ℕ) → Option Command

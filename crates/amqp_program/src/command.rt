@@ -1,7 +1,9 @@
+//! The words after the program's name, and what they ask for.
+
 ghost use Rattle.std.specs.Prelude.{◌≡◌};
 ghost use Rattle.std.specs.Option.{option_map};
 ghost use Rattle.amqp_select.specs.Refusals.{texts_of};
-ghost use Rattle.amqp_program.specs.Commands.{after_select, command_named, command_of, command_with, frames_named, has_padding};
+ghost use Rattle.amqp_program.specs.Commands.{after_select, command_named, command_of, command_with, has_padding, number_named};
 
 /// What the words ask for.
 #[derive(Clone, Copy, Debug, PartialEq, Eq)]
@@ -14,6 +16,9 @@ pub enum Command {
 
     /// `tidy`: as `hex`, and takes tidy frames alone.
     Tidy,
+
+    /// `lent`: canonicalizes bytes, and takes memory only before the first read.
+    Lent,
 
     /// `make N`: makes so many frames, and prints the number of their bytes and of their
     /// canonical bytes.
@@ -36,15 +41,15 @@ fn is_padded(word: &str) -> bool
     word.starts_with('+') || word.len() > 1 && word.starts_with('0')
 }
 
-/// The number of frames that a word names: `0`, or digits without a leading zero.
-fn parse_frames(word: &str) -> Option<u32>
-    ensures { result ≡ frames_named word.now }
+/// The number that a word names, up to `most`: `0`, or digits without a leading zero.
+fn parse_number(word: &str, most: u32) -> Option<u32>
+    ensures { result ≡ number_named most word.now }
 {
     if is_padded(word) {
         return None;
     }
     match word.parse::<u32>() {
-        Ok(frames) if frames <= MAX_FRAMES => Some(frames),
+        Ok(number) if number <= most => Some(number),
         _ => None,
     }
 }
@@ -57,6 +62,7 @@ fn parse_word(word: &str) -> Option<Command>
         "hex" => Some(Command::Hex),
         "raw" => Some(Command::Raw),
         "tidy" => Some(Command::Tidy),
+        "lent" => Some(Command::Lent),
         "--help" => Some(Command::Help),
         "--version" => Some(Command::Version),
         _ => None,
@@ -70,7 +76,7 @@ fn parse_words(word: &str, number: &str) -> Option<Command>
     if word != "make" {
         return None;
     }
-    match parse_frames(number) {
+    match parse_number(number, MAX_FRAMES) {
         Some(frames) => Some(Command::Make(frames)),
         None => None,
     }

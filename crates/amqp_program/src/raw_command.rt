@@ -1,6 +1,9 @@
+//! Canonicalizes bytes, by the codec or by its borrowed form.
+
 ghost use Rattle.amqp_program.specs.Runs.{RunsRaw};
 
 use crate::report::MAX_PAYLOAD;
+use amqp_lent::canonicalize_lent;
 use amqp_stream::{Sink, Source, canonicalize};
 use std::alloc::Global;
 
@@ -13,6 +16,17 @@ pub fn run_raw<S: Source, K: Sink>(alloc: Global, source: &mut S, sink: &mut K) 
     ensures { RunsRaw (S.supply source.old) (S.supply source.new) (K.store sink.old) (K.store sink.new) result }
 {
     match canonicalize(alloc, source, sink, MAX_PAYLOAD, RAW_TURNS) {
+        Ok(()) => 0,
+        Err(error) => error.status(),
+    }
+}
+
+/// The same by borrowed frames, which take memory only before the first read.
+#[tactic(auto, using(crate::proofs::RawRuns::raw_runs))]
+pub fn run_lent<S: Source, K: Sink>(alloc: Global, source: &mut S, sink: &mut K) -> u8
+    ensures { RunsRaw (S.supply source.old) (S.supply source.new) (K.store sink.old) (K.store sink.new) result }
+{
+    match canonicalize_lent(alloc, source, sink, MAX_PAYLOAD, RAW_TURNS) {
         Ok(()) => 0,
         Err(error) => error.status(),
     }

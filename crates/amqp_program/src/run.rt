@@ -12,7 +12,7 @@ use crate::command::{Command, parse_command, rules_of};
 use crate::hex_command::run_hex;
 use crate::make_command::run_make;
 use crate::print_command::{HELP, VERSION, print};
-use crate::raw_command::run_raw;
+use crate::raw_command::{run_lent, run_raw};
 use crate::select_command::run_select;
 use amqp_stream::{Sink, Source};
 use amqp_types::Profile;
@@ -27,6 +27,8 @@ pub fn run<S: Source, K: Sink>(alloc: Global, words: &[String], source: &mut S, 
     ensures tidy { command_of (texts_of words.now) ≡ Some Command.Tidy
         → RunsHex tidy (S.supply source.old) (S.supply source.new) (K.store sink.old) (K.store sink.new) result }
     ensures raw { command_of (texts_of words.now) ≡ Some Command.Raw
+        → RunsRaw (S.supply source.old) (S.supply source.new) (K.store sink.old) (K.store sink.new) result }
+    ensures lent { command_of (texts_of words.now) ≡ Some Command.Lent
         → RunsRaw (S.supply source.old) (S.supply source.new) (K.store sink.old) (K.store sink.new) result }
     ensures make { (n : ℕ) → command_of (texts_of words.now) ≡ Some (Command.Make n)
         → RunsMake n (K.store sink.old) (K.store sink.new) result × (source.new ≡ source.old) }
@@ -48,6 +50,7 @@ pub fn run<S: Source, K: Sink>(alloc: Global, words: &[String], source: &mut S, 
         Some(Command::Hex) => run_hex(alloc, Profile::Plain, source, sink),
         Some(Command::Tidy) => run_hex(alloc, Profile::Tidy, source, sink),
         Some(Command::Raw) => run_raw(alloc, source, sink),
+        Some(Command::Lent) => run_lent(alloc, source, sink),
         Some(Command::Make(frames)) => run_make(alloc, frames, sink),
         Some(Command::Help) => print(sink, HELP),
         Some(Command::Version) => print(sink, VERSION),

@@ -84,9 +84,16 @@ fn hex_reports(rt: HostRuntime) -> Result<(), Fail> {
     Ok(())
 }
 
+/// A broker's Start as it is read, and its canonical bytes.
+const START: [u8; 97] = [1, 0, 0, 0, 0, 0, 89, 0, 10, 0, 10, 0, 9, 0, 0, 0, 52, 7, 112, 114, 111, 100, 117, 99, 116, 83, 0, 0, 0, 8, 82, 97, 98, 98, 105, 116, 77, 81, 12, 99, 97, 112, 97, 98, 105, 108, 105, 116, 105, 101, 115, 70, 0, 0, 0, 13, 10, 98, 97, 115, 105, 99, 46, 110, 97, 99, 107, 116, 1, 0, 0, 0, 14, 80, 76, 65, 73, 78, 32, 65, 77, 81, 80, 76, 65, 73, 78, 0, 0, 0, 5, 101, 110, 95, 85, 83, 206];
+const CANONICAL_START: [u8; 97] = [1, 0, 0, 0, 0, 0, 89, 0, 10, 0, 10, 0, 9, 0, 0, 0, 52, 12, 99, 97, 112, 97, 98, 105, 108, 105, 116, 105, 101, 115, 70, 0, 0, 0, 13, 10, 98, 97, 115, 105, 99, 46, 110, 97, 99, 107, 116, 1, 7, 112, 114, 111, 100, 117, 99, 116, 83, 0, 0, 0, 8, 82, 97, 98, 98, 105, 116, 77, 81, 0, 0, 0, 14, 80, 76, 65, 73, 78, 32, 65, 77, 81, 80, 76, 65, 73, 78, 0, 0, 0, 5, 101, 110, 95, 85, 83, 206];
+
+/// A Declare of a queue with an argument of a tag that no value has.
+const UNKNOWN_TAG: [u8; 22] = [1, 0, 1, 0, 0, 0, 14, 0, 50, 0, 10, 0, 0, 0, 0, 0, 0, 0, 2, 0, 90, 206];
+
 #[test]
-fn raw_tells_by_the_status(rt: HostRuntime) -> Result<(), Fail> {
-    let rows: [(&[u8], &[u8], u8); 3] = [
+fn bytes_are_told_by_the_status(rt: HostRuntime) -> Result<(), Fail> {
+    let rows: [(&[u8], &[u8], u8); 5] = [
         (
             &[8, 0, 0, 0, 0, 0, 1, 7, 206, 9],
             &[8, 0, 0, 0, 0, 0, 0, 206],
@@ -102,11 +109,15 @@ fn raw_tells_by_the_status(rt: HostRuntime) -> Result<(), Fail> {
             &[65, 77, 81, 80, 0, 0, 9, 1],
             0,
         ),
+        (&START, &CANONICAL_START, 0),
+        (&UNKNOWN_TAG, &[], 19),
     ];
     for (bytes, written, status) in rows {
-        let found = ran(rt.alloc(), &["raw"], bytes, &[1; 30])?;
-        assert_eq!(rt; found.0, status);
-        assert_eq!(rt; found.1.as_slice(), written);
+        for word in ["raw", "lent"] {
+            let found = ran(rt.alloc(), &[word], bytes, &[1; 110])?;
+            assert_eq!(rt; found.0, status, "{word}");
+            assert_eq!(rt; found.1.as_slice(), written, "{word}");
+        }
     }
     Ok(())
 }
@@ -142,9 +153,10 @@ fn a_text_has_a_longest(rt: HostRuntime) -> Result<(), Fail> {
 
 #[test]
 fn words_are_told_apart(rt: HostRuntime) -> Result<(), Fail> {
-    let rows: [(&[&str], u8, &str); 12] = [
+    let rows: [(&[&str], u8, &str); 13] = [
         (&[], 2, ""),
         (&["hex", "x"], 2, ""),
+        (&["lent", "x"], 2, ""),
         (&["make"], 2, ""),
         (&["make", ""], 2, ""),
         (&["make", "100001"], 2, ""),

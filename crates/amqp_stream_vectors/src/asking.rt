@@ -1,5 +1,6 @@
 //! How streams are tested: what canonicalizing some bytes returns, and what it writes.
 
+use amqp_lent::canonicalize_lent;
 use amqp_stream::{PieceSource, Source, StreamError, VecSink, canonicalize};
 use amqp_vectors::asking::{same, same_in};
 use std::alloc::Global;
@@ -58,8 +59,8 @@ pub fn ends<S: Source>(
     same(sink.bytes(), written)
 }
 
-/// Fails unless canonicalizing the bytes, read in these pieces, returns this outcome and writes these bytes. It
-/// may make one read more than there are bytes.
+/// Fails unless canonicalizing the bytes, read in these pieces, returns this outcome and writes these bytes, by the
+/// codec and by the borrowed one. Each may make one read more than there are bytes.
 fn canonicalizes_in(
     alloc: Global,
     row: &str,
@@ -68,10 +69,15 @@ fn canonicalizes_in(
     outcome: Result<(), StreamError>,
     written: &[u8],
 ) -> Result<(), Fail> {
+    let turns = bytes.len() as u64 + 1;
     let mut source = PieceSource::new(bytes, pieces, &[]);
     let mut sink = VecSink::new(alloc);
-    let turns = bytes.len() as u64 + 1;
     let found = canonicalize(alloc, &mut source, &mut sink, LIMIT, turns);
+    same_in(row, found, outcome)?;
+    same_in(row, sink.bytes(), written)?;
+    let mut source = PieceSource::new(bytes, pieces, &[]);
+    let mut sink = VecSink::new(alloc);
+    let found = canonicalize_lent(alloc, &mut source, &mut sink, LIMIT, turns);
     same_in(row, found, outcome)?;
     same_in(row, sink.bytes(), written)
 }
