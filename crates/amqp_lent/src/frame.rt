@@ -95,11 +95,7 @@ fn heartbeat_on<'a>(channel: ChannelId) -> LentFrame<'a>
 }
 
 /// Borrows the frame that a judged payload of this type is.
-fn lent_as<'a>(
-    frame_type: AMQPFrameType,
-    channel: ChannelId,
-    payload: &'a [u8],
-) -> LentFrame<'a>
+fn lent_as<'a>(frame_type: AMQPFrameType, channel: ChannelId, payload: &'a [u8]) -> LentFrame<'a>
     requires whole { IsOk (whole_as frame_type channel payload.now) }
     ensures same { whole (raw_of_lent result) ≡ whole_as frame_type channel payload.now }
     ensures within { length (payload_of result) ≤ length payload.now }

@@ -32,7 +32,10 @@ fn writes(rt: &impl Abort, frame: AMQPRawFrame<'_>, wanted: &[u8]) {
     assert_eq!(rt; buf[wanted.len()], 9);
     let mut short = [9; 32];
     let few = wanted.len() - 1;
-    assert_eq!(rt; write_lent(&mut short[..few], lent), Err(GenError::BufferTooSmall));
+    assert_eq!(rt;
+        write_lent(&mut short[..few], lent),
+        Err(GenError::BufferTooSmall)
+    );
     assert_eq!(rt; short, [9; 32]);
 }
 
@@ -50,25 +53,53 @@ fn frames_are_written(rt: HostRuntime) {
             2, 0, 1, 0, 0, 0, 14, 0, 60, 0, 0, 0, 0, 0, 0, 0, 0, 0, 5, 0, 0, 206,
         ],
     );
-    writes(&rt, raw(AMQPFrameType::Body, 2, &[104, 105]), &[3, 0, 2, 0, 0, 0, 2, 104, 105, 206]);
-    writes(&rt, raw(AMQPFrameType::Heartbeat, 0, &[7]), &[8, 0, 0, 0, 0, 0, 0, 206]);
-    writes(&rt, raw(AMQPFrameType::Heartbeat, 1, &[]), &[8, 0, 1, 0, 0, 0, 0, 206]);
-    writes(&rt, raw(AMQPFrameType::ProtocolHeader, 0, &[0, 9, 1]), b"AMQP\0\0\x09\x01");
+    writes(
+        &rt,
+        raw(AMQPFrameType::Body, 2, &[104, 105]),
+        &[3, 0, 2, 0, 0, 0, 2, 104, 105, 206],
+    );
+    writes(
+        &rt,
+        raw(AMQPFrameType::Heartbeat, 0, &[7]),
+        &[8, 0, 0, 0, 0, 0, 0, 206],
+    );
+    writes(
+        &rt,
+        raw(AMQPFrameType::Heartbeat, 1, &[]),
+        &[8, 0, 1, 0, 0, 0, 0, 206],
+    );
+    writes(
+        &rt,
+        raw(AMQPFrameType::ProtocolHeader, 0, &[0, 9, 1]),
+        b"AMQP\0\0\x09\x01",
+    );
 }
 
 #[test]
 fn frames_are_borrowed(rt: HostRuntime) {
     let version = ProtocolVersion::amqp_0_9_1();
-    assert_eq!(rt; lent_frame(raw(AMQPFrameType::ProtocolHeader, 0, &[0, 9, 1])), Ok(LentFrame::ProtocolHeader(version)));
-    assert_eq!(rt; lent_frame(raw(AMQPFrameType::Heartbeat, 0, &[])), Ok(LentFrame::Heartbeat));
-    assert_eq!(rt; lent_frame(raw(AMQPFrameType::Heartbeat, 3, &[])), Ok(LentFrame::InvalidHeartbeat(3)));
+    assert_eq!(rt;
+        lent_frame(raw(AMQPFrameType::ProtocolHeader, 0, &[0, 9, 1])),
+        Ok(LentFrame::ProtocolHeader(version))
+    );
+    assert_eq!(rt;
+        lent_frame(raw(AMQPFrameType::Heartbeat, 0, &[])),
+        Ok(LentFrame::Heartbeat)
+    );
+    assert_eq!(rt;
+        lent_frame(raw(AMQPFrameType::Heartbeat, 3, &[])),
+        Ok(LentFrame::InvalidHeartbeat(3))
+    );
     let rows: [(&[u8], ParserError); 3] = [
         (&[0, 99], ParserError::UnknownClass),
         (&[0, 60, 0, 1], ParserError::UnknownMethod),
         (&[0, 85, 0, 10], ParserError::ShortPayload),
     ];
     for (payload, wanted) in rows {
-        assert_eq!(rt; lent_frame(raw(AMQPFrameType::Method, 1, payload)), Err(wanted));
+        assert_eq!(rt;
+            lent_frame(raw(AMQPFrameType::Method, 1, payload)),
+            Err(wanted)
+        );
     }
 }
 

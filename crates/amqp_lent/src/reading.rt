@@ -18,10 +18,7 @@ use amqp_values::parse_decimal_value;
 
 /// Borrows an array, in whose values tables and arrays may nest `room` deep.
 #[tactic(auto, using(crate::proofs::Rereading::fully_next), unfolding(amqp_types::specs::ValueJudging::judge_array))]
-fn read_array<'a>(
-    i: &'a [u8],
-    room: usize,
-) -> Result<(usize, LentArray<'a>), ParserError>
+fn read_array<'a>(i: &'a [u8], room: usize) -> Result<(usize, LentArray<'a>), ParserError>
     requires read { IsRead (judge_array (judge_value room) i.now) }
     ensures judged { AnswersFully (λ array. array) result (judge_array (judge_value room) i.now) }
     ensures used { IfOk result (λ found. found.0 ≤ length i.now) }

@@ -10,7 +10,9 @@ const REPEATED: [u8; 21] = [
 
 #[test]
 fn tables_are_read_by_key(rt: HostRuntime) {
-    let (used, table) = lent_table(&[0, 0, 0, 8, 1, 97, 116, 0, 1, 97, 116, 7]).expect(&rt, "a table");
+    let (used, table) = lent_table(&[0, 0, 0, 8, 1, 97, 116, 0, 1, 97, 116, 7]).expect(
+        &rt, "a table",
+    );
     assert_eq!(rt; used, 12);
     assert!(rt; matches!(table.get("a"), Some(LentValue::Boolean(true))));
     assert!(rt; table.get("b").is_none());
@@ -23,7 +25,9 @@ fn tables_are_read_by_key(rt: HostRuntime) {
 
 #[test]
 fn keys_come_in_ascending_order(rt: HostRuntime) {
-    let (_, table) = lent_table(&[0, 0, 0, 9, 1, 99, 86, 1, 97, 86, 1, 98, 86]).expect(&rt, "a table");
+    let (_, table) = lent_table(&[0, 0, 0, 9, 1, 99, 86, 1, 97, 86, 1, 98, 86]).expect(
+        &rt, "a table",
+    );
     let mut last = None;
     for wanted in ["a", "b", "c"] {
         let (key, value) = table.next_after(last).expect(&rt, "an entry");
