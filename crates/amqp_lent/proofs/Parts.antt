@@ -101,7 +101,7 @@ pub front_of : (class size : ℕ) (rest : List ℕ) → class < 2 ^ 16 → size 
 front_of class size rest class_fits size_fits =
     front_read (header_payload class size rest) class 0 size (number_back bytes2 class (0 ∷ 0 ∷ (number_bytes bytes8 size ++ rest)) class_fits) (number_back bytes2 0 (number_bytes bytes8 size ++ rest) (omega arith)) (number_back bytes8 size rest size_fits)
 
-front_bytes : (class size : ℕ) → slots_bytes header_slots (number_item class ∷ number_item size ∷ []) ≡ number_bytes bytes2 class ++ (0 ∷ 0 ∷ number_bytes bytes8 size)
+pub front_bytes : (class size : ℕ) → slots_bytes header_slots (number_item class ∷ number_item size ∷ []) ≡ number_bytes bytes2 class ++ (0 ∷ 0 ∷ number_bytes bytes8 size)
 unfolding header_slots slots_bytes form_bytes
 front_bytes class size = refl
 

@@ -14,7 +14,8 @@ use amqp_types::{Identifier, PayloadSize};
 pub(crate) fn size_method(class: Identifier, id: Identifier, slots: &[u8]) -> usize
     requires read { IsRead (judge_payload (method_payload class id slots.now)) }
     requires few { length (method_payload class id slots.now) < 2 ^ 32 }
-    ensures { result ≡ length (canonical_of payload_bytes (judge_payload (method_payload class id slots.now))) }
+    ensures size { result ≡ length (canonical_of payload_bytes (judge_payload (method_payload class id slots.now))) }
+    ensures few { result < 2 ^ 32 }
 {
     match shapes_of(class, id) {
         Some(shapes) => 4 + size_slots(shapes, slots),
@@ -26,7 +27,8 @@ pub(crate) fn size_method(class: Identifier, id: Identifier, slots: &[u8]) -> us
 pub(crate) fn size_header(class: Identifier, body_size: PayloadSize, properties: &[u8]) -> usize
     requires read { IsRead (judge_content_header (header_payload class body_size properties.now)) }
     requires few { length (header_payload class body_size properties.now) < 2 ^ 32 }
-    ensures { result ≡ length (canonical_of content_header_bytes (judge_content_header (header_payload class body_size properties.now))) }
+    ensures size { result ≡ length (canonical_of content_header_bytes (judge_content_header (header_payload class body_size properties.now))) }
+    ensures few { result < 2 ^ 32 }
 {
     let _class = class;
     let _size = body_size;

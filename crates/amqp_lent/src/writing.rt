@@ -21,7 +21,7 @@ use amqp_types::{ChannelId, GenError, Identifier, PayloadSize, put_bytes};
 pub fn lent_size(frame: LentFrame<'_>) -> u64
     requires stands { IsFrame frame }
     requires few { length (payload_of frame) < 2 ^ 32 }
-    ensures { (read : Frame) → StandsFor frame read → result ≡ length (canon read) }
+    ensures { (read : Frame) → StandsFor frame.entry read → result ≡ length (canon read) }
 {
     match frame {
         LentFrame::Method {
@@ -91,7 +91,7 @@ fn put_lent(buf: &mut [u8], frame: LentFrame<'_>, size: u64) -> usize
     requires few { length (payload_of frame) < 2 ^ 32 }
     requires measured { (read : Frame) → StandsFor frame read → size ≡ length (canon read) }
     requires room { size ≤ length buf.old }
-    ensures { (read : Frame) → StandsFor frame read → Puts buf.old buf.new 0 (canon read) result }
+    ensures { (read : Frame) → StandsFor frame.entry read → Puts buf.old buf.new 0 (canon read) result }
 {
     match frame {
         LentFrame::Method {
@@ -118,7 +118,7 @@ fn put_lent(buf: &mut [u8], frame: LentFrame<'_>, size: u64) -> usize
 pub fn write_lent(buf: &mut [u8], frame: LentFrame<'_>) -> Result<usize, GenError>
     requires stands { IsFrame frame }
     requires few { length (payload_of frame) < 2 ^ 32 }
-    ensures { (read : Frame) → StandsFor frame read → SliceAnswers buf.old buf.new (Ok (length (canon read))) (canon read) result }
+    ensures { (read : Frame) → StandsFor frame.entry read → SliceAnswers buf.old buf.new (Ok (length (canon read))) (canon read) result }
 {
     let size = lent_size(frame);
     if size > buf.len() as u64 {

@@ -10,11 +10,16 @@ size_properties-requires c =
     let short = header_shorter (header_payload c.args.class c.args.body_size c.args.properties.now) (header_fits c.args.class c.args.body_size c.args.properties.now (λ k. omega (arith, c.type_inv.properties k))) c.requires.read in
     record { read = h.read; few = omega (arith, ap length h.bytes_are, c.requires.few, short) }
 
-pub returns : goal.returns
-returns c =
+pub returns-clause-size : goal.returns-clause-size
+returns-clause-size c =
+    let h = header_parts c.args.class c.args.body_size c.args.properties.now (omega (arith, c.ranges.class)) (omega (arith, c.ranges.body_size)) c.requires.read in
+    omega (arith, c.size_properties.ensures, ap length h.bytes_are)
+
+pub returns-clause-few : goal.returns-clause-few
+returns-clause-few c =
     let h = header_parts c.args.class c.args.body_size c.args.properties.now (omega (arith, c.ranges.class)) (omega (arith, c.ranges.body_size)) c.requires.read in
     let short = header_shorter (header_payload c.args.class c.args.body_size c.args.properties.now) (header_fits c.args.class c.args.body_size c.args.properties.now (λ k. omega (arith, c.type_inv.properties k))) c.requires.read in
-    omega (arith, c.size_properties.ensures, ap length h.bytes_are)
+    omega (arith, c.size_properties.ensures, ap length h.bytes_are, c.requires.few, short)
 
 pub overflow_add-result : goal.overflow_add-result
 overflow_add-result c =

@@ -1,10 +1,7 @@
-use Rattle.std.proofs.Common.{◌≡◌, ◌≤◌, ◌<◌, ◌+◌, ◌-◌, ◌^◌, ℕ, length, sym, ap, subst, ◌∙◌, arith}
+use Rattle.std.proofs.Common.{◌<◌, ◌^◌, length, ap, subst, arith}
 use Rattle.amqp_types.specs.Methods.{judge_payload, payload_bytes}
 use Rattle.amqp_types.specs.ContentHeaders.{judge_content_header, content_header_bytes}
 use Rattle.amqp_canonical.specs.Writes.{canonical_of}
-use Rattle.amqp_frame.specs.Canonical.{canon}
-use Rattle.amqp_frame.specs.Frames.{Frame}
-use Rattle.amqp_frame.specs.Spelling.{framed}
 use Rattle.amqp_frame.proofs.Sizes.{framed_length}
 use Rattle.amqp_lent.specs.declared.frame.LentFrame.{LentFrame}
 use Rattle.amqp_lent.specs.Frames.{IsFrame, StandsFor, payload_of}
@@ -35,14 +32,14 @@ returns-in-Method c = λ read stands.
     let R : LentFrame → Type 0 = λ f. StandsFor f read in
     let here = subst R c.in-Method.is stands in
     let one = method_canon c.in-Method.channel (method_payload c.in-Method.class_id c.in-Method.method_id c.in-Method.slots.now) read here in
-    omega (arith, c.size_method.ensures, framed_length 1 c.in-Method.channel (canonical_of payload_bytes (judge_payload (method_payload c.in-Method.class_id c.in-Method.method_id c.in-Method.slots.now))), ap length one.1)
+    omega (arith, c.size_method.ensures.size, framed_length 1 c.in-Method.channel (canonical_of payload_bytes (judge_payload (method_payload c.in-Method.class_id c.in-Method.method_id c.in-Method.slots.now))), ap length one.1)
 
 pub returns-in-Header : goal.returns-in-Header
 returns-in-Header c = λ read stands.
     let R : LentFrame → Type 0 = λ f. StandsFor f read in
     let here = subst R c.in-Header.is stands in
     let one = header_canon c.in-Header.channel (header_payload c.in-Header.class_id c.in-Header.body_size c.in-Header.properties.now) read here in
-    omega (arith, c.size_header.ensures, framed_length 2 c.in-Header.channel (canonical_of content_header_bytes (judge_content_header (header_payload c.in-Header.class_id c.in-Header.body_size c.in-Header.properties.now))), ap length one.1)
+    omega (arith, c.size_header.ensures.size, framed_length 2 c.in-Header.channel (canonical_of content_header_bytes (judge_content_header (header_payload c.in-Header.class_id c.in-Header.body_size c.in-Header.properties.now))), ap length one.1)
 
 pub returns-in-Body : goal.returns-in-Body
 returns-in-Body c = λ read stands.
@@ -72,3 +69,9 @@ returns-in-InvalidHeartbeat c = λ read stands.
     let here = subst R c.in-InvalidHeartbeat.is stands in
     let one = beat_canon c.in-InvalidHeartbeat.field-0 read here in
     omega (arith, ap length one)
+
+pub overflow_add-result : goal.overflow_add-result
+overflow_add-result c = omega (arith, c.size_method.ensures.few)
+
+pub overflow_add-result-in-Header : goal.overflow_add-result-in-Header
+overflow_add-result-in-Header c = omega (arith, c.size_header.ensures.few)

@@ -1,13 +1,10 @@
-use Rattle.std.proofs.Common.{◌≡◌, ◌≤◌, ◌<◌, ◌+◌, ◌-◌, ◌^◌, ℕ, length, sym, ap, subst, ◌∙◌, arith}
+use Rattle.std.proofs.Common.{◌<◌, ◌^◌, length, ap, subst, ◌∙◌, arith}
 use Rattle.amqp_types.specs.Methods.{judge_payload, payload_bytes}
 use Rattle.amqp_types.specs.ContentHeaders.{judge_content_header, content_header_bytes}
 use Rattle.amqp_canonical.specs.Writes.{canonical_of}
-use Rattle.amqp_frame.specs.Canonical.{canon}
-use Rattle.amqp_frame.specs.Frames.{Frame}
-use Rattle.amqp_frame.specs.Spelling.{framed}
 use Rattle.amqp_frame.proofs.Sizes.{framed_length}
 use Rattle.amqp_lent.specs.declared.frame.LentFrame.{LentFrame}
-use Rattle.amqp_lent.specs.Frames.{IsFrame, StandsFor, payload_of}
+use Rattle.amqp_lent.specs.Frames.{StandsFor, payload_of}
 use Rattle.amqp_lent.specs.Payloads.{header_payload, method_payload}
 use Rattle.amqp_lent.proofs.Standing.{beat_canon, body_canon, header_canon, method_canon, version_canon}
 use Rattle.amqp_canonical.proofs.PutParts.{puts_as}

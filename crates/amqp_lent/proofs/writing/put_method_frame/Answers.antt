@@ -1,7 +1,7 @@
-use Rattle.std.proofs.Common.{◌≡◌, ◌≤◌, ◌<◌, ◌+◌, ◌-◌, ◌^◌, ℕ, length, sym, ap, subst, ◌∙◌, arith}
+use Rattle.std.proofs.Common.{◌≡◌, ◌<◌, ◌-◌, ◌^◌, length, ap, ◌∙◌, arith}
 use Rattle.amqp_types.specs.Methods.{judge_payload, payload_bytes}
 use Rattle.amqp_canonical.specs.Writes.{canonical_of}
-use Rattle.amqp_frame.specs.Spelling.{framed, head}
+use Rattle.amqp_frame.specs.Spelling.{head}
 use Rattle.amqp_frame.proofs.Rewritten.{method_shorter}
 use Rattle.amqp_frame.proofs.Sizes.{puts_framed}
 use Rattle.amqp_lent.specs.Payloads.{method_payload}

@@ -1,13 +1,15 @@
-use Rattle.std.proofs.Common.{◌≡◌, ◌≤◌, ◌<◌, length, Ok, refl, sym, ap, ◌∙◌, arith}
+use Rattle.std.proofs.Common.{◌≡◌, length, Ok, refl, sym, ap, arith}
+use Rattle.amqp_frame.specs.Canonical.{canon}
 use Rattle.amqp_lent.proofs.writing.write_lent.Goals as goal
 
 pub put_lent-requires : goal.put_lent-requires
 put_lent-requires c = record { stands = c.requires.stands; few = c.requires.few; measured = c.lent_size-size.ensures; room = omega arith }
 
-pub returns-then-size-len : goal.returns-then-size-len
-returns-then-size-len c = λ read stands. (refl, omega (arith, c.lent_size-size.ensures read stands), refl)
+pub returns-then-size-buf : goal.returns-then-size-buf
+returns-then-size-buf c = λ read stands. (refl, omega (arith, c.lent_size-size.ensures read stands), refl)
 
 pub returns : goal.returns
 returns c = λ read stands.
     let put = c.put_lent.ensures read stands in
-    (ap (λ n. Ok n) (sym put.behind), put.behind, put.put)
+    let many : c.put_lent.result ≡ length (canon read) = omega (arith, put.behind) in
+    (ap Ok (sym many), many, put.put)
