@@ -130,7 +130,13 @@ other_word false command wanted rest other none e = none e
 
 one_word : (word : List ℕ) (n : ℕ) → command_named word ≢ Some (commands.Make n)
 one_word word n =
-    other_word _ _ _ _ (λ e. cc) (other_word _ _ _ _ (λ e. cc) (other_word _ _ _ _ (λ e. cc) (other_word _ _ _ _ (λ e. cc) (other_word _ _ _ _ (λ e. cc) (other_word _ _ _ _ (λ e. cc) (λ e. cc))))))
+    other_word _ commands.Hex (commands.Make n) _ (λ (e : commands.Hex ≡ commands.Make n). cc)
+    (other_word _ commands.Raw (commands.Make n) _ (λ (e : commands.Raw ≡ commands.Make n). cc)
+    (other_word _ commands.Tidy (commands.Make n) _ (λ (e : commands.Tidy ≡ commands.Make n). cc)
+    (other_word _ commands.Lent (commands.Make n) _ (λ (e : commands.Lent ≡ commands.Make n). cc)
+    (other_word _ commands.Help (commands.Make n) _ (λ (e : commands.Help ≡ commands.Make n). cc)
+    (other_word _ commands.Version (commands.Make n) _ (λ (e : commands.Version ≡ commands.Make n). cc)
+    (λ (e : None ≡ Some (commands.Make n)). cc))))))
 
 two_words : (make : Bool) (named : Option ℕ) (n : ℕ) → (if make then option_map commands.Make named else None) ≡ Some (commands.Make n) → named ≡ Some n
 two_words true (Some k) n e = cc
