@@ -1,5 +1,8 @@
 //! Borrowed frames and the codec: worked rows.
 
+ghost use Rattle.std.specs.Prelude.{◌^◌, ◌<◌, length};
+ghost use Rattle.amqp_lent.specs.Frames.{IsFrame, payload_of};
+
 use super::*;
 use amqp_frame::{AMQPFrameType, AMQPRawFrame, ProtocolVersion};
 use amqp_stream::{SliceSource, StreamError, VecSink};
@@ -22,21 +25,34 @@ fn raw(frame_type: AMQPFrameType, channel_id: u16, payload: &[u8]) -> AMQPRawFra
     }
 }
 
-/// Asks that the canonical bytes of the frame with this payload are these, and that a shorter slice stays.
-fn writes(rt: &impl Abort, frame: AMQPRawFrame<'_>, wanted: &[u8]) {
-    let lent = lent_frame(frame).expect(rt, "a frame");
-    assert_eq!(rt; lent_size(lent), wanted.len() as u64);
+/// Asks that the canonical bytes of a borrowed frame are these, and that a shorter slice stays.
+fn writes_lent(rt: &impl Abort, lent: LentFrame<'_>, wanted: &[u8])
+    requires stands { IsFrame lent }
+    requires few { length (payload_of lent) < 2 ^ 32 }
+{
+    let len = wanted.len();
+    assert!(rt; 0 < len);
+    assert!(rt; len < 32);
+    assert_eq!(rt; lent_size(lent), len as u64);
     let mut buf = [9; 32];
-    assert_eq!(rt; write_lent(&mut buf, lent), Ok(wanted.len()));
-    assert_eq!(rt; &buf[..wanted.len()], wanted);
-    assert_eq!(rt; buf[wanted.len()], 9);
+    assert_eq!(rt; write_lent(&mut buf, lent), Ok(len));
+    assert_eq!(rt; &buf[..len], wanted);
+    assert_eq!(rt; buf[len], 9);
     let mut short = [9; 32];
-    let few = wanted.len() - 1;
     assert_eq!(rt;
-        write_lent(&mut short[..few], lent),
+        write_lent(&mut short[..len - 1], lent),
         Err(GenError::BufferTooSmall)
     );
     assert_eq!(rt; short, [9; 32]);
+}
+
+/// The same of the frame with this payload.
+fn writes(rt: &impl Abort, frame: AMQPRawFrame<'_>, wanted: &[u8]) {
+    assert!(rt; frame.payload.len() < 32);
+    match lent_frame(frame) {
+        Ok(lent) => writes_lent(rt, lent, wanted),
+        Err(_) => panic!(rt; "no frame"),
+    }
 }
 
 #[test]

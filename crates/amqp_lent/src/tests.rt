@@ -108,10 +108,12 @@ fn items_are_of_all_kinds(rt: HostRuntime) {
         Some(LentValue::FieldArray(array)) => array,
         _ => panic!(rt; "no array"),
     };
-    let mut count = 0;
-    for item in array.items() {
-        assert_eq!(rt; kind(&item), count);
-        count += 1;
+    let mut items = array.items();
+    for wanted in 0..17 {
+        match items.next() {
+            Some(item) => assert_eq!(rt; kind(&item), wanted),
+            None => panic!(rt; "too few items"),
+        }
     }
-    assert_eq!(rt; count, 17);
+    assert!(rt; items.next().is_none());
 }
