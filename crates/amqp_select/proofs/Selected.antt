@@ -1,11 +1,13 @@
 -- A frame that is kept is written, one that is dropped is judged.
-use Rattle.std.proofs.Common.{◌≡◌, ℕ, Bool, true, false, List, [], ◌∷◌, ◌++◌, ◌⊎◌, inl, inr, Result, Ok, Err, cond, refl, sym, ap, ◌∙◌}
+use Rattle.std.proofs.Common.{◌≡◌, ℕ, Bool, true, false, List, [], ◌∷◌, ◌++◌, ◌⊎◌, inl, inr, Result, Ok, Err, cond, refl, sym, ap, subst, ◌∙◌}
+use mathlib.Core.Path.{fun_ext}
 use Rattle.std.specs.Prelude.{if◌then◌else◌}
 use Rattle.std.specs.List.{flat_map}
 use Rattle.std.specs.declared.string.ParseError.{Infallible}
 use Rattle.amqp_types.specs.Levels.{plain}
 use Rattle.amqp_frame.specs.Frames.{Raw, Frame}
 use Rattle.amqp_frame.specs.Canonical.{canon, canon_row}
+use Rattle.amqp_frame.specs.declared.outline.FrameOutline.{FrameOutline}
 use Rattle.amqp_frame.specs.Outlines.{outline_of}
 use Rattle.amqp_frame.specs.Verdicts.{whole}
 use Rattle.amqp_stream.specs.declared.errors.StreamError.{StreamError}
@@ -13,7 +15,8 @@ use Rattle.amqp_stream.specs.Errors.{Cause, faulty, cut_short, turns_spent, read
 use Rattle.amqp_stream.specs.Ends.{Supply, Store}
 use Rattle.amqp_stream.specs.Writing.{IsUnwritten, WritesFrame}
 use Rattle.amqp_stream.specs.Streaming.{finished, stopped_by, ending_of, as_run, IsStep, WritesBy, Streams, RunNeverBegan}
-use Rattle.amqp_stream.specs.Transcribing.{Transcribes, NeverBegan}
+use Rattle.amqp_stream.specs.Canonicalizing.{Canonicalizes, AnswersExactly}
+use Rattle.amqp_stream.specs.Transcribing.{Transcribes, TranscribesExactly, NeverBegan}
 use Rattle.amqp_stream.proofs.Transcribing.{Transcriber, maps, transcribes, never_began}
 use Rattle.amqp_stream.proofs.Writes.{kept, is_faulty}
 use Rattle.amqp_select.specs.declared.rule.Rule.{Rule}
@@ -21,6 +24,23 @@ use Rattle.amqp_select.specs.declared.selecting.Selector.{Selector}
 use Rattle.amqp_select.specs.Matching as matching
 use Rattle.amqp_select.specs.Matching.{decides}
 use Rattle.amqp_select.specs.Selecting.{selection, selected, selecting}
+
+-- ---- all frames
+
+all_kept : (rules : List Rule) → ((outline : FrameOutline) → true ≡ decides rules outline) → (frames : List Frame) → matching.kept rules frames ≡ frames
+all_kept rules all [] = refl
+all_kept rules all (frame ∷ frames) = rw (sym (all (outline_of frame))) (ap (λ fs. frame ∷ fs) (all_kept rules all frames))
+
+pub selects_all : (rules : List Rule) → ((outline : FrameOutline) → true ≡ decides rules outline) → canon_row ≡ selection rules
+selects_all rules all = fun_ext λ frames. ap canon_row (sym (all_kept rules all frames))
+
+-- where all are kept, what is canonicalized is what is selected
+pub all_stream : (rules : List Rule) (m turns : ℕ) (a b : Supply) (k l : Store) (r : Result (Unit {0}) StreamError) → ((outline : FrameOutline) → true ≡ decides rules outline) → Canonicalizes plain m turns a b k l r ⊎ NeverBegan a b k l r → Transcribes (selection rules) plain m turns a b k l r ⊎ NeverBegan a b k l r
+all_stream rules m turns a b k l r all (inl h) = inl (subst (λ text. Transcribes text plain m turns a b k l r) (selects_all rules all) h.run)
+all_stream rules m turns a b k l r all (inr h) = inr h
+
+pub all_exact : (rules : List Rule) (m : ℕ) (bytes : List ℕ) (k l : Store) (r : Result (Unit {0}) StreamError) → ((outline : FrameOutline) → true ≡ decides rules outline) → AnswersExactly plain m bytes k l r → TranscribesExactly (selection rules) plain m bytes k l r
+all_exact rules m bytes k l r all h = subst (λ text. TranscribesExactly text plain m bytes k l r) (selects_all rules all) h
 
 -- ---- one frame
 

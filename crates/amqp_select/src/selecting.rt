@@ -12,8 +12,8 @@ ghost use Rattle.amqp_select.specs.Selecting.{selection};
 use crate::rules::Rules;
 use amqp_frame::{AMQPRawFrame, judge_frame, outline_front};
 use amqp_stream::{
-    FrameWriter, OutputBuffer, RunError, Sink, Source, StreamError, as_run, payload_error,
-    run_stream, unrefused, write_canonical,
+    FrameWriter, OutputBuffer, RunError, Sink, Source, StreamError, as_run, canonicalize,
+    payload_error, run_stream, unrefused, write_canonical,
 };
 use amqp_types::ChunkSize;
 use std::alloc::Global;
@@ -94,6 +94,10 @@ pub fn select<S: Source, K: Sink>(
         → NoFaults (S.supply source.old) (S.supply source.new) (K.store sink.old) (K.store sink.new)
         → IsOkOrNoMemory result }
 {
+    // Where every frame is kept, no frame is looked at but by the canonicalizer.
+    if let Some(true) = rules.decide_all() {
+        return canonicalize(alloc, source, sink, max_payload, turns);
+    }
     let mut writer = Selector { rules };
     unrefused(run_stream(alloc, &mut writer, source, sink, max_payload, turns))
 }
