@@ -1,0 +1,5 @@
+//! AMQP 0-9-1 frames as lines of text, each of which is one frame.
+#![tactic(auto)]
+
+mod values;
+mod words;
