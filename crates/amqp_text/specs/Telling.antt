@@ -16,6 +16,7 @@ use Rattle.amqp_types.specs.SlotJudging.{judge_form}
 use Rattle.amqp_types.specs.Properties.{Property}
 use Rattle.amqp_types.specs.declared.tag.FieldTag.{FieldTag}
 use Rattle.amqp_types.specs.declared.tag.FieldTag.TheVariants as tag
+use Rattle.amqp_types.specs.declared.errors.NoMemory.{NoMemory}
 use Rattle.amqp_text.specs.Words.{hex, quoted, parted}
 use Rattle.amqp_text.specs.Values.{truth_text}
 use Rattle.amqp_text.specs.Slots.{form_text, property_name}
@@ -107,17 +108,17 @@ told_set mask (p ∷ ps) bytes = judge_both (told_option (flag_at mask p.bit) p)
 -- ---- what a call writes
 
 -- What is told is behind what stood there, and it is so many bytes. (Where nothing can be told, or memory runs out, nothing is said.)
-abbrev pub Tells : {E : Type 0} → Judged (List ℕ) → List ℕ → List ℕ → Result ℕ E → Type 0
+abbrev pub Tells : Judged (List ℕ) → List ℕ → List ℕ → Result ℕ NoMemory → Type 0
 Tells (took text used) old new (Ok n) = (n ≡ used) × (new ≡ old ++ text)
 Tells told old new result = Unit {0}
 
 -- the text is behind what stood there, unless memory runs out
-abbrev pub Writes : {A E : Type 0} → List ℕ → List ℕ → List ℕ → Result A E → Type 0
+abbrev pub Writes : List ℕ → List ℕ → List ℕ → Result (Unit {0}) NoMemory → Type 0
 Writes old new text (Ok done) = new ≡ old ++ text
 Writes old new text (Err error) = Unit {0}
 
 -- the same of things that fill some bytes, which are joined to one text
-abbrev pub TellsAll : {A E : Type 0} → (List (List ℕ) → List ℕ) → Result (List (List ℕ)) Fault → List ℕ → List ℕ → Result A E → Type 0
+abbrev pub TellsAll : (List (List ℕ) → List ℕ) → Result (List (List ℕ)) Fault → List ℕ → List ℕ → Result (Unit {0}) NoMemory → Type 0
 TellsAll join (Ok texts) old new (Ok done) = new ≡ old ++ join texts
 TellsAll join told old new result = Unit {0}
 

@@ -2,7 +2,7 @@
 #![tactic(auto, using(crate::proofs::Told::untold, crate::proofs::Told::told_next), unfolding(crate::specs::Telling::told_behind, amqp_types::specs::ValueJudging::judge_decimal))]
 
 ghost use Rattle.std.specs.Prelude.{◌≤◌, ◌<◌, ◌+◌, ◌++◌, codes, length, IfOk, IfSome};
-ghost use Rattle.std.specs.Fmt.{decimal};
+ghost use Rattle.std.specs.Fmt.{decimal, signed_decimal};
 ghost use Rattle.amqp_types.specs.Numbers.{bytes1, bytes2, bytes4, bytes8};
 ghost use Rattle.amqp_types.specs.Booleans.{judge_boolean};
 ghost use Rattle.amqp_types.specs.Sequences.{judge_map};
@@ -34,6 +34,14 @@ fn write_number(out: &mut Vec<u8>, number: u64) -> Result<(), NoMemory>
 {
     out.push(b':')?;
     write_decimal(out, number)
+}
+
+/// Appends a colon and a signed number.
+fn write_signed_number(out: &mut Vec<u8>, number: i64) -> Result<(), NoMemory>
+    ensures { Writes out.old.items out.new.items (codes ":" ++ signed_decimal number) result }
+{
+    out.push(b':')?;
+    write_signed(out, number)
 }
 
 /// An unsigned number of 1 byte.
@@ -99,8 +107,7 @@ fn write_short_short_int(out: &mut Vec<u8>, i: &[u8]) -> Result<usize, NoMemory>
 {
     match i {
         [byte, ..] => {
-            out.push(b':')?;
-            write_signed(out, i8::from_be_bytes([*byte]) as i64)?;
+            write_signed_number(out, i8::from_be_bytes([*byte]) as i64)?;
             Ok(1)
         }
         [] => Ok(0),
@@ -114,8 +121,7 @@ fn write_short_int(out: &mut Vec<u8>, i: &[u8]) -> Result<usize, NoMemory>
 {
     match i {
         [a, b, ..] => {
-            out.push(b':')?;
-            write_signed(out, i16::from_be_bytes([*a, *b]) as i64)?;
+            write_signed_number(out, i16::from_be_bytes([*a, *b]) as i64)?;
             Ok(2)
         }
         _ => Ok(0),
@@ -129,8 +135,7 @@ fn write_long_int(out: &mut Vec<u8>, i: &[u8]) -> Result<usize, NoMemory>
 {
     match i {
         [a, b, c, d, ..] => {
-            out.push(b':')?;
-            write_signed(out, i32::from_be_bytes([*a, *b, *c, *d]) as i64)?;
+            write_signed_number(out, i32::from_be_bytes([*a, *b, *c, *d]) as i64)?;
             Ok(4)
         }
         _ => Ok(0),
@@ -144,8 +149,7 @@ fn write_long_long_int(out: &mut Vec<u8>, i: &[u8]) -> Result<usize, NoMemory>
 {
     match i {
         [a, b, c, d, e, f, g, h, ..] => {
-            out.push(b':')?;
-            write_signed(out, i64::from_be_bytes([*a, *b, *c, *d, *e, *f, *g, *h]))?;
+            write_signed_number(out, i64::from_be_bytes([*a, *b, *c, *d, *e, *f, *g, *h]))?;
             Ok(8)
         }
         _ => Ok(0),
@@ -227,4 +231,136 @@ fn write_comma(out: &mut Vec<u8>, rest: &[u8]) -> Result<(), NoMemory>
             Ok(())
         }
     }
+}
+
+/// Appends the text of a value at the front, and returns how many bytes it takes. Tables and arrays may nest `room` deep
+/// in it.
+#[cycle(tell)]
+pub(crate) fn write_value(out: &mut Vec<u8>, i: &[u8], room: usize) -> Result<usize, NoMemory>
+    ensures told { Tells (told_value room i.now) out.old.items out.new.items result }
+    ensures used { IfOk result (λ n. (0 < n) × (n ≤ length i.now + 1)) }
+{
+    match i {
+        [] => Ok(1),
+        [byte, rest @ ..] => match FieldTag::from_byte(*byte) {
+            Some(tag) => {
+                out.push(tag.to_byte())?;
+                let used = write_after_tag(out, tag, rest, room)?;
+                Ok(1 + used)
+            }
+            None => Ok(1),
+        },
+    }
+}
+
+/// The value after a tag.
+#[cycle(tell)]
+fn write_after_tag(
+    out: &mut Vec<u8>,
+    tag: FieldTag,
+    i: &[u8],
+    room: usize,
+) -> Result<usize, NoMemory>
+    ensures told { Tells (told_behind (told_nested room) tag i.now) out.old.items out.new.items result }
+    ensures used { IfOk result (λ n. n ≤ length i.now) }
+{
+    match tag {
+        FieldTag::Boolean => write_boolean(out, i),
+        FieldTag::ShortShortInt => write_short_short_int(out, i),
+        FieldTag::ShortShortUInt => write_short_short_uint(out, i),
+        FieldTag::ShortInt => write_short_int(out, i),
+        FieldTag::ShortUInt => write_short_uint(out, i),
+        FieldTag::LongInt => write_long_int(out, i),
+        FieldTag::LongUInt | FieldTag::Float => write_long_uint(out, i),
+        FieldTag::LongLongInt => write_long_long_int(out, i),
+        FieldTag::Double | FieldTag::Timestamp => write_long_long_uint(out, i),
+        FieldTag::DecimalValue => write_decimal_value(out, i),
+        FieldTag::LongString => write_long_string(out, i),
+        FieldTag::ByteArray => write_byte_array(out, i),
+        FieldTag::FieldArray if room == 0 => Ok(0),
+        FieldTag::FieldArray => write_array(out, i, room - 1),
+        FieldTag::FieldTable if room == 0 => Ok(0),
+        FieldTag::FieldTable => write_table(out, b":{", i, room - 1),
+        FieldTag::Void => Ok(0),
+    }
+}
+
+/// An array.
+#[cycle(tell)]
+fn write_array(out: &mut Vec<u8>, i: &[u8], room: usize) -> Result<usize, NoMemory>
+    ensures told { Tells (told_items (told_value room) (codes ":[") (codes "]") i.now) out.old.items out.new.items result }
+    ensures used { IfOk result (λ n. n ≤ length i.now) }
+{
+    match split_long(i) {
+        Some((used, content)) => {
+            write_bytes(out, b":[")?;
+            write_values(out, content, room)?;
+            out.push(b']')?;
+            Ok(used)
+        }
+        None => Ok(0),
+    }
+}
+
+/// Appends the text of a table at the front, with these bytes as its opening bracket, and returns how many bytes it takes.
+#[cycle(tell)]
+pub(crate) fn write_table(
+    out: &mut Vec<u8>,
+    opening: &[u8],
+    i: &[u8],
+    room: usize,
+) -> Result<usize, NoMemory>
+    ensures told { Tells (told_items (told_entry (told_value room)) opening.now (codes "}") i.now) out.old.items out.new.items result }
+    ensures used { IfOk result (λ n. n ≤ length i.now) }
+{
+    match split_long(i) {
+        Some((used, content)) => {
+            write_bytes(out, opening)?;
+            write_entries(out, content, room)?;
+            out.push(b'}')?;
+            Ok(used)
+        }
+        None => Ok(0),
+    }
+}
+
+/// The values that fill an array.
+#[cycle(tell)]
+fn write_values(out: &mut Vec<u8>, content: &[u8], room: usize) -> Result<(), NoMemory>
+    ensures { TellsAll parted (filled (told_value room) 0 content.now) out.old.items out.new.items result }
+{
+    let mut rest = content;
+    while !rest.is_empty() {
+        let used = write_value(out, rest, room)?;
+        rest = bytes_from(rest, used);
+        write_comma(out, rest)?;
+    }
+    Ok(())
+}
+
+/// The entries that fill a table.
+#[cycle(tell)]
+fn write_entries(out: &mut Vec<u8>, content: &[u8], room: usize) -> Result<(), NoMemory>
+    ensures { TellsAll parted (filled (told_entry (told_value room)) 0 content.now) out.old.items out.new.items result }
+{
+    let mut rest = content;
+    while !rest.is_empty() {
+        let used = write_entry(out, rest, room)?;
+        rest = bytes_from(rest, used);
+        write_comma(out, rest)?;
+    }
+    Ok(())
+}
+
+/// An entry: its key, `=` and its value.
+#[cycle(tell)]
+fn write_entry(out: &mut Vec<u8>, i: &[u8], room: usize) -> Result<usize, NoMemory>
+    ensures told { Tells (told_entry (told_value room) i.now) out.old.items out.new.items result }
+    ensures used { IfOk result (λ n. (0 < n) × (n ≤ length i.now + 2)) }
+{
+    let (key, value) = split_key(i);
+    write_quoted(out, key)?;
+    out.push(b'=')?;
+    let used = write_value(out, value, room)?;
+    Ok(1 + key.len() + used)
 }
