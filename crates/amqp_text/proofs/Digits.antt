@@ -36,7 +36,7 @@ one_more number digits place rest count more some h =
       few = omega arith;
       fits = omega arith;
       all = ap (λ (xs : List ℕ). decimal (rest / 10) ++ xs) put ∙ sym (append_assoc (decimal (rest / 10)) ((48 + rest % 10) ∷ []) (drop (place + 1) digits))
-      ∙ ap (λ (xs : List ℕ). xs ++ drop (place + 1) digits) (sym (decimal_step rest more fits_rest)) ∙ h.all;
+          ∙ ap (λ (xs : List ℕ). xs ++ drop (place + 1) digits) (sym (decimal_step rest more fits_rest)) ∙ h.all;
     }
 
 pub last_one : (number : ℕ) (digits : List ℕ) (place rest : ℕ) → length digits ≡ 20 → rest < 10 → ArePut number digits place rest → drop place (slice_set digits place (48 + rest)) ≡ decimal number

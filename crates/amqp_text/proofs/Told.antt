@@ -8,14 +8,16 @@ use Rattle.std.proofs.lemmas.List.{length-take-le, nil_from_length}
 use Rattle.amqp_types.proofs.Took.{guard_took, test_took, value_took, count_took}
 use Rattle.amqp_types.specs.declared.tag.FieldTag.TheVariants as tag
 use Rattle.amqp_types.specs.Judging.{Judged, Judge, Fault, took, past, fault, not_utf8, ◌>>=◌}
+use Rattle.amqp_types.specs.Sequences.{judge_map}
 use Rattle.amqp_types.specs.Strings.{judge_short_string, judge_long_string}
 use Rattle.amqp_types.specs.ValueJudging.{filled, next_item, read_map, whole}
-use Rattle.amqp_types.specs.Tags.{tag_at, tag_byte}
+use Rattle.amqp_types.specs.Tags.{tag_at}
 use Rattle.amqp_types.specs.declared.tag.FieldTag.{FieldTag}
 use Rattle.amqp_canonical.specs.Writes.{IsRead, key_in, after_key}
 use Rattle.amqp_types.specs.declared.errors.NoMemory.{NoMemory}
 use Rattle.amqp_text.specs.Words.{quoted, parted}
-use Rattle.amqp_text.specs.Telling.{Tells, TellsAll, Writes, comma_before, told_after, told_behind, told_entry, told_items, told_nested, told_tagged, told_value}
+use Rattle.amqp_text.specs.Values.{tag_text}
+use Rattle.amqp_text.specs.Telling.{Tells, TellsAll, Writes, comma_before, told_after, told_behind, told_entry, told_items, told_nested, told_table, told_tagged, told_value}
 
 -- where nothing was read, nothing is told
 pub untold : {A : Type 0} (j : Judged A) (f : A × ℕ → Judged (List ℕ)) (old new : List ℕ) (r : Result ℕ NoMemory) → (IsRead j → ⊥) → Tells (j >>= f) old new r
@@ -50,12 +52,12 @@ unfolding told_value told_tagged
 value_unknown room [] old new r h e = tt
 value_unknown room (byte ∷ bytes) old new r h e = let P : Option FieldTag → Type 0 = λ o. Tells (told_after (told_nested room) o bytes) old new r in subst P (sym e) tt
 
-with_tag : (j : Judged (List ℕ)) (t : FieldTag) (used : ℕ) (old mid new : List ℕ) → mid ≡ old ++ tag_byte t ∷ [] → Tells j mid new (Ok used) → Tells (j >>= λ x. took (tag_byte t ∷ x.0) (1 + x.1)) old new (Ok (1 + used))
-with_tag (took text n) t used old mid new e h = (ap (λ k. 1 + k) h.0, h.1 ∙ ap (λ (xs : List ℕ). xs ++ text) e ∙ append_assoc old (tag_byte t ∷ []) text)
+with_tag : (j : Judged (List ℕ)) (t : FieldTag) (used : ℕ) (old mid new : List ℕ) → mid ≡ old ++ tag_text t → Tells j mid new (Ok used) → Tells (j >>= λ x. took (tag_text t ++ x.0) (1 + x.1)) old new (Ok (1 + used))
+with_tag (took text n) t used old mid new e h = (ap (λ k. 1 + k) h.0, h.1 ∙ ap (λ (xs : List ℕ). xs ++ text) e ∙ append_assoc old (tag_text t) text)
 with_tag past t used old mid new e h = tt
 with_tag (fault bad) t used old mid new e h = tt
 
-pub value_told : (room used : ℕ) (i : List ℕ) (t : FieldTag) (old mid new : List ℕ) → 1 ≤ length i → tag_at (get_or i 0 0) ≡ Some t → mid ≡ old ++ tag_byte t ∷ [] → Tells (told_behind (told_nested room) t (drop 1 i)) mid new (Ok used) → Tells (told_value room i) old new (Ok (1 + used))
+pub value_told : (room used : ℕ) (i : List ℕ) (t : FieldTag) (old mid new : List ℕ) → 1 ≤ length i → tag_at (get_or i 0 0) ≡ Some t → mid ≡ old ++ tag_text t → Tells (told_behind (told_nested room) t (drop 1 i)) mid new (Ok used) → Tells (told_value room i) old new (Ok (1 + used))
 unfolding told_value told_tagged
 value_told room used [] t old mid new some is e h = tt
 value_told room used (byte ∷ bytes) t old mid new some is e h =
@@ -77,14 +79,14 @@ too_deep_table room t i old new r none is =
     let Q : FieldTag → Type 0 = λ u. Tells (told_behind (told_nested room) u i) old new r in
     subst Q (sym is) (subst P (sym (nested_none room none)) tt)
 
-pub array_behind : (room : ℕ) (t : FieldTag) (i old new : List ℕ) (r : Result ℕ NoMemory) → 0 < room → t ≡ tag.FieldArray → Tells (told_items (told_value (room - 1)) (codes ":[") (codes "]") i) old new r → Tells (told_behind (told_nested room) t i) old new r
+pub array_behind : (room : ℕ) (t : FieldTag) (i old new : List ℕ) (r : Result ℕ NoMemory) → 0 < room → t ≡ tag.FieldArray → Tells (told_items (told_value (room - 1)) (codes "[") (codes "]") i) old new r → Tells (told_behind (told_nested room) t i) old new r
 unfolding told_behind
 array_behind room t i old new r some is h =
     let P : Option (Judge (List ℕ)) → Type 0 = λ o. Tells (told_behind o tag.FieldArray i) old new r in
     let Q : FieldTag → Type 0 = λ u. Tells (told_behind (told_nested room) u i) old new r in
     subst Q (sym is) (subst P (sym (nested_more room some)) h)
 
-pub table_behind : (room : ℕ) (t : FieldTag) (i old new : List ℕ) (r : Result ℕ NoMemory) → 0 < room → t ≡ tag.FieldTable → Tells (told_items (told_entry (told_value (room - 1))) (codes ":{") (codes "}") i) old new r → Tells (told_behind (told_nested room) t i) old new r
+pub table_behind : (room : ℕ) (t : FieldTag) (i old new : List ℕ) (r : Result ℕ NoMemory) → 0 < room → t ≡ tag.FieldTable → Tells (told_table (told_value (room - 1)) i) old new r → Tells (told_behind (told_nested room) t i) old new r
 unfolding told_behind
 table_behind room t i old new r some is h =
     let P : Option (Judge (List ℕ)) → Type 0 = λ o. Tells (told_behind o tag.FieldTable i) old new r in
@@ -104,6 +106,14 @@ items_told item before after i content old a b new used done is first h last = t
 pub items_untold : (item : Judge (List ℕ)) (before after i old new : List ℕ) (r : Result ℕ NoMemory) → (IsRead (judge_long_string i) → ⊥) → Tells (told_items item before after i) old new r
 unfolding told_items
 items_untold item before after i old new r h = untold (judge_long_string i) _ old new r h
+
+pub table_told : (value : Judge (List ℕ)) (i content old a b new : List ℕ) (used : ℕ) (done : Unit {0}) → judge_long_string i ≡ took content used → a ≡ old ++ codes "{" → TellsAll parted (filled (told_entry value) 0 content) a b (Ok done) → new ≡ b ++ codes "}" → Tells (told_table value i) old new (Ok used)
+unfolding told_table
+table_told value i content old a b new used done is first h last = items_told (told_entry value) (codes "{") (codes "}") i content old a b new used done is first h last
+
+pub table_untold : (value : Judge (List ℕ)) (i old new : List ℕ) (r : Result ℕ NoMemory) → (IsRead (judge_long_string i) → ⊥) → Tells (told_table value i) old new r
+unfolding told_table
+table_untold value i old new r h = items_untold (told_entry value) (codes "{") (codes "}") i old new r h
 
 -- ---- a key and its value
 
@@ -135,9 +145,9 @@ is_key (n ∷ bytes) key used h = key_took n bytes key used h
 drop_more : (k : ℕ) (bytes : List ℕ) → drop k (drop 1 bytes) ≡ drop (k + 1) bytes
 drop_more k bytes = rw add-one (by_cases k bytes)
   where
-  by_cases : (k : ℕ) (bytes : List ℕ) → drop k (drop 1 bytes) ≡ drop (suc k) bytes
-  by_cases k [] = drop-nil k
-  by_cases k (byte ∷ bytes) = refl
+    by_cases : (k : ℕ) (bytes : List ℕ) → drop k (drop 1 bytes) ≡ drop (suc k) bytes
+    by_cases k [] = drop-nil k
+    by_cases k (byte ∷ bytes) = refl
 
 entry_by : (value : Judge (List ℕ)) (i key key_now : List ℕ) (n used : ℕ) (old a b new : List ℕ) → IsKey i key n → key_now ≡ key_in i → a ≡ old ++ quoted key_now → b ≡ a ++ codes "=" → (j : Judged (List ℕ)) → Tells j b new (Ok used) → Tells (j >>= λ y. took (quoted key ++ (codes "=" ++ y.0)) (n + y.1)) old new (Ok (1 + length key_now + used))
 entry_by value i key key_now n used old a b new is now first second past h = tt
@@ -223,9 +233,9 @@ step item old rest now mid next new used texts left one told some e h =
       more = one.others;
       fills = fills;
       joins =
-      ap (λ (xs : List ℕ). xs ++ parted one.others) (h ∙ ap (λ (xs : List ℕ). xs ++ comma_before next) wrote.1)
-      ∙ append_assoc (now ++ one.text) (comma_before next) (parted one.others) ∙ append_assoc now one.text (comma_before next ++ parted one.others)
-      ∙ ap (λ (xs : List ℕ). now ++ xs) (sym (comma_parts item next one.text one.others fills)) ∙ ap (λ ts. now ++ parted ts) (sym one.all) ∙ left.joins;
+          ap (λ (xs : List ℕ). xs ++ parted one.others) (h ∙ ap (λ (xs : List ℕ). xs ++ comma_before next) wrote.1)
+          ∙ append_assoc (now ++ one.text) (comma_before next) (parted one.others) ∙ append_assoc now one.text (comma_before next ++ parted one.others)
+          ∙ ap (λ (xs : List ℕ). now ++ xs) (sym (comma_parts item next one.text one.others fills)) ∙ ap (λ ts. now ++ parted ts) (sym one.all) ∙ left.joins;
     }
 
 pub goes_on : {item : Judge (List ℕ)} {content old rest now : List ℕ} (mid next new : List ℕ) (used : ℕ) → GoesOn item content old rest now → 0 < length rest → Tells (item rest) now mid (Ok used) → 0 < used → next ≡ drop used rest → new ≡ mid ++ comma_before next → GoesOn item content old next new
@@ -244,3 +254,16 @@ done_by item old rest now done (Ok texts) h none =
 
 pub done : {item : Judge (List ℕ)} {content old rest now : List ℕ} (unit : Unit {0}) → GoesOn item content old rest now → length rest ≡ 0 → TellsAll parted (filled item 0 content) old now (Ok unit)
 done {item = item} {content = content} {old = old} {rest = rest} {now = now} unit h none = done_by item old rest now unit (filled item 0 content) h.left (nil_from_length rest none)
+
+-- ---- a short string
+
+pub short_told : (i text old new : List ℕ) → text ≡ key_in i → new ≡ old ++ quoted text → Tells (judge_map quoted judge_short_string i) old new (Ok (1 + length text))
+short_told i text old new is h = by_key (judge_short_string i) (is_key i)
+  where
+    by_key : (j : Judged (List ℕ)) → ((key : List ℕ) (n : ℕ) → j ≡ took key n → IsKey i key n) → Tells (j >>= λ x. took (quoted x.0) x.1) old new (Ok (1 + length text))
+    by_key past one = tt
+    by_key (fault bad) one = tt
+    by_key (took key n) one =
+        let k = one key n refl in
+        let same : text ≡ key = is ∙ sym k.key_is in
+        (omega (arith, k.used_is, ap length same), h ∙ ap (λ (xs : List ℕ). old ++ quoted xs) same)

@@ -1,5 +1,5 @@
 -- How text is told from canonical bytes, from the left: what the bytes at the front are as text, and how many they are. Entries of tables are told as they stand.
-use Rattle.std.specs.Prelude.{◌≡◌, ℕ, zero, suc, ◌+◌, List, [], ◌∷◌, ◌++◌, codes, Bool, true, false, Option, Some, None, Result, Ok, Err}
+use Rattle.std.specs.Prelude.{◌≡◌, ℕ, zero, suc, ◌+◌, List, [], ◌∷◌, ◌++◌, drop, codes, Bool, true, false, Option, Some, None, Result, Ok, Err}
 use Rattle.std.specs.Fmt.{decimal, signed_decimal}
 use Rattle.amqp_canonical.specs.Writes.{IsRead}
 use Rattle.amqp_types.specs.Judging.{Judged, Judge, Fault, took, past, fault, unknown_tag, too_deep, ◌>>=◌}
@@ -8,18 +8,18 @@ use Rattle.amqp_types.specs.Numbers.{NumberWidth, bytes1, bytes2, bytes4, bytes8
 use Rattle.amqp_types.specs.Signed.{judge_signed}
 use Rattle.amqp_types.specs.Booleans.{judge_boolean}
 use Rattle.amqp_types.specs.Strings.{judge_short_string, judge_long_string}
-use Rattle.amqp_types.specs.Flags.{flag_at}
+use Rattle.amqp_types.specs.Flags.{flag_at, judge_flags}
 use Rattle.amqp_types.specs.ValueJudging.{filled, read_map, whole, judge_decimal}
-use Rattle.amqp_types.specs.Tags.{tag_at, tag_byte}
-use Rattle.amqp_types.specs.Slots.{Form, table_form, Slot, kept_slot, reserved_slot}
+use Rattle.amqp_types.specs.Tags.{tag_at}
+use Rattle.amqp_types.specs.Slots.{Form, number_form, flags_form, short_string_form, long_string_form, table_form, Slot, kept_slot, reserved_slot}
 use Rattle.amqp_types.specs.SlotJudging.{judge_form}
-use Rattle.amqp_types.specs.Properties.{Property}
+use Rattle.amqp_types.specs.Properties.{Property, properties}
 use Rattle.amqp_types.specs.declared.tag.FieldTag.{FieldTag}
 use Rattle.amqp_types.specs.declared.tag.FieldTag.TheVariants as tag
 use Rattle.amqp_types.specs.declared.errors.NoMemory.{NoMemory}
-use Rattle.amqp_text.specs.Words.{hex, quoted, parted}
-use Rattle.amqp_text.specs.Values.{truth_text}
-use Rattle.amqp_text.specs.Slots.{form_text, property_name}
+use Rattle.amqp_text.specs.Words.{hex, quoted, parted, signs}
+use Rattle.amqp_text.specs.Values.{tag_text, truth_text}
+use Rattle.amqp_text.specs.Slots.{property_name}
 
 -- ---- values
 
@@ -35,10 +35,10 @@ unfoldable pub told_table : Judge (List ℕ) → Judge (List ℕ)
 told_table value = told_items (told_entry value) (codes "{") (codes "}")
 
 abbrev pub told_signed : NumberWidth → Judge (List ℕ)
-told_signed width = judge_map (λ n. codes ":" ++ signed_decimal n) (judge_signed width)
+told_signed width = judge_map signed_decimal (judge_signed width)
 
 abbrev pub told_number : NumberWidth → Judge (List ℕ)
-told_number width = judge_map (λ n. codes ":" ++ decimal n) (judge_number width)
+told_number width = judge_map decimal (judge_number width)
 
 -- the value behind a tag; `nested` tells a value one level deeper, where there is room for one
 unfoldable pub told_behind : Option (Judge (List ℕ)) → FieldTag → Judge (List ℕ)
@@ -52,19 +52,19 @@ told_behind nested tag.LongUInt bytes = told_number bytes4 bytes
 told_behind nested tag.LongLongInt bytes = told_signed bytes8 bytes
 told_behind nested tag.Float bytes = told_number bytes4 bytes
 told_behind nested tag.Double bytes = told_number bytes8 bytes
-told_behind nested tag.DecimalValue bytes = judge_map (λ d. codes ":" ++ (decimal d.0 ++ (codes "/" ++ decimal d.1))) judge_decimal bytes
-told_behind nested tag.LongString bytes = judge_map (λ content. codes ":" ++ quoted content) judge_long_string bytes
+told_behind nested tag.DecimalValue bytes = judge_map (λ d. decimal d.0 ++ (codes "/" ++ decimal d.1)) judge_decimal bytes
+told_behind nested tag.LongString bytes = judge_map quoted judge_long_string bytes
 told_behind None tag.FieldArray bytes = fault too_deep
-told_behind (Some value) tag.FieldArray bytes = told_items value (codes ":[") (codes "]") bytes
+told_behind (Some value) tag.FieldArray bytes = told_items value (codes "[") (codes "]") bytes
 told_behind nested tag.Timestamp bytes = told_number bytes8 bytes
 told_behind None tag.FieldTable bytes = fault too_deep
-told_behind (Some value) tag.FieldTable bytes = told_items (told_entry value) (codes ":{") (codes "}") bytes
-told_behind nested tag.ByteArray bytes = judge_map (λ content. codes ":" ++ hex content) judge_long_string bytes
+told_behind (Some value) tag.FieldTable bytes = told_table value bytes
+told_behind nested tag.ByteArray bytes = judge_map hex judge_long_string bytes
 told_behind nested tag.Void bytes = took [] 0
 
 abbrev pub told_after : Option (Judge (List ℕ)) → Option FieldTag → Judge (List ℕ)
 told_after nested None bytes = fault unknown_tag
-told_after nested (Some t) bytes = told_behind nested t bytes >>= λ x. took (tag_byte t ∷ x.0) (1 + x.1)
+told_after nested (Some t) bytes = told_behind nested t bytes >>= λ x. took (tag_text t ++ x.0) (1 + x.1)
 
 unfoldable pub told_tagged : Option (Judge (List ℕ)) → Judge (List ℕ)
 told_tagged nested [] = past
@@ -82,8 +82,15 @@ told_value room = told_tagged (told_nested room)
 -- ---- slots
 
 unfoldable pub told_form : Form → Judge (List ℕ)
+told_form (number_form width) = told_number width
+told_form (flags_form count) = judge_map signs (judge_flags count)
+told_form short_string_form = judge_map quoted judge_short_string
+told_form long_string_form = judge_map quoted judge_long_string
 told_form table_form = told_table (told_value 63)
-told_form form = judge_map (form_text form) (judge_form form)
+
+abbrev pub is_reserved : Slot → Bool
+is_reserved (kept_slot form) = false
+is_reserved (reserved_slot form constant) = true
 
 -- a word and a space in front, or nothing
 unfoldable pub told_slot : Slot → Judge (List ℕ)
@@ -105,6 +112,13 @@ unfoldable pub told_set : ℕ → List Property → Judge (List ℕ)
 told_set mask [] bytes = took [] 0
 told_set mask (p ∷ ps) bytes = judge_both (told_option (flag_at mask p.bit) p) (told_set mask ps) (λ a b. a ++ b) bytes
 
+-- a mask, and those properties
+unfoldable pub told_properties : Judge (List ℕ)
+told_properties bytes = do
+  mask ← judge_number bytes2 bytes
+  set ← told_set mask.0 properties (drop mask.1 bytes)
+  took set.0 (mask.1 + set.1)
+
 -- ---- what a call writes
 
 -- What is told is behind what stood there, and it is so many bytes. (Where nothing can be told, or memory runs out, nothing is said.)
@@ -116,6 +130,11 @@ Tells told old new result = Unit {0}
 abbrev pub Writes : List ℕ → List ℕ → List ℕ → Result (Unit {0}) NoMemory → Type 0
 Writes old new text (Ok done) = new ≡ old ++ text
 Writes old new text (Err error) = Unit {0}
+
+-- the same, whatever number of bytes it is
+abbrev pub Says : Judged (List ℕ) → List ℕ → List ℕ → Result (Unit {0}) NoMemory → Type 0
+Says (took text used) old new (Ok done) = new ≡ old ++ text
+Says told old new result = Unit {0}
 
 -- the same of things that fill some bytes, which are joined to one text
 abbrev pub TellsAll : (List (List ℕ) → List ℕ) → Result (List (List ℕ)) Fault → List ℕ → List ℕ → Result (Unit {0}) NoMemory → Type 0

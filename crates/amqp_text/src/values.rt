@@ -2,15 +2,15 @@
 #![tactic(auto, using(crate::proofs::Told::untold, crate::proofs::Told::told_next), unfolding(crate::specs::Telling::told_behind, amqp_types::specs::ValueJudging::judge_decimal))]
 
 ghost use Rattle.std.specs.Prelude.{◌≤◌, ◌<◌, ◌+◌, ◌++◌, codes, length, IfOk, IfSome};
-ghost use Rattle.std.specs.Fmt.{decimal, signed_decimal};
+ghost use Rattle.std.specs.Fmt.{decimal};
 ghost use Rattle.amqp_types.specs.Numbers.{bytes1, bytes2, bytes4, bytes8};
 ghost use Rattle.amqp_types.specs.Booleans.{judge_boolean};
 ghost use Rattle.amqp_types.specs.Sequences.{judge_map};
 ghost use Rattle.amqp_types.specs.Strings.{judge_long_string};
 ghost use Rattle.amqp_types.specs.ValueJudging.{filled, judge_decimal};
 ghost use Rattle.amqp_text.specs.Words.{hex, parted, quoted};
-ghost use Rattle.amqp_text.specs.Values.{truth_text};
-ghost use Rattle.amqp_text.specs.Telling.{Finds, Tells, TellsAll, Writes, comma_before, told_behind, told_entry, told_items, told_nested, told_number, told_signed, told_value};
+ghost use Rattle.amqp_text.specs.Values.{tag_text, truth_text};
+ghost use Rattle.amqp_text.specs.Telling.{Finds, Tells, TellsAll, Writes, comma_before, told_behind, told_entry, told_items, told_nested, told_number, told_signed, told_table, told_value};
 
 use crate::words::{write_bytes, write_decimal, write_hex, write_quoted, write_signed};
 use amqp_canonical::{bytes_from, split_key};
@@ -28,30 +28,14 @@ pub(crate) fn split_long(i: &[u8]) -> Option<(usize, &[u8])>
     }
 }
 
-/// Appends a colon and an unsigned number.
-fn write_number(out: &mut Vec<u8>, number: u64) -> Result<(), NoMemory>
-    ensures { Writes out.old.items out.new.items (codes ":" ++ decimal number) result }
-{
-    out.push(b':')?;
-    write_decimal(out, number)
-}
-
-/// Appends a colon and a signed number.
-fn write_signed_number(out: &mut Vec<u8>, number: i64) -> Result<(), NoMemory>
-    ensures { Writes out.old.items out.new.items (codes ":" ++ signed_decimal number) result }
-{
-    out.push(b':')?;
-    write_signed(out, number)
-}
-
 /// An unsigned number of 1 byte.
-fn write_short_short_uint(out: &mut Vec<u8>, i: &[u8]) -> Result<usize, NoMemory>
+pub(crate) fn write_short_short_uint(out: &mut Vec<u8>, i: &[u8]) -> Result<usize, NoMemory>
     ensures told { Tells (told_number bytes1 i.now) out.old.items out.new.items result }
     ensures used { IfOk result (λ n. n ≤ length i.now) }
 {
     match i {
         [byte, ..] => {
-            write_number(out, *byte as u64)?;
+            write_decimal(out, *byte as u64)?;
             Ok(1)
         }
         [] => Ok(0),
@@ -59,13 +43,13 @@ fn write_short_short_uint(out: &mut Vec<u8>, i: &[u8]) -> Result<usize, NoMemory
 }
 
 /// An unsigned number of 2 bytes.
-fn write_short_uint(out: &mut Vec<u8>, i: &[u8]) -> Result<usize, NoMemory>
+pub(crate) fn write_short_uint(out: &mut Vec<u8>, i: &[u8]) -> Result<usize, NoMemory>
     ensures told { Tells (told_number bytes2 i.now) out.old.items out.new.items result }
     ensures used { IfOk result (λ n. n ≤ length i.now) }
 {
     match i {
         [a, b, ..] => {
-            write_number(out, u16::from_be_bytes([*a, *b]) as u64)?;
+            write_decimal(out, u16::from_be_bytes([*a, *b]) as u64)?;
             Ok(2)
         }
         _ => Ok(0),
@@ -73,13 +57,13 @@ fn write_short_uint(out: &mut Vec<u8>, i: &[u8]) -> Result<usize, NoMemory>
 }
 
 /// An unsigned number of 4 bytes.
-fn write_long_uint(out: &mut Vec<u8>, i: &[u8]) -> Result<usize, NoMemory>
+pub(crate) fn write_long_uint(out: &mut Vec<u8>, i: &[u8]) -> Result<usize, NoMemory>
     ensures told { Tells (told_number bytes4 i.now) out.old.items out.new.items result }
     ensures used { IfOk result (λ n. n ≤ length i.now) }
 {
     match i {
         [a, b, c, d, ..] => {
-            write_number(out, u32::from_be_bytes([*a, *b, *c, *d]) as u64)?;
+            write_decimal(out, u32::from_be_bytes([*a, *b, *c, *d]) as u64)?;
             Ok(4)
         }
         _ => Ok(0),
@@ -87,13 +71,13 @@ fn write_long_uint(out: &mut Vec<u8>, i: &[u8]) -> Result<usize, NoMemory>
 }
 
 /// An unsigned number of 8 bytes.
-fn write_long_long_uint(out: &mut Vec<u8>, i: &[u8]) -> Result<usize, NoMemory>
+pub(crate) fn write_long_long_uint(out: &mut Vec<u8>, i: &[u8]) -> Result<usize, NoMemory>
     ensures told { Tells (told_number bytes8 i.now) out.old.items out.new.items result }
     ensures used { IfOk result (λ n. n ≤ length i.now) }
 {
     match i {
         [a, b, c, d, e, f, g, h, ..] => {
-            write_number(out, u64::from_be_bytes([*a, *b, *c, *d, *e, *f, *g, *h]))?;
+            write_decimal(out, u64::from_be_bytes([*a, *b, *c, *d, *e, *f, *g, *h]))?;
             Ok(8)
         }
         _ => Ok(0),
@@ -107,7 +91,7 @@ fn write_short_short_int(out: &mut Vec<u8>, i: &[u8]) -> Result<usize, NoMemory>
 {
     match i {
         [byte, ..] => {
-            write_signed_number(out, i8::from_be_bytes([*byte]) as i64)?;
+            write_signed(out, i8::from_be_bytes([*byte]) as i64)?;
             Ok(1)
         }
         [] => Ok(0),
@@ -121,7 +105,7 @@ fn write_short_int(out: &mut Vec<u8>, i: &[u8]) -> Result<usize, NoMemory>
 {
     match i {
         [a, b, ..] => {
-            write_signed_number(out, i16::from_be_bytes([*a, *b]) as i64)?;
+            write_signed(out, i16::from_be_bytes([*a, *b]) as i64)?;
             Ok(2)
         }
         _ => Ok(0),
@@ -135,7 +119,7 @@ fn write_long_int(out: &mut Vec<u8>, i: &[u8]) -> Result<usize, NoMemory>
 {
     match i {
         [a, b, c, d, ..] => {
-            write_signed_number(out, i32::from_be_bytes([*a, *b, *c, *d]) as i64)?;
+            write_signed(out, i32::from_be_bytes([*a, *b, *c, *d]) as i64)?;
             Ok(4)
         }
         _ => Ok(0),
@@ -149,7 +133,7 @@ fn write_long_long_int(out: &mut Vec<u8>, i: &[u8]) -> Result<usize, NoMemory>
 {
     match i {
         [a, b, c, d, e, f, g, h, ..] => {
-            write_signed_number(out, i64::from_be_bytes([*a, *b, *c, *d, *e, *f, *g, *h]))?;
+            write_signed(out, i64::from_be_bytes([*a, *b, *c, *d, *e, *f, *g, *h]))?;
             Ok(8)
         }
         _ => Ok(0),
@@ -164,11 +148,11 @@ fn write_boolean(out: &mut Vec<u8>, i: &[u8]) -> Result<usize, NoMemory>
     match i {
         [] => Ok(0),
         [0, ..] => {
-            write_bytes(out, b":0")?;
+            write_bytes(out, b"0")?;
             Ok(1)
         }
         [_, ..] => {
-            write_bytes(out, b":1")?;
+            write_bytes(out, b"1")?;
             Ok(1)
         }
     }
@@ -176,12 +160,12 @@ fn write_boolean(out: &mut Vec<u8>, i: &[u8]) -> Result<usize, NoMemory>
 
 /// A scale and an unsigned number.
 fn write_decimal_value(out: &mut Vec<u8>, i: &[u8]) -> Result<usize, NoMemory>
-    ensures told { Tells (judge_map (λ d. codes ":" ++ (decimal d.0 ++ (codes "/" ++ decimal d.1))) judge_decimal i.now) out.old.items out.new.items result }
+    ensures told { Tells (judge_map (λ d. decimal d.0 ++ (codes "/" ++ decimal d.1)) judge_decimal i.now) out.old.items out.new.items result }
     ensures used { IfOk result (λ n. n ≤ length i.now) }
 {
     match i {
         [scale, a, b, c, d, ..] => {
-            write_number(out, *scale as u64)?;
+            write_decimal(out, *scale as u64)?;
             out.push(b'/')?;
             write_decimal(out, u32::from_be_bytes([*a, *b, *c, *d]) as u64)?;
             Ok(5)
@@ -191,13 +175,12 @@ fn write_decimal_value(out: &mut Vec<u8>, i: &[u8]) -> Result<usize, NoMemory>
 }
 
 /// A long string.
-fn write_long_string(out: &mut Vec<u8>, i: &[u8]) -> Result<usize, NoMemory>
-    ensures told { Tells (judge_map (λ content. codes ":" ++ quoted content) judge_long_string i.now) out.old.items out.new.items result }
+pub(crate) fn write_long_string(out: &mut Vec<u8>, i: &[u8]) -> Result<usize, NoMemory>
+    ensures told { Tells (judge_map quoted judge_long_string i.now) out.old.items out.new.items result }
     ensures used { IfOk result (λ n. n ≤ length i.now) }
 {
     match split_long(i) {
         Some((used, content)) => {
-            out.push(b':')?;
             write_quoted(out, content)?;
             Ok(used)
         }
@@ -207,12 +190,11 @@ fn write_long_string(out: &mut Vec<u8>, i: &[u8]) -> Result<usize, NoMemory>
 
 /// A byte array.
 fn write_byte_array(out: &mut Vec<u8>, i: &[u8]) -> Result<usize, NoMemory>
-    ensures told { Tells (judge_map (λ content. codes ":" ++ hex content) judge_long_string i.now) out.old.items out.new.items result }
+    ensures told { Tells (judge_map hex judge_long_string i.now) out.old.items out.new.items result }
     ensures used { IfOk result (λ n. n ≤ length i.now) }
 {
     match split_long(i) {
         Some((used, content)) => {
-            out.push(b':')?;
             write_hex(out, content)?;
             Ok(used)
         }
@@ -233,6 +215,19 @@ fn write_comma(out: &mut Vec<u8>, rest: &[u8]) -> Result<(), NoMemory>
     }
 }
 
+/// A tag letter, and a colon where something follows.
+fn write_tag(out: &mut Vec<u8>, tag: FieldTag) -> Result<(), NoMemory>
+    ensures { Writes out.old.items out.new.items (tag_text tag) result }
+{
+    match tag {
+        FieldTag::Void => {
+            out.push(b'V')?;
+            Ok(())
+        }
+        other => write_bytes(out, &[other.to_byte(), b':']),
+    }
+}
+
 /// Appends the text of a value at the front, and returns how many bytes it takes. Tables and arrays may nest `room` deep
 /// in it.
 #[cycle(tell)]
@@ -244,7 +239,7 @@ pub(crate) fn write_value(out: &mut Vec<u8>, i: &[u8], room: usize) -> Result<us
         [] => Ok(1),
         [byte, rest @ ..] => match FieldTag::from_byte(*byte) {
             Some(tag) => {
-                out.push(tag.to_byte())?;
+                write_tag(out, tag)?;
                 let used = write_after_tag(out, tag, rest, room)?;
                 Ok(1 + used)
             }
@@ -280,7 +275,7 @@ fn write_after_tag(
         FieldTag::FieldArray if room == 0 => Ok(0),
         FieldTag::FieldArray => write_array(out, i, room - 1),
         FieldTag::FieldTable if room == 0 => Ok(0),
-        FieldTag::FieldTable => write_table(out, b":{", i, room - 1),
+        FieldTag::FieldTable => write_table(out, i, room - 1),
         FieldTag::Void => Ok(0),
     }
 }
@@ -288,12 +283,12 @@ fn write_after_tag(
 /// An array.
 #[cycle(tell)]
 fn write_array(out: &mut Vec<u8>, i: &[u8], room: usize) -> Result<usize, NoMemory>
-    ensures told { Tells (told_items (told_value room) (codes ":[") (codes "]") i.now) out.old.items out.new.items result }
+    ensures told { Tells (told_items (told_value room) (codes "[") (codes "]") i.now) out.old.items out.new.items result }
     ensures used { IfOk result (λ n. n ≤ length i.now) }
 {
     match split_long(i) {
         Some((used, content)) => {
-            write_bytes(out, b":[")?;
+            out.push(b'[')?;
             write_values(out, content, room)?;
             out.push(b']')?;
             Ok(used)
@@ -302,20 +297,16 @@ fn write_array(out: &mut Vec<u8>, i: &[u8], room: usize) -> Result<usize, NoMemo
     }
 }
 
-/// Appends the text of a table at the front, with these bytes as its opening bracket, and returns how many bytes it takes.
+/// Appends the text of a table at the front, and returns how many bytes it takes. Tables and arrays may nest `room` deep in
+/// its values.
 #[cycle(tell)]
-pub(crate) fn write_table(
-    out: &mut Vec<u8>,
-    opening: &[u8],
-    i: &[u8],
-    room: usize,
-) -> Result<usize, NoMemory>
-    ensures told { Tells (told_items (told_entry (told_value room)) opening.now (codes "}") i.now) out.old.items out.new.items result }
+pub(crate) fn write_table(out: &mut Vec<u8>, i: &[u8], room: usize) -> Result<usize, NoMemory>
+    ensures told { Tells (told_table (told_value room) i.now) out.old.items out.new.items result }
     ensures used { IfOk result (λ n. n ≤ length i.now) }
 {
     match split_long(i) {
         Some((used, content)) => {
-            write_bytes(out, opening)?;
+            out.push(b'{')?;
             write_entries(out, content, room)?;
             out.push(b'}')?;
             Ok(used)

@@ -6,7 +6,8 @@ ghost use Rattle.amqp_types.specs.Flags.{flags_from};
 ghost use Rattle.amqp_text.specs.Words.{escaped, hex, hex_byte, hex_digit, is_plain, quoted, sign, signs};
 ghost use Rattle.amqp_text.specs.Telling.{Writes};
 
-use amqp_types::{NoMemory, flag_of_byte};
+use amqp_canonical::has_bit;
+use amqp_types::NoMemory;
 
 /// How many digits a number of 8 bytes has at most.
 const MOST_DIGITS: usize = 20;
@@ -136,11 +137,10 @@ fn sign(flag: bool) -> u8
 /// Appends a sign for each of so many flags of a byte, flag 0 first.
 #[tactic(auto, unfolding(crate::specs::Words::signs))]
 pub(crate) fn write_signs(out: &mut Vec<u8>, count: u8, byte: u8) -> Result<(), NoMemory>
-    requires { count ≤ 8 }
     ensures { Writes out.old.items out.new.items (signs (flags_from count 0 byte)) result }
 {
     for k in 0..count {
-        out.push(sign(flag_of_byte(byte, k)))?;
+        out.push(sign(has_bit(byte as u16, k as u16)))?;
     }
     Ok(())
 }
