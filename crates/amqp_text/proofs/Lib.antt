@@ -1,0 +1,5 @@
+pub mod Digits
+pub mod Told
+pub mod ToldSlots
+pub mod ToldBack
+pub mod SlotsBack

@@ -1,0 +1,162 @@
+-- What is told of the canonical bytes of values and tables is their text, whatever follows.
+use Rattle.std.proofs.Common.{◌≡◌, ℕ, zero, suc, ◌+◌, ◌<◌, List, [], ◌∷◌, ◌++◌, length, drop, map, Bool, true, false, Option, Some, None, Ok, refl, sym, ap, ap₂, subst, ◌∙◌, append_assoc, one-add, arith, inl}
+use Rattle.std.specs.Prelude.{codes}
+use Rattle.std.specs.Fmt.{decimal, signed_decimal}
+use Rattle.std.proofs.lemmas.List.{length-append, drop_at}
+use Rattle.amqp_types.specs.Levels.{strict}
+use Rattle.amqp_types.specs.Judging.{Judge, took, ◌>>=◌, IsExact}
+use Rattle.amqp_types.specs.Sequences.{judge_map, judge_both}
+use Rattle.amqp_types.specs.Numbers.{NumberWidth, bytes1, bytes2, bytes4, bytes8, judge_number, SpellsNumber}
+use Rattle.amqp_types.specs.Signed.{judge_signed, SpellsSigned}
+use Rattle.amqp_types.specs.Booleans.{judge_boolean, SpellsBoolean}
+use Rattle.amqp_types.specs.Strings.{judge_short_string, judge_long_string, SpellsShortString, SpellsLongString}
+use Rattle.amqp_types.specs.Values.{FieldValue, FieldValues, FieldEntries, Entry, short_short_int, short_int, long_int, long_long_int, short_short_uint, short_uint, long_uint, float, double, timestamp, long_string, byte_array, boolean_value, signed_value, unsigned_value, decimal_value, bytes_value, array_value, table_value, void_value, no_values, next_value, no_entries, next_entry, items, pairs, entries_of}
+use Rattle.amqp_types.specs.ValueBytes.{signed_width, unsigned_width}
+use Rattle.amqp_types.specs.Tags.{tag_at, tag_of}
+use Rattle.amqp_types.specs.ValueJudging.{filled, read_map, whole, judge_decimal}
+use Rattle.amqp_types.specs.ValueSpelling.{SpellsEach, SpellsEntry, SpellsDecimal, SpellsArray, SpellsTable, SpellsBehind, SpellsTagged, SpellsValue, SpellsFieldTable}
+use Rattle.amqp_types.proofs.Numbers.{number_exact}
+use Rattle.amqp_types.proofs.Texts.{signed_exact, long_string_exact, short_string_exact}
+use Rattle.amqp_types.proofs.Sequences.{map_taken, both_exact}
+use Rattle.amqp_values.proofs.Conversions.{entries_of-pairs, pairs-entries_of}
+use Rattle.amqp_values.proofs.Filling.{filled_next}
+use Rattle.amqp_values.proofs.Filled.{HasBytes}
+use Rattle.amqp_values.proofs.Exactly.{value_some}
+use Rattle.amqp_values.proofs.Tags.{tag_read}
+use Rattle.amqp_canonical.proofs.Whole.{entry_some}
+use Rattle.amqp_text.specs.Words.{hex, quoted, parted}
+use Rattle.amqp_text.specs.Values.{tag_text, truth_text, content_text, values_texts, entries_texts, value_text, table_text}
+use Rattle.amqp_text.specs.Telling.{told_after, told_behind, told_entry, told_items, told_nested, told_number, told_signed, told_table, told_tagged, told_value}
+
+-- what is spelled so is told as this text
+abbrev pub IsToldAs : {A : Type 0} → Judge (List ℕ) → (List ℕ → A → Type 0) → (A → List ℕ) → Type 0
+IsToldAs {A} tell Spells text = (bytes rest : List ℕ) (x : A) → Spells bytes x → tell (bytes ++ rest) ≡ took (text x) (length bytes)
+
+pub both_back : {X Y Z : Type 0} (first : Judge X) (second : Judge Y) (join : X → Y → Z) (front behind rest : List ℕ) (x : X) (y : Y) → first (front ++ (behind ++ rest)) ≡ took x (length front) → second (behind ++ rest) ≡ took y (length behind)
+    → judge_both first second join ((front ++ behind) ++ rest) ≡ took (join x y) (length (front ++ behind))
+both_back first second join front behind rest x y one two =
+    let tail = behind ++ rest in
+    ap (judge_both first second join) (append_assoc front behind rest)
+    ∙ ap (λ j. j >>= λ v. second (drop v.1 (front ++ tail)) >>= λ w. took (join v.0 w.0) (v.1 + w.1)) one
+    ∙ ap (λ bs. second bs >>= λ w. took (join x w.0) (length front + w.1)) (drop_at front tail (length front) refl)
+    ∙ ap (λ j. j >>= λ w. took (join x w.0) (length front + w.1)) two ∙ ap (λ n. took (join x y) n) (sym (length-append front behind))
+
+-- ---- what fills an array or a table
+
+module _ {A : Type 0} (item : Judge (List ℕ)) (Spells : List ℕ → A → Type 0) (text : A → List ℕ) (told : IsToldAs item Spells text) (some : HasBytes Spells) where
+  each_back : (bytes : List ℕ) (xs : List A) → SpellsEach Spells bytes xs → filled item 0 bytes ≡ Ok (map text xs)
+  unfolding filled
+  each_back bytes [] h = ap (filled item 0) h
+  each_back bytes (x ∷ xs) h =
+      let here = h.0 in
+      let behind = h.1 in
+      let up = some here x h.3 in
+      let next = filled_next item (here ++ behind) (text x) (length here) (omega (arith, length-append here behind)) (told here behind x h.3) up (omega (arith, length-append here behind)) in
+      ap (filled item 0) h.2 ∙ next ∙ ap (λ bs. read_map (λ ys. text x ∷ ys) (filled item 0 bs)) (drop_at here behind (length here) refl)
+      ∙ ap (read_map (λ ys. text x ∷ ys)) (each_back behind xs h.4)
+
+  pub items_back : (before after bytes rest inner : List ℕ) (xs : List A) → SpellsLongString bytes inner → SpellsEach Spells inner xs → told_items item before after (bytes ++ rest) ≡ took (before ++ (parted (map text xs) ++ after)) (length bytes)
+  unfolding told_items
+  items_back before after bytes rest inner xs framed each =
+      ap (λ j. j >>= λ content. whole content.1 (read_map (λ texts. before ++ (parted texts ++ after)) (filled item 0 content.0))) (long_string_exact.taken bytes rest inner framed)
+      ∙ ap (λ r. whole (length bytes) (read_map (λ texts. before ++ (parted texts ++ after)) r)) (each_back inner xs each)
+
+-- a key and its value
+pub entry_text : Entry → List ℕ
+entry_text e = quoted e.0 ++ (codes "=" ++ value_text e.1)
+
+entry_back : (value : Judge (List ℕ)) (Spells : List ℕ → FieldValue → Type 0) → IsToldAs value Spells value_text → IsToldAs (told_entry value) (SpellsEntry Spells) entry_text
+unfolding told_entry entry_text
+entry_back value Spells told bytes rest e h =
+    ap (λ bs. told_entry value (bs ++ rest)) h.bytes_are
+    ∙ both_back judge_short_string value (λ key text. quoted key ++ (codes "=" ++ text)) h.front h.behind rest h.one (value_text h.two) (short_string_exact.taken h.front (h.behind ++ rest) h.one h.first_is) (told h.behind rest h.two h.second_is)
+    ∙ ap₂ (λ (x : Entry) n. took (entry_text x) n) (sym h.joined) (sym (ap length h.bytes_are))
+
+values_are : (vs : FieldValues) → map value_text (items vs) ≡ values_texts vs
+unfolding value_text
+values_are no_values = refl
+values_are (next_value v vs) = ap (λ ts. (tag_text (tag_of v) ++ content_text v) ∷ ts) (values_are vs)
+
+entries_are : (es : FieldEntries) → map entry_text (pairs es) ≡ entries_texts es
+unfolding entry_text value_text
+entries_are no_entries = refl
+entries_are (next_entry k v es) = ap (λ ts. (quoted k ++ (codes "=" ++ (tag_text (tag_of v) ++ content_text v))) ∷ ts) (entries_are es)
+
+-- a table
+pub table_back : (value : Judge (List ℕ)) (Spells : List ℕ → FieldValue → Type 0) → IsToldAs value Spells value_text → IsToldAs (told_table value) (SpellsTable strict Spells) table_text
+unfolding told_table table_text
+table_back value Spells told bytes rest es h =
+    let each : SpellsEach (SpellsEntry Spells) h.inner es = subst (λ fs. SpellsEach (SpellsEntry Spells) h.inner fs) h.once h.each in
+    items_back (told_entry value) (SpellsEntry Spells) entry_text (entry_back value Spells told) (entry_some Spells) (codes "{") (codes "}") bytes rest h.inner es h.framed each
+    ∙ ap (λ ts. took (codes "{" ++ (parted ts ++ codes "}")) (length bytes)) (ap (map entry_text) (sym (pairs-entries_of es)) ∙ entries_are (entries_of es))
+
+-- ---- after a tag
+
+decimal_exact : IsExact judge_decimal SpellsDecimal
+unfolding judge_decimal
+decimal_exact = both_exact (judge_number bytes1) (judge_number bytes4) (λ scale n. (scale, n)) (SpellsNumber bytes1) (SpellsNumber bytes4) (number_exact bytes1) (number_exact bytes4)
+
+number_back : (width : NumberWidth) → IsToldAs (told_number width) (SpellsNumber width) decimal
+number_back width = map_taken decimal (judge_number width) (SpellsNumber width) (number_exact width)
+
+signed_back : (width : NumberWidth) → IsToldAs (told_signed width) (SpellsSigned width) signed_decimal
+signed_back width = map_taken signed_decimal (judge_signed width) (SpellsSigned width) (signed_exact width)
+
+boolean_back : (bytes rest : List ℕ) (b : Bool) → SpellsBoolean strict bytes b → judge_map truth_text judge_boolean (bytes ++ rest) ≡ took (truth_text b) (length bytes)
+boolean_back bytes rest true h = let P : List ℕ → Type 0 = λ bs. judge_map truth_text judge_boolean (bs ++ rest) ≡ took (truth_text true) (length bs) in subst P (sym h) refl
+boolean_back bytes rest false h = let P : List ℕ → Type 0 = λ bs. judge_map truth_text judge_boolean (bs ++ rest) ≡ took (truth_text false) (length bs) in subst P (sym h) refl
+
+-- how values one level deeper are told, where there is room for them
+record IsNested (room : ℕ) (nest : Option (Judge (List ℕ))) (Spells : List ℕ → FieldValue → Type 0) : Type 0 where
+  value : 0 < room → Judge (List ℕ)
+  is : (some : 0 < room) → nest ≡ Some (value some)
+  told : (some : 0 < room) → IsToldAs (value some) Spells value_text
+  has_bytes : HasBytes Spells
+
+behind_back : (room : ℕ) (nest : Option (Judge (List ℕ))) (Spells : List ℕ → FieldValue → Type 0) → IsNested room nest Spells → (bytes rest : List ℕ) (v : FieldValue) → SpellsBehind strict room Spells bytes v → told_behind nest (tag_of v) (bytes ++ rest) ≡ took (content_text v) (length bytes)
+unfolding told_behind table_text
+behind_back room nest Spells n bytes rest (boolean_value b) h = boolean_back bytes rest b h
+behind_back room nest Spells n bytes rest (signed_value short_short_int k) h = signed_back bytes1 bytes rest k h
+behind_back room nest Spells n bytes rest (signed_value short_int k) h = signed_back bytes2 bytes rest k h
+behind_back room nest Spells n bytes rest (signed_value long_int k) h = signed_back bytes4 bytes rest k h
+behind_back room nest Spells n bytes rest (signed_value long_long_int k) h = signed_back bytes8 bytes rest k h
+behind_back room nest Spells n bytes rest (unsigned_value short_short_uint k) h = number_back bytes1 bytes rest k h
+behind_back room nest Spells n bytes rest (unsigned_value short_uint k) h = number_back bytes2 bytes rest k h
+behind_back room nest Spells n bytes rest (unsigned_value long_uint k) h = number_back bytes4 bytes rest k h
+behind_back room nest Spells n bytes rest (unsigned_value float k) h = number_back bytes4 bytes rest k h
+behind_back room nest Spells n bytes rest (unsigned_value double k) h = number_back bytes8 bytes rest k h
+behind_back room nest Spells n bytes rest (unsigned_value timestamp k) h = number_back bytes8 bytes rest k h
+behind_back room nest Spells n bytes rest (decimal_value scale k) h = map_taken (λ (d : ℕ × ℕ). decimal d.0 ++ (codes "/" ++ decimal d.1)) judge_decimal SpellsDecimal decimal_exact bytes rest (scale, k) h
+behind_back room nest Spells n bytes rest (bytes_value long_string content) h = map_taken quoted judge_long_string SpellsLongString long_string_exact bytes rest content h
+behind_back room nest Spells n bytes rest (bytes_value byte_array content) h = map_taken hex judge_long_string SpellsLongString long_string_exact bytes rest content h
+behind_back room nest Spells n bytes rest (array_value vs) h =
+    let value = n.value h.0 in
+    let array = h.1 in
+    ap (λ o. told_behind o (tag_of (array_value vs)) (bytes ++ rest)) (n.is h.0)
+    ∙ items_back value Spells value_text (n.told h.0) n.has_bytes (codes "[") (codes "]") bytes rest array.inner (items vs) array.framed array.each
+    ∙ ap (λ ts. took (codes "[" ++ (parted ts ++ codes "]")) (length bytes)) (values_are vs)
+behind_back room nest Spells n bytes rest (table_value es) h =
+    let value = n.value h.0 in
+    ap (λ o. told_behind o (tag_of (table_value es)) (bytes ++ rest)) (n.is h.0)
+    ∙ table_back value Spells (n.told h.0) bytes rest (pairs es) h.1 ∙ ap (λ fs. took (codes "{" ++ (parted (entries_texts fs) ++ codes "}")) (length bytes)) (entries_of-pairs es)
+behind_back room nest Spells n bytes rest void_value h = ap (λ bs. took [] (length bs)) (sym h)
+
+-- ---- a tag and its value
+
+tagged_back : (room : ℕ) (nest : Option (Judge (List ℕ))) (Spells : List ℕ → FieldValue → Type 0) → IsNested room nest Spells → IsToldAs (told_tagged nest) (SpellsTagged strict (SpellsBehind strict room Spells)) value_text
+unfolding told_tagged value_text
+tagged_back room nest Spells n bytes rest v h =
+    let behind = h.behind in
+    ap (λ bs. told_tagged nest (bs ++ rest)) h.bytes_are
+    ∙ ap (λ o. told_after nest o (behind ++ rest)) (tag_read h.byte (tag_of v) (inl h.tag_is))
+    ∙ ap (λ j. j >>= λ x. took (tag_text (tag_of v) ++ x.0) (1 + x.1)) (behind_back room nest Spells n behind rest v h.value_is)
+    ∙ ap (λ k. took (tag_text (tag_of v) ++ content_text v) k) (one-add (length behind) ∙ ap length (sym h.bytes_are))
+
+pub value_back : (room : ℕ) → IsToldAs (told_value room) (SpellsValue strict room) value_text
+unfolding told_value told_nested SpellsValue
+value_back zero = tagged_back 0 None (λ _ _. ⊥) (record { value = λ some. absurd (omega arith); is = λ some. absurd (omega arith); told = λ some. absurd (omega arith); has_bytes = λ bytes v h. absurd h })
+value_back (suc room) = tagged_back (suc room) (Some (told_tagged (told_nested room))) (SpellsValue strict room) (record { value = λ some. told_value room; is = λ some. refl; told = λ some. value_back room; has_bytes = value_some strict room })
+
+-- a table that is a slot
+pub field_table_back : IsToldAs (told_table (told_value 63)) (SpellsFieldTable strict) table_text
+field_table_back = table_back (told_value 63) (SpellsValue strict 63) (value_back 63)

@@ -1,0 +1,5 @@
+use Rattle.std.proofs.Common.{length}
+use Rattle.amqp_text.proofs.slots.+write_slots.Given as goal
+
+abbrev pub decreases-write_slots : goal.decreases-write_slots
+decreases-write_slots l = length l.shapes.now

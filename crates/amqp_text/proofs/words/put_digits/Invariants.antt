@@ -1,0 +1,10 @@
+use Rattle.std.proofs.Common.{◌≡◌, ◌+◌, ◌<◌, ◌≤◌, ◌^◌, ◌++◌, drop}
+use Rattle.std.specs.Fmt.{decimal}
+use Rattle.amqp_text.proofs.Digits.{ArePut}
+use Rattle.amqp_text.proofs.words.put_digits.Given as goal
+
+abbrev pub invariant-loop-rest : goal.invariant-loop-rest
+invariant-loop-rest l = ArePut l.number l.digits l.place l.rest
+
+abbrev pub decreases-loop-rest : goal.decreases-loop-rest
+decreases-loop-rest l = l.rest
