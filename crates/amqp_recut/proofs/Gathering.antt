@@ -1,0 +1,77 @@
+-- What is gathered one after another, and the steps that are made of it.
+use Rattle.std.proofs.Common.{◌≡◌, ℕ, List, [], ◌++◌, refl, sym, ap, subst, ◌∙◌, append_assoc, append-nil, Result, Ok, Err}
+use Rattle.amqp_frame.specs.Frames.{Raw, Body}
+use Rattle.amqp_frame.specs.Verdicts.{whole_as}
+use Rattle.amqp_stream.specs.declared.sink.SinkFault.{SinkFault}
+use Rattle.amqp_stream.specs.Ends.{Store}
+use Rattle.amqp_stream.specs.Writing.{Gathered, GatherFails, Gathers, WritesAll}
+use Rattle.amqp_stream.specs.Streaming.{IsStep, Writes, WriteFails}
+use Rattle.amqp_stream.proofs.Adding.{Gains-then, Gains-none, Rises-later}
+use Rattle.amqp_recut.specs.declared.recutter.Recutter.{Recutter}
+use Rattle.amqp_recut.specs.Stepping.{recutting, step_recutting, body_raw}
+
+-- ---- bytes after bytes
+
+pub gathered_more : {a b c : Store} {x y z p q : List ℕ} → Gathered a b x y p → Gathered b c y z q → Gathered a c x z (p ++ q)
+gathered_more {a = a} {b = b} {c = c} {x = x} {y = y} {z = z} {p = p} {q = q} f g = record {
+  written = f.written ++ g.written;
+  gains = Gains-then a b c f.written g.written f.gains g.gains;
+  parts = append_assoc f.written g.written z ∙ ap (λ (bytes : List ℕ). f.written ++ bytes) g.parts ∙ sym (append_assoc f.written y q) ∙ ap (λ (bytes : List ℕ). bytes ++ q) f.parts ∙ append_assoc x p q;
+}
+
+pub gather_fails_later : {a b c : Store} {x y z p q : List ℕ} → Gathered a b x y p → GatherFails b c y z q → GatherFails a c x z (p ++ q)
+gather_fails_later {a = a} {b = b} {c = c} {x = x} {y = y} {p = p} {q = q} f g = record {
+  piece = f.written ++ g.piece;
+  gains = Gains-then a b c f.written g.piece f.gains g.gains;
+  prefix = (g.prefix.0, append_assoc f.written g.piece g.prefix.0 ∙ ap (λ (bytes : List ℕ). f.written ++ bytes) g.prefix.1 ∙ sym (append_assoc f.written y q) ∙ ap (λ (bytes : List ℕ). bytes ++ q) f.parts ∙ append_assoc x p q);
+  rises = Rises-later a.faults b.faults c.faults f.gains.faults g.gains.faults g.rises;
+  none = g.none;
+}
+
+-- the first bytes were gathered, and then the others or not
+pub gathers_then : {a b : Store} {x y p : List ℕ} (c : Store) (z q : List ℕ) (r : Result (Unit {0}) SinkFault) → Gathered a b x y p → Gathers b c y z q r → Gathers a c x z (p ++ q) r
+gathers_then c z q (Ok done) f g = gathered_more f g
+gathers_then c z q (Err bad) f g = gather_fails_later f g
+
+-- the first bytes were not gathered, and so not all
+pub gathers_less : {a b : Store} {x y p : List ℕ} (q : List ℕ) → GatherFails a b x y p → GatherFails a b x y (p ++ q)
+gathers_less {x = x} {p = p} q f = record {
+  piece = f.piece;
+  gains = f.gains;
+  prefix = (f.prefix.0 ++ q, sym (append_assoc f.piece f.prefix.0 q) ∙ ap (λ (bytes : List ℕ). bytes ++ q) f.prefix.1 ∙ append_assoc x p q);
+  rises = f.rises;
+  none = f.none;
+}
+
+-- other words for the same bytes
+pub gathers_as : {p q : List ℕ} (a b : Store) (x y : List ℕ) (r : Result (Unit {0}) SinkFault) → p ≡ q → Gathers a b x y p r → Gathers a b x y q r
+gathers_as a b x y (Ok done) e h = subst (λ (bytes : List ℕ). Gathered a b x y bytes) e h
+gathers_as a b x y (Err bad) e h = subst (λ (bytes : List ℕ). GatherFails a b x y bytes) e h
+
+pub gathered_none : (a : Store) (x y : List ℕ) → y ≡ x → Gathered a a x y []
+gathered_none a x y e = record { written = []; gains = Gains-none a; parts = e ∙ sym (append-nil x) }
+
+-- all that was pending was written
+pub all_written : (a b : Store) (x y : List ℕ) (r : Result (Unit {0}) SinkFault) → y ≡ [] → WritesAll a b x r → Gathers a b x y [] r
+all_written a b x y (Ok done) e h = record { written = h.piece; gains = h.gains; parts = ap (λ (bytes : List ℕ). h.piece ++ bytes) e ∙ append-nil h.piece ∙ h.ok ∙ sym (append-nil x) }
+all_written a b x y (Err bad) e h = record { piece = h.piece; gains = h.gains; prefix = (h.prefix.0, h.prefix.1 ∙ sym (append-nil x)); rises = h.err; none = e }
+
+-- ---- a step
+
+body_step : (s t : Recutter) (channel : ℕ) (payload bytes : List ℕ) → step_recutting s (Body channel payload) ≡ Ok (bytes, t) → IsStep recutting s t (body_raw channel payload) bytes
+unfolding whole_as
+body_step s t channel payload bytes e = record { frame = Body channel payload; is_whole = refl; at_level = refl; steps = e }
+
+-- what is written for a body was gathered, or not
+pub body_written : {s t : Recutter} {channel : ℕ} {payload bytes : List ℕ} (a b : Store) (x y : List ℕ) → step_recutting s (Body channel payload) ≡ Ok (bytes, t) → Gathered a b x y bytes → Writes recutting s t (body_raw channel payload) a b x y
+body_written {s = s} {t = t} {channel = channel} {payload = payload} {bytes = bytes} a b x y e h = record { bytes = bytes; step = body_step s t channel payload bytes e; gathered = h }
+
+pub body_unwritten : {s t : Recutter} {channel : ℕ} {payload bytes : List ℕ} (a b : Store) (x y : List ℕ) → step_recutting s (Body channel payload) ≡ Ok (bytes, t) → GatherFails a b x y bytes → WriteFails recutting s (body_raw channel payload) a b x y
+body_unwritten {s = s} {t = t} {channel = channel} {payload = payload} {bytes = bytes} a b x y e h = record { bytes = bytes; next = t; step = body_step s t channel payload bytes e; failed = h }
+
+-- and then some of what is pending was written
+pub settled : {s t : Recutter} {raw : Raw} {a b : Store} {x y : List ℕ} (c : Store) (z : List ℕ) → Writes recutting s t raw a b x y → Gathered b c y z [] → Writes recutting s t raw a c x z
+settled {a = a} {x = x} c z h g = record { bytes = h.bytes; step = h.step; gathered = subst (λ (bytes : List ℕ). Gathered a c x z bytes) (append-nil h.bytes) (gathered_more h.gathered g) }
+
+pub unsettled : {s t : Recutter} {raw : Raw} {a b : Store} {x y : List ℕ} (c : Store) (z : List ℕ) → Writes recutting s t raw a b x y → GatherFails b c y z [] → WriteFails recutting s raw a c x z
+unsettled {t = t} {a = a} {x = x} c z h g = record { bytes = h.bytes; next = t; step = h.step; failed = subst (λ (bytes : List ℕ). GatherFails a c x z bytes) (append-nil h.bytes) (gather_fails_later h.gathered g) }

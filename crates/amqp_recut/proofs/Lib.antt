@@ -1,0 +1,9 @@
+pub mod Cutting
+pub mod Holding
+pub mod Gathering
+pub mod Piecing
+pub mod Channels
+pub mod Stepping
+pub mod Running
+pub mod Streams
+pub mod Writing

@@ -1,0 +1,293 @@
+-- Recutting frame after frame writes the frames recut, as far as they are in turn.
+use Rattle.std.proofs.Common.{◌≡◌, ◌≢◌, ℕ, ◌≤◌, Bool, true, false, cond, List, [], ◌∷◌, ◌++◌, length, refl, sym, ap, ap₂, subst, ◌∙◌, arith, inl, inr, ◌⊎◌, Option, Some, None, Ok, Err}
+use Rattle.std.proofs.lemmas.List.{append-nil, append_assoc, length-append}
+use Rattle.std.proofs.lemmas.List.Elements.{filter-append}
+use Rattle.std.proofs.lemmas.Grind.{flat_map-append}
+use Rattle.std.proofs.lemmas.Bool.{cases_eq}
+use Rattle.amqp_frame.specs.Frames.{Frame, channel_id_of}
+use Rattle.amqp_frame.specs.Outlines.{outline_of}
+use Rattle.amqp_frame.specs.Canonical.{canon, canon_row}
+use Rattle.amqp_content.specs.declared.fault.ContentFault.{ContentFault}
+use Rattle.amqp_content.specs.declared.mark.Mark.{Mark}
+use Rattle.amqp_content.specs.declared.mark.Mark.TheVariants as marks
+use Rattle.amqp_content.specs.Units.{is_content, is_of_channel, of_channel, Begun, Nothing, IsBegun, frames_in, IsInTurn, Reading}
+use Rattle.amqp_content.specs.Answers.{Answer, Wrong, IsLastAnswer}
+use Rattle.amqp_content.specs.Stands.{State, At, Lost, state_after}
+use Rattle.amqp_content.specs.Steps.{step, run_state}
+use Rattle.amqp_content.proofs.Running.{run_state-append, run_stands, turn_runs, advance}
+use Rattle.amqp_content.proofs.Apart.{of_channel-in, of_channel-out, of_own, of_other, of_none}
+use Rattle.amqp_stream.specs.Steps.{text, refused, state, text_at, refused_at, state_at}
+use Rattle.amqp_recut.specs.declared.errors.Refusal.{Refusal}
+use Rattle.amqp_recut.specs.declared.errors.Refusal.TheVariants as refusals
+use Rattle.amqp_recut.specs.declared.recutter.Recutter.{Recutter}
+use Rattle.amqp_recut.specs.InTurn.{greatest, AreInTurn, IsLongestInTurn, state_on}
+use Rattle.amqp_recut.specs.Cuts.{frame_recut, recut_after}
+use Rattle.amqp_recut.specs.Held.{Held, set_at}
+use Rattle.amqp_recut.specs.Stepping.{written_marked, mark_held, held_at, held_after, step_marked, step_recutting, recutting}
+use Rattle.amqp_recut.proofs.Holding.{at_itself, at_other, get-set_at}
+use Rattle.amqp_recut.proofs.Channels.{held_of_state, IsFresh, OnChannel, goes, stops, on_channel, outside}
+
+-- ---- what has come on a channel
+
+pub state_on-own : (earlier : List Frame) (frame : Frame) → is_content (outline_of frame) ≡ true → state_on (earlier ++ frame ∷ []) (channel_id_of frame) ≡ (step outline_of greatest (state_on earlier (channel_id_of frame)) frame).1
+state_on-own earlier frame h =
+    ap (run_state outline_of greatest (At Nothing)) (of_channel-in (channel_id_of frame) earlier frame (of_own frame h)) ∙ run_state-append outline_of greatest (At Nothing) (of_channel outline_of (channel_id_of frame) earlier) (frame ∷ [])
+
+pub state_on-other : (earlier : List Frame) (frame : Frame) (channel : ℕ) → channel ≢ channel_id_of frame → state_on (earlier ++ frame ∷ []) channel ≡ state_on earlier channel
+state_on-other earlier frame channel apart = ap (run_state outline_of greatest (At Nothing)) (of_channel-out channel earlier frame (of_other channel frame apart))
+
+pub state_on-outside : (earlier : List Frame) (frame : Frame) (channel : ℕ) → is_content (outline_of frame) ≡ false → state_on (earlier ++ frame ∷ []) channel ≡ state_on earlier channel
+state_on-outside earlier frame channel h = ap (run_state outline_of greatest (At Nothing)) (of_channel-out channel earlier frame (of_none channel frame h))
+
+-- a state in turn is what has begun
+record IsAt (now : State Frame) : Type 0 where
+  begun : Begun Frame
+  is : now ≡ At begun
+  is_begun : IsBegun outline_of greatest begun
+
+at_reading : (begun : Begun Frame) (rest : List Frame) (now : State Frame) → IsBegun outline_of greatest begun → now ≡ state_after begun rest → now ≢ Lost → IsAt now
+at_reading begun [] now h e turn = record { begun = begun; is = e; is_begun = h }
+at_reading begun (frame ∷ rest) now h e turn = absurd (turn e)
+
+begun_on : (frames : List Frame) (channel : ℕ) → state_on frames channel ≢ Lost → IsAt (state_on frames channel)
+begun_on frames channel turn =
+    let stands = run_stands outline_of greatest (of_channel outline_of channel frames) in
+    at_reading stands.reading.begun stands.reading.rest (state_on frames channel) stands.reading.is_begun stands.is turn
+
+-- ---- in turn
+
+turn_at : (max : ℕ) (xs : List Frame) (reading : Reading outline_of max xs) (rest : List Frame) → reading.rest ≡ rest → state_after reading.begun rest ≢ Lost → IsInTurn outline_of max xs
+turn_at max xs reading [] e turn = record {
+  units = reading.units;
+  begun = reading.begun;
+  finished = reading.finished;
+  is_begun = reading.is_begun;
+  are = reading.are ∙ ap (λ r. frames_in reading.units reading.begun ++ r) e ∙ append-nil (frames_in reading.units reading.begun);
+}
+turn_at max xs reading (frame ∷ rest) e turn = absurd (turn refl)
+
+pub are_in_turn : (frames : List Frame) → ((channel : ℕ) → state_on frames channel ≢ Lost) → AreInTurn frames
+are_in_turn frames turn channel =
+    let xs = of_channel outline_of channel frames in
+    let stands = run_stands outline_of greatest xs in
+    turn_at greatest xs stands.reading stands.reading.rest refl (λ lost. turn channel (stands.is ∙ lost))
+
+pub none_lost : (frames : List Frame) (channel : ℕ) → AreInTurn frames → state_on frames channel ≢ Lost
+none_lost frames channel turn lost =
+    let h = turn channel in
+    let at : state_on frames channel ≡ At h.begun = ap (run_state outline_of greatest (At Nothing)) h.are ∙ (turn_runs outline_of greatest h.units h.begun h.finished h.is_begun).state_is in
+    absurd cc
+
+lost_stays : (frames : List Frame) → run_state outline_of greatest Lost frames ≡ Lost
+lost_stays [] = refl
+lost_stays (frame ∷ frames) = lost_stays frames
+
+pub lost_later : (front back : List Frame) (channel : ℕ) → state_on front channel ≡ Lost → state_on (front ++ back) channel ≡ Lost
+lost_later front back channel lost =
+    ap (run_state outline_of greatest (At Nothing)) (filter-append (is_of_channel outline_of channel) front back)
+    ∙ run_state-append outline_of greatest (At Nothing) (of_channel outline_of channel front) (of_channel outline_of channel back)
+    ∙ ap (λ s. run_state outline_of greatest s (of_channel outline_of channel back)) lost
+    ∙ lost_stays (of_channel outline_of channel back)
+
+-- a prefix ends before a frame, or has it
+before_or_with : (front : List Frame) (next : Frame) (more other back : List Frame) → front ++ next ∷ more ≡ other ++ back → (length other ≤ length front) ⊎ ((middle : List Frame) × (other ≡ (front ++ next ∷ []) ++ middle))
+before_or_with front next more [] back e = inl (omega arith)
+before_or_with [] next more (f ∷ fs) back e = inr (fs, cc)
+before_or_with (g ∷ gs) next more (f ∷ fs) back e =
+    let tails : gs ++ next ∷ more ≡ fs ++ back = cc in
+    let heads : g ≡ f = cc in
+    on heads (before_or_with gs next more fs back tails)
+  where
+    on : g ≡ f → (length fs ≤ length gs) ⊎ ((middle : List Frame) × (fs ≡ (gs ++ next ∷ []) ++ middle)) → (length (f ∷ fs) ≤ length (g ∷ gs)) ⊎ ((middle : List Frame) × (f ∷ fs ≡ ((g ∷ gs) ++ next ∷ []) ++ middle))
+    on same (inl short) = inl (omega arith)
+    on same (inr found) = inr (found.0, cc)
+
+-- ---- one frame
+
+-- what a writer keeps stands for the frames so far, which are in turn
+pub record StandsFor (size : ℕ) (s : Recutter) (earlier : List Frame) : Type 0 where
+  pub size_is : s.size ≡ size
+  pub held_is : (channel : ℕ) → held_at s channel ≡ held_of_state size (state_on earlier channel)
+  pub in_turn : (channel : ℕ) → state_on earlier channel ≢ Lost
+
+pub data Stepped (size : ℕ) (s : Recutter) (earlier : List Frame) (frame : Frame) : Type 0 where
+  takes : (t : Recutter) → step_recutting s frame ≡ Ok (canon_row (frame_recut size (state_on earlier (channel_id_of frame)) frame), t) → StandsFor size t (earlier ++ frame ∷ []) → Stepped size s earlier frame
+  refuses : (bad : ContentFault) → step_recutting s frame ≡ Err (refusals.BadContent bad) → state_on (earlier ++ frame ∷ []) (channel_id_of frame) ≡ Lost → IsLastAnswer outline_of greatest (of_channel outline_of (channel_id_of frame) (earlier ++ frame ∷ [])) (Wrong bad) → IsFresh bad frame → Stepped size s earlier frame
+
+-- the writer after a frame on a channel of which this is kept then
+abbrev after_with : Recutter → Frame → Option Held → Recutter
+after_with s frame held = record s { messages = set_at s.messages (channel_id_of frame) held }
+
+held_here : (s : Recutter) (frame : Frame) (held : Option Held) → held_at (after_with s frame held) (channel_id_of frame) ≡ held
+held_here s frame held = get-set_at s.messages (channel_id_of frame) held (channel_id_of frame) ∙ ap (λ b. cond b held (held_at s (channel_id_of frame))) (at_itself (channel_id_of frame))
+
+held_there : (s : Recutter) (frame : Frame) (held : Option Held) (channel : ℕ) → channel ≢ channel_id_of frame → held_at (after_with s frame held) channel ≡ held_at s channel
+held_there s frame held channel apart = get-set_at s.messages (channel_id_of frame) held channel ∙ ap (λ b. cond b held (held_at s channel)) (at_other channel (channel_id_of frame) apart)
+
+-- a frame that is not refused
+goes_on : (s : Recutter) (held : Option Held) (frame : Frame) (mark : Mark) → ((bad : ContentFault) → mark ≢ marks.Fault bad) → step_marked s held frame mark ≡ Ok (written_marked s.size held frame mark, after_with s frame (held_after s.size held frame))
+goes_on s held frame marks.Passed h = refl
+goes_on s held frame marks.Opening h = refl
+goes_on s held frame marks.Header h = refl
+goes_on s held frame (marks.Body before after n) h = refl
+goes_on s held frame (marks.Fault bad) h = absurd (h bad refl)
+
+module _ (size : ℕ) (s : Recutter) (earlier : List Frame) (frame : Frame) (h : StandsFor size s earlier) where
+  -- the writer stands for one frame more, where this is kept of its channel
+  stands_more : (now : State Frame) → now ≢ Lost → is_content (outline_of frame) ≡ true → state_on (earlier ++ frame ∷ []) (channel_id_of frame) ≡ now → StandsFor size (after_with s frame (held_of_state size now)) (earlier ++ frame ∷ [])
+  stands_more now turn content is = record {
+    size_is = h.size_is;
+    held_is = λ channel. elim (cases_eq channel (channel_id_of frame)) [
+      | inl same ↦
+          subst (λ (c : ℕ). held_at (after_with s frame (held_of_state size now)) c ≡ held_of_state size (state_on (earlier ++ frame ∷ []) c)) (sym same)
+          (held_here s frame (held_of_state size now) ∙ ap (held_of_state size) (sym is))
+      | inr apart ↦ held_there s frame (held_of_state size now) channel apart ∙ h.held_is channel ∙ ap (held_of_state size) (sym (state_on-other earlier frame channel apart))
+    ];
+    in_turn = λ channel. elim (cases_eq channel (channel_id_of frame)) [
+      | inl same ↦ subst (λ (c : ℕ). state_on (earlier ++ frame ∷ []) c ≢ Lost) (sym same) (λ lost. turn (sym is ∙ lost))
+      | inr apart ↦ λ lost. h.in_turn channel (sym (state_on-other earlier frame channel apart) ∙ lost)
+    ];
+  }
+
+  step_outside : is_content (outline_of frame) ≡ false → Stepped size s earlier frame
+  step_outside content =
+      let channel = channel_id_of frame in
+      let held = held_at s channel in
+      let is = outside s.size held (state_on earlier channel) frame content in
+      let same = outside size held (state_on earlier channel) frame content in
+      takes (after_with s frame held)
+      (ap (step_marked s held frame) is.passes ∙ ap₂ (λ (bytes : List ℕ) (k : Option Held). Ok (bytes, after_with s frame k)) same.recut_is is.keeps)
+      (record {
+        size_is = h.size_is;
+        held_is = λ c. elim (cases_eq c channel) [
+          | inl here ↦ subst (λ (c : ℕ). held_at (after_with s frame held) c ≡ held_of_state size (state_on (earlier ++ frame ∷ []) c)) (sym here) (held_here s frame held ∙ h.held_is channel ∙ ap (held_of_state size) (sym (state_on-outside earlier frame channel content)))
+          | inr apart ↦ held_there s frame held c apart ∙ h.held_is c ∙ ap (held_of_state size) (sym (state_on-outside earlier frame c content))
+        ];
+        in_turn = λ c lost. h.in_turn c (sym (state_on-outside earlier frame c content) ∙ lost);
+      })
+
+  step_content : (now : State Frame) → is_content (outline_of frame) ≡ true → state_on earlier (channel_id_of frame) ≡ now → OnChannel size now frame → Stepped size s earlier frame
+  step_content now content is (goes mark marked fine written_is held_is turn) =
+      let channel = channel_id_of frame in
+      let kept = held_of_state size now in
+      let held : held_at s channel ≡ kept = h.held_is channel ∙ ap (held_of_state size) is in
+      takes (after_with s frame (held_of_state size (step outline_of greatest now frame).1))
+      (ap (λ k. step_marked s k frame (mark_held k frame)) held ∙ ap (step_marked s kept frame) marked ∙ goes_on s kept frame mark fine
+      ∙ ap (λ n. Ok (written_marked n kept frame mark, after_with s frame (held_after n kept frame))) h.size_is
+      ∙ ap₂ (λ (bytes : List ℕ) (k : Option Held). Ok (bytes, after_with s frame k)) (written_is ∙ ap (λ st. canon_row (frame_recut size st frame)) (sym is)) held_is)
+      (stands_more (step outline_of greatest now frame).1 turn content (state_on-own earlier frame content ∙ ap (λ st. (step outline_of greatest st frame).1) is))
+  step_content now content is (stops bad marked answer other) =
+      let channel = channel_id_of frame in
+      let kept = held_of_state size now in
+      let xs = of_channel outline_of channel earlier in
+      let held : held_at s channel ≡ kept = h.held_is channel ∙ ap (held_of_state size) is in
+      let whole : step outline_of greatest (state_on earlier channel) frame ≡ (Wrong bad, Lost) = ap (λ st. step outline_of greatest st frame) is ∙ answer in
+      let last = (advance outline_of greatest xs (state_on earlier channel) frame (run_stands outline_of greatest xs)).last in
+      refuses bad
+      (ap (λ k. step_marked s k frame (mark_held k frame)) held ∙ ap (step_marked s kept frame) marked)
+      (state_on-own earlier frame content ∙ ap (λ (p : Answer Frame × State Frame). p.1) whole)
+      (subst (λ (ys : List Frame). IsLastAnswer outline_of greatest ys (Wrong bad)) (sym (of_channel-in channel earlier frame (of_own frame content)))
+      (subst (λ (a : Answer Frame). IsLastAnswer outline_of greatest (xs ++ frame ∷ []) a) (ap (λ (p : Answer Frame × State Frame). p.0) whole) last))
+      other
+
+  step_by : (content : Bool) → is_content (outline_of frame) ≡ content → 1 ≤ size → Stepped size s earlier frame
+  step_by true content some =
+      let at = begun_on earlier (channel_id_of frame) (h.in_turn (channel_id_of frame)) in
+      step_content (At at.begun) content at.is (on_channel size at.begun frame some at.is_begun content)
+  step_by false content some = step_outside content
+
+  pub step_frame : 1 ≤ size → Stepped size s earlier frame
+  step_frame some = step_by (is_content (outline_of frame)) refl some
+
+-- ---- frames one after another
+
+-- why the frames end where they do: they are all, or the next is refused
+pub data Ends (earlier front rest : List Frame) (why : Option Refusal) : Type 0 where
+  all : rest ≡ [] → why ≡ None → Ends earlier front rest why
+  fault : (frame : Frame) (more : List Frame) (bad : ContentFault) → rest ≡ frame ∷ more → why ≡ Some (refusals.BadContent bad)
+      → state_on ((earlier ++ front) ++ frame ∷ []) (channel_id_of frame) ≡ Lost
+      → IsLastAnswer outline_of greatest (of_channel outline_of (channel_id_of frame) ((earlier ++ front) ++ frame ∷ [])) (Wrong bad)
+      → IsFresh bad frame
+      → Ends earlier front rest why
+
+pub record Ran (size : ℕ) (s : Recutter) (earlier frames : List Frame) : Type 0 where
+  pub front : List Frame
+  pub rest : List Frame
+  pub parts : frames ≡ front ++ rest
+  pub text_is : text recutting s frames ≡ canon_row (recut_after size earlier front)
+  pub stands : StandsFor size (state recutting s frames) (earlier ++ front)
+  pub ends : Ends earlier front rest (refused recutting s frames)
+
+ends_on : (earlier front rest : List Frame) (frame : Frame) (why : Option Refusal) → Ends (earlier ++ frame ∷ []) front rest why → Ends earlier (frame ∷ front) rest why
+ends_on earlier front rest frame why (all none e) = all none e
+ends_on earlier front rest frame why (fault next more bad is e lost last other) =
+    let same : (earlier ++ frame ∷ []) ++ front ≡ earlier ++ frame ∷ front = append_assoc earlier (frame ∷ []) front in
+    fault next more bad is e (subst (λ (fs : List Frame). state_on (fs ++ next ∷ []) (channel_id_of next) ≡ Lost) same lost) (subst (λ (fs : List Frame). IsLastAnswer outline_of greatest (of_channel outline_of (channel_id_of next) (fs ++ next ∷ [])) (Wrong bad)) same last) other
+
+ran_more : (size : ℕ) (s t : Recutter) (earlier : List Frame) (frame : Frame) (frames : List Frame) → step_recutting s frame ≡ Ok (canon_row (frame_recut size (state_on earlier (channel_id_of frame)) frame), t) → Ran size t (earlier ++ frame ∷ []) frames → Ran size s earlier (frame ∷ frames)
+unfolding text refused state
+ran_more size s t earlier frame frames e ran =
+    let bytes = canon_row (frame_recut size (state_on earlier (channel_id_of frame)) frame) in
+    let state_is : state recutting s (frame ∷ frames) ≡ state recutting t frames = ap (λ r. state_at s r (λ u. state recutting u frames)) e in
+    let why_is : refused recutting s (frame ∷ frames) ≡ refused recutting t frames = ap (λ r. refused_at r (λ u. refused recutting u frames)) e in
+    record {
+      front = frame ∷ ran.front;
+      rest = ran.rest;
+      parts = ap (λ fs. frame ∷ fs) ran.parts;
+      text_is = ap (λ r. text_at r (λ u. text recutting u frames)) e ∙ ap (λ (bs : List ℕ). bytes ++ bs) ran.text_is ∙ sym (flat_map-append canon (frame_recut size (state_on earlier (channel_id_of frame)) frame) (recut_after size (earlier ++ frame ∷ []) ran.front));
+      stands = subst (λ (u : Recutter). StandsFor size u (earlier ++ frame ∷ ran.front)) (sym state_is) (subst (λ (fs : List Frame). StandsFor size (state recutting t frames) fs) (append_assoc earlier (frame ∷ []) ran.front) ran.stands);
+      ends = subst (λ (why : Option Refusal). Ends earlier (frame ∷ ran.front) ran.rest why) (sym why_is) (ends_on earlier ran.front ran.rest frame (refused recutting t frames) ran.ends);
+    }
+
+ran_stopped : (size : ℕ) (s : Recutter) (earlier : List Frame) (frame : Frame) (frames : List Frame) (bad : ContentFault) → StandsFor size s earlier → step_recutting s frame ≡ Err (refusals.BadContent bad) → state_on (earlier ++ frame ∷ []) (channel_id_of frame) ≡ Lost → IsLastAnswer outline_of greatest (of_channel outline_of (channel_id_of frame) (earlier ++ frame ∷ [])) (Wrong bad) → IsFresh bad frame → Ran size s earlier (frame ∷ frames)
+unfolding text refused state
+ran_stopped size s earlier frame frames bad h e lost last other =
+    let same : earlier ≡ earlier ++ [] = sym (append-nil earlier) in
+    let state_is : state recutting s (frame ∷ frames) ≡ s = ap (λ r. state_at s r (λ u. state recutting u frames)) e in
+    record {
+      front = [];
+      rest = frame ∷ frames;
+      parts = refl;
+      text_is = ap (λ r. text_at r (λ u. text recutting u frames)) e;
+      stands = subst (λ (u : Recutter). StandsFor size u (earlier ++ [])) (sym state_is) (subst (λ (fs : List Frame). StandsFor size s fs) same h);
+      ends = fault frame frames bad refl (ap (λ r. refused_at r (λ u. refused recutting u frames)) e) (subst (λ (fs : List Frame). state_on (fs ++ frame ∷ []) (channel_id_of frame) ≡ Lost) same lost) (subst (λ (fs : List Frame). IsLastAnswer outline_of greatest (of_channel outline_of (channel_id_of frame) (fs ++ frame ∷ [])) (Wrong bad)) same last) other;
+    }
+
+ran_nothing : (size : ℕ) (s : Recutter) (earlier : List Frame) → StandsFor size s earlier → Ran size s earlier []
+unfolding text refused state
+ran_nothing size s earlier h = record {
+  front = [];
+  rest = [];
+  parts = refl;
+  text_is = refl;
+  stands = subst (λ (fs : List Frame). StandsFor size s fs) (sym (append-nil earlier)) h;
+  ends = all refl refl;
+}
+
+pub runs : (size : ℕ) (s : Recutter) (earlier frames : List Frame) → 1 ≤ size → StandsFor size s earlier → Ran size s earlier frames
+runs size s earlier [] some h = ran_nothing size s earlier h
+runs size s earlier (frame ∷ frames) some h = by_step (step_frame size s earlier frame h some) (λ t g. runs size t (earlier ++ frame ∷ []) frames some g)
+  where
+    by_step : Stepped size s earlier frame → ((t : Recutter) → StandsFor size t (earlier ++ frame ∷ []) → Ran size t (earlier ++ frame ∷ []) frames) → Ran size s earlier (frame ∷ frames)
+    by_step (takes t e g) on = ran_more size s t earlier frame frames e (on t g)
+    by_step (refuses bad e lost last other) on = ran_stopped size s earlier frame frames bad h e lost last other
+
+-- ---- the longest prefix in turn
+
+longest_by : (frames front rest : List Frame) (why : Option Refusal) → frames ≡ front ++ rest → Ends [] front rest why → (other back : List Frame) → frames ≡ other ++ back → AreInTurn other → length other ≤ length front
+longest_by frames front rest why parts (all none e) other back are turn =
+    let whole : front ≡ other ++ back = sym (append-nil front) ∙ ap (λ r. front ++ r) (sym none) ∙ sym parts ∙ are in
+    omega (arith, ap length whole, length-append other back)
+longest_by frames front rest why parts (fault next more bad is e lost last unfaulted) other back are turn = by_place (before_or_with front next more other back (ap (λ r. front ++ r) (sym is) ∙ sym parts ∙ are))
+  where
+    by_place : (length other ≤ length front) ⊎ ((middle : List Frame) × (other ≡ (front ++ next ∷ []) ++ middle)) → length other ≤ length front
+    by_place (inl short) = short
+    by_place (inr found) = absurd (none_lost other (channel_id_of next) turn (ap (λ fs. state_on fs (channel_id_of next)) found.1 ∙ lost_later (front ++ next ∷ []) found.0 (channel_id_of next) lost))
+
+pub longest_ran : (size : ℕ) (s : Recutter) (frames : List Frame) (ran : Ran size s [] frames) → IsLongestInTurn frames ran.front
+longest_ran size s frames ran = record {
+  rest = ran.rest;
+  parts = ran.parts;
+  in_turn = are_in_turn ran.front ran.stands.in_turn;
+  longest = longest_by frames ran.front ran.rest (refused recutting s frames) ran.parts ran.ends;
+}

@@ -1,0 +1,306 @@
+-- What is written for one frame, and what is kept then, by its mark.
+use Rattle.std.proofs.Common.{◌≡◌, ℕ, ◌+◌, Bool, true, false, eqb, leb, List, [], ◌∷◌, ◌++◌, length, refl, sym, ap, ◌∙◌, inl, inr, Option, Some, None, Result, Ok, Err, IsTrue}
+use Rattle.std.specs.Prelude.{IsSome}
+use Rattle.std.proofs.lemmas.Bool.{cases_eq, eq-eqb, ne_eqb}
+use Rattle.std.specs.FinMap as finite
+use Rattle.amqp_types.specs.Levels.{plain}
+use Rattle.amqp_types.specs.Methods.{Method, judge_payload}
+use Rattle.amqp_types.specs.ContentHeaders.{ContentHeader, judge_content_header}
+use Rattle.amqp_frame.specs.declared.frame_type.AMQPFrameType.{AMQPFrameType}
+use Rattle.amqp_frame.specs.declared.frame_type.AMQPFrameType.TheVariants as kinds
+use Rattle.amqp_frame.specs.declared.outline.FrameOutline.{FrameOutline}
+use Rattle.amqp_frame.specs.Frames.{Raw, Frame, Proto, Meth, Head, Body, channel_id_of, beat_on, IsTyped}
+use Rattle.amqp_frame.specs.Outlines.{outline_of}
+use Rattle.amqp_frame.specs.Canonical.{canon, canon_row}
+use Rattle.amqp_frame.specs.Verdicts.{whole, whole_as, all_of}
+use Rattle.amqp_frame.proofs.Made.{read_as}
+use Rattle.amqp_content.specs.declared.fault.ContentFault.{ContentFault}
+use Rattle.amqp_content.specs.declared.mark.Mark.{Mark}
+use Rattle.amqp_content.specs.declared.mark.Mark.TheVariants as marks
+use Rattle.amqp_content.specs.declared.progress.Progress.{Progress}
+use Rattle.amqp_content.specs.declared.progress.Progress.TheVariants as progresses
+use Rattle.amqp_content.specs.Units.{is_content, is_opening_id}
+use Rattle.amqp_content.specs.Steps.{mark_after, progress_after, progress_marked, header_mark, method_mark, body_mark, headed_progress}
+use Rattle.amqp_stream.specs.declared.errors.StreamError.{StreamError}
+use Rattle.amqp_stream.specs.Errors.{Cause, faulty, cut_short, turns_spent, read_failed, write_failed, out_of_memory, cause_of}
+use Rattle.amqp_stream.specs.Ends.{Store}
+use Rattle.amqp_stream.specs.Writing.{IsUnwritten, WritesFrame}
+use Rattle.amqp_stream.specs.Streaming.{Ending, finished, refused_by, stopped_by, ending_of, as_run, WritesBy}
+use Rattle.amqp_stream.proofs.Writes.{kept, is_faulty}
+use Rattle.amqp_recut.specs.declared.errors.Refusal.{Refusal}
+use Rattle.amqp_recut.specs.declared.errors.Refusal.TheVariants as refusals
+use Rattle.amqp_recut.specs.declared.recutter.Recutter.{Recutter}
+use Rattle.amqp_recut.specs.InTurn.{greatest}
+use Rattle.amqp_recut.specs.Held.{Held, progress_in, kept_in, held_with, set_at}
+use Rattle.amqp_recut.specs.Stepping.{frames_given, left_over, kept_marked, mark_held, held_at, step_marked, step_recutting, recutting, is_content_type, body_raw, Refuses}
+use Rattle.amqp_recut.proofs.Holding.{set_at-same}
+use Rattle.amqp_recut.proofs.Channels.{passed_mark, passed_keeps}
+
+-- ---- which frames there are of a type
+
+-- a method or a content header on the channel of its payload
+pub data IsPartOn (channel : ℕ) (frame : Frame) : Type 0 where
+  method_on : (m : Method) → Meth channel m ≡ frame → IsPartOn channel frame
+  header_on : (header : ContentHeader) → Head channel header ≡ frame → IsPartOn channel frame
+
+typed_whole : (kind : AMQPFrameType) (channel : ℕ) (payload : List ℕ) (frame : Frame) → IsTyped kind → whole_as kind channel payload ≡ Ok frame → IsPartOn channel frame
+unfolding whole_as
+typed_whole kinds.Method channel payload frame typed h = let read = read_as (λ x. Meth channel x) (all_of judge_payload payload) frame h in method_on read.0 read.2
+typed_whole kinds.Header channel payload frame typed h = let read = read_as (λ x. Head channel x) (all_of judge_content_header payload) frame h in header_on read.0 read.2
+typed_whole kinds.ProtocolHeader channel payload frame typed h = absurd typed
+typed_whole kinds.Body channel payload frame typed h = absurd typed
+typed_whole kinds.Heartbeat channel payload frame typed h = absurd typed
+
+part_channel : (channel : ℕ) (frame : Frame) → IsPartOn channel frame → channel_id_of frame ≡ channel
+part_channel channel frame (method_on m e) = ap channel_id_of (sym e)
+part_channel channel frame (header_on header e) = ap channel_id_of (sym e)
+
+pub typed_wants : (kind : AMQPFrameType) → IsTyped kind → IsTrue (is_content_type kind)
+typed_wants kinds.Method typed = refl
+typed_wants kinds.Header typed = refl
+typed_wants kinds.ProtocolHeader typed = absurd typed
+typed_wants kinds.Body typed = absurd typed
+typed_wants kinds.Heartbeat typed = absurd typed
+
+proto_outside : (channel : ℕ) (payload : List ℕ) (frame : Frame) → whole_as kinds.ProtocolHeader channel payload ≡ Ok frame → is_content (outline_of frame) ≡ false
+unfolding whole_as
+proto_outside channel [] frame h = absurd cc
+proto_outside channel (a ∷ []) frame h = absurd cc
+proto_outside channel (a ∷ b ∷ []) frame h = absurd cc
+proto_outside channel (a ∷ b ∷ c ∷ []) frame h =
+    let is : Proto a b c ≡ frame = cc in
+    ap (λ f. is_content (outline_of f)) (sym is)
+proto_outside channel (a ∷ b ∷ c ∷ d ∷ more) frame h = absurd cc
+
+beat_outside : (channel : ℕ) → is_content (outline_of (beat_on channel)) ≡ false
+beat_outside channel = elim (cases_eq channel 0) [
+  | inl none ↦ rw (eq-eqb channel 0 none) refl
+  | inr some ↦ rw (ne_eqb channel 0 some) refl
+]
+
+-- a frame that is no content
+pub IsOutsideType : AMQPFrameType → Type 0
+IsOutsideType kinds.ProtocolHeader = Unit {0}
+IsOutsideType kinds.Heartbeat = Unit {0}
+IsOutsideType kinds.Method = ⊥
+IsOutsideType kinds.Header = ⊥
+IsOutsideType kinds.Body = ⊥
+
+outside_whole : (kind : AMQPFrameType) (channel : ℕ) (payload : List ℕ) (frame : Frame) → IsOutsideType kind → whole_as kind channel payload ≡ Ok frame → is_content (outline_of frame) ≡ false
+unfolding whole_as IsOutsideType
+outside_whole kinds.ProtocolHeader channel payload frame out h = proto_outside channel payload frame h
+outside_whole kinds.Heartbeat channel payload frame out h = let is : beat_on channel ≡ frame = cc in ap (λ f. is_content (outline_of f)) (sym is) ∙ beat_outside channel
+outside_whole kinds.Method channel payload frame out h = absurd out
+outside_whole kinds.Header channel payload frame out h = absurd out
+outside_whole kinds.Body channel payload frame out h = absurd out
+
+-- ---- steps by marks
+
+passed_step : (s : Recutter) (frame : Frame) → mark_held (held_at s (channel_id_of frame)) frame ≡ marks.Passed → step_recutting s frame ≡ Ok (canon frame, s)
+passed_step s frame e =
+    let channel = channel_id_of frame in
+    let held = held_at s channel in
+    ap (step_marked s held frame) e ∙ ap (λ m. Ok (canon frame, record s { messages = m })) (ap (set_at s.messages channel) (passed_keeps s.size held frame e) ∙ sym (set_at-same s.messages channel))
+
+-- a method or content header that is not passed is no piece of a body
+abbrev pub IsPart : Mark → Type 0
+IsPart marks.Opening = Unit {0}
+IsPart marks.Header = Unit {0}
+IsPart (marks.Body before after n) = Unit {0}
+IsPart marks.Passed = ⊥
+IsPart (marks.Fault bad) = ⊥
+
+no_body : (held : Option Held) (channel : ℕ) (frame : Frame) (before after n : ℕ) → IsPartOn channel frame → mark_held held frame ≡ marks.Body before after n → ⊥
+no_body held channel frame before after n (method_on m is) e = by_held held (ap (λ f. mark_held held f) is ∙ e)
+  where
+    by_opening : (opens : Bool) → is_opening_id m.class m.id ≡ opens → method_mark m.class m.id ≡ marks.Body before after n → ⊥
+    by_opening true opens e = let other : marks.Opening ≡ marks.Body before after n = rw opens at e in absurd cc
+    by_opening false opens e = let other : marks.Passed ≡ marks.Body before after n = rw opens at e in absurd cc
+
+    by_progress : (progress : Progress) → mark_after greatest (Some progress) (outline_of (Meth channel m)) ≡ marks.Body before after n → ⊥
+    by_progress progresses.Opened e = cc
+    by_progress (progresses.Headed size seen) e = cc
+    by_progress progresses.Faulted e = cc
+
+    by_held : (held : Option Held) → mark_held held (Meth channel m) ≡ marks.Body before after n → ⊥
+    by_held None e = by_opening (is_opening_id m.class m.id) refl e
+    by_held (Some held) e = by_progress held.progress e
+no_body held channel frame before after n (header_on header is) e = by_held held (ap (λ f. mark_held held f) is ∙ e)
+  where
+    by_size : (basic fits : Bool) → eqb header.class_id 60 ≡ basic → leb header.body_size greatest ≡ fits → header_mark greatest header.class_id header.body_size ≡ marks.Body before after n → ⊥
+    by_size false fits basic fit e = let other = rw basic at e in absurd cc
+    by_size true false basic fit e = let other = rw (basic, fit) at e in absurd cc
+    by_size true true basic fit e = let other = rw (basic, fit) at e in absurd cc
+
+    by_progress : (progress : Progress) → mark_after greatest (Some progress) (outline_of (Head channel header)) ≡ marks.Body before after n → ⊥
+    by_progress progresses.Opened e = by_size (eqb header.class_id 60) (leb header.body_size greatest) refl refl e
+    by_progress (progresses.Headed size seen) e = cc
+    by_progress progresses.Faulted e = cc
+
+    by_held : (held : Option Held) → mark_held held (Head channel header) ≡ marks.Body before after n → ⊥
+    by_held None e = cc
+    by_held (Some held) e = by_progress held.progress e
+
+part_step : (s : Recutter) (channel : ℕ) (frame : Frame) (mark : Mark) → IsPartOn channel frame → IsPart mark → mark_held (held_at s (channel_id_of frame)) frame ≡ mark → step_recutting s frame ≡ Ok (canon frame, record s { messages = set_at s.messages (channel_id_of frame) (held_with (progress_after greatest (progress_in (held_at s (channel_id_of frame))) (outline_of frame)) []) })
+part_step s channel frame marks.Opening on part e = rw e (rw e refl)
+part_step s channel frame marks.Header on part e = rw e (rw e refl)
+part_step s channel frame (marks.Body before after n) on part e = absurd (no_body (held_at s (channel_id_of frame)) channel frame before after n on e)
+part_step s channel frame marks.Passed on part e = absurd part
+part_step s channel frame (marks.Fault bad) on part e = absurd part
+
+-- ---- methods and content headers, by the outline that stands in their payloads
+
+-- the outline is that of the frame, where the payload is one
+abbrev pub IsOutlineOf : Raw → FrameOutline → Type 0
+IsOutlineOf raw outline = (frame : Frame) → whole raw ≡ Ok frame → Some outline ≡ Some (outline_of frame)
+
+same_outline : (outline other : FrameOutline) → Some outline ≡ Some other → outline ≡ other
+same_outline outline other e = cc
+
+-- the mark by what is kept of the channel of a payload is that of the frame
+marked_by : (s : Recutter) (raw : Raw) (outline : FrameOutline) (mark : Mark) (frame : Frame) → IsTyped raw.kind → IsOutlineOf raw outline → mark ≡ mark_after greatest (progress_in (held_at s raw.channel)) outline → whole raw ≡ Ok frame → mark_held (held_at s (channel_id_of frame)) frame ≡ mark
+marked_by s raw outline mark frame typed is e h =
+    let channel = part_channel raw.channel frame (typed_whole raw.kind raw.channel raw.payload frame typed h) in
+    ap (λ c. mark_held (held_at s c) frame) channel ∙ ap (mark_after greatest (progress_in (held_at s raw.channel))) (sym (same_outline outline (outline_of frame) (is frame h))) ∙ sym e
+
+pub typed_refused : (s : Recutter) (raw : Raw) (outline : FrameOutline) (bad : ContentFault) → IsTyped raw.kind → IsOutlineOf raw outline → marks.Fault bad ≡ mark_after greatest (progress_in (held_at s raw.channel)) outline → (frame : Frame) → whole raw ≡ Ok frame → step_recutting s frame ≡ Err (refusals.BadContent bad)
+typed_refused s raw outline bad typed is e frame h = ap (step_marked s (held_at s (channel_id_of frame)) frame) (marked_by s raw outline (marks.Fault bad) frame typed is e h)
+
+pub typed_passed : (s : Recutter) (raw : Raw) (outline : FrameOutline) → IsTyped raw.kind → IsOutlineOf raw outline → marks.Passed ≡ mark_after greatest (progress_in (held_at s raw.channel)) outline → (frame : Frame) → whole raw ≡ Ok frame → step_recutting s frame ≡ Ok (canon frame, s)
+typed_passed s raw outline typed is e frame h = passed_step s frame (marked_by s raw outline marks.Passed frame typed is e h)
+
+pub typed_part : (s : Recutter) (raw : Raw) (outline : FrameOutline) (mark : Mark) (progress : Option Progress) → IsTyped raw.kind → IsOutlineOf raw outline → IsPart mark → mark ≡ mark_after greatest (progress_in (held_at s raw.channel)) outline → progress ≡ progress_after greatest (progress_in (held_at s raw.channel)) outline → (frame : Frame) → whole raw ≡ Ok frame → step_recutting s frame ≡ Ok (canon frame, record s { messages = set_at s.messages raw.channel (held_with progress []) })
+typed_part s raw outline mark progress typed is part e after frame h =
+    let on = typed_whole raw.kind raw.channel raw.payload frame typed h in
+    let channel = part_channel raw.channel frame on in
+    let same = same_outline outline (outline_of frame) (is frame h) in
+    part_step s raw.channel frame mark on part (marked_by s raw outline mark frame typed is e h)
+    ∙ ap (λ c. Ok (canon frame, record s { messages = set_at s.messages c (held_with (progress_after greatest (progress_in (held_at s c)) (outline_of frame)) []) })) channel
+    ∙ ap (λ p. Ok (canon frame, record s { messages = set_at s.messages raw.channel (held_with p []) })) (ap (progress_after greatest (progress_in (held_at s raw.channel))) (sym same) ∙ sym after)
+
+pub outside_passed : (s : Recutter) (raw : Raw) → IsOutsideType raw.kind → (frame : Frame) → whole raw ≡ Ok frame → step_recutting s frame ≡ Ok (canon frame, s)
+outside_passed s raw out frame h = passed_step s frame (passed_mark (held_at s (channel_id_of frame)) frame (outside_whole raw.kind raw.channel raw.payload frame out h))
+
+pub proto_is_outside : IsOutsideType kinds.ProtocolHeader
+unfolding IsOutsideType
+proto_is_outside = tt
+
+pub beat_is_outside : IsOutsideType kinds.Heartbeat
+unfolding IsOutsideType
+beat_is_outside = tt
+
+-- ---- what is answered
+
+pub refused_as : (s : Recutter) (raw : Raw) (bad : ContentFault) (ending : Ending Refusal) (a : Store) (x y : List ℕ) → y ≡ x → ((frame : Frame) → whole raw ≡ Ok frame → step_recutting s frame ≡ Err (refusals.BadContent bad)) → Refuses raw bad ending → WritesBy recutting s s raw a a x y ending
+refused_as s raw bad (refused_by (refusals.BadContent other)) a x y same steps h =
+    (record { frame = h.0; is_whole = h.1; at_level = refl; refuses = steps h.0 h.1 ∙ ap (λ f. Err (refusals.BadContent f)) (sym h.2) }, kept a x y same, refl)
+refused_as s raw bad (refused_by refusals.OpenContent) a x y same steps h = absurd h
+refused_as s raw bad finished a x y same steps h = absurd h
+refused_as s raw bad (stopped_by (faulty worse)) a x y same steps h = (h, kept a x y same, refl)
+refused_as s raw bad (stopped_by cut_short) a x y same steps h = absurd h
+refused_as s raw bad (stopped_by turns_spent) a x y same steps h = absurd h
+refused_as s raw bad (stopped_by read_failed) a x y same steps h = absurd h
+refused_as s raw bad (stopped_by write_failed) a x y same steps h = absurd h
+refused_as s raw bad (stopped_by out_of_memory) a x y same steps h = absurd h
+
+passing_cause : (s : Recutter) (raw : Raw) (a b : Store) (x y : List ℕ) (cause : Cause) → ((frame : Frame) → whole raw ≡ Ok frame → step_recutting s frame ≡ Ok (canon frame, s)) → IsUnwritten raw a b x y cause → WritesBy recutting s s raw a b x y (stopped_by cause)
+passing_cause s raw a b x y (faulty bad) steps h = (is_faulty plain raw bad h.0 h.1, h.2, refl)
+passing_cause s raw a b x y write_failed steps h = record { bytes = canon h.0; next = s; step = record { frame = h.0; is_whole = h.1; at_level = refl; steps = steps h.0 h.1 }; failed = h.2 }
+passing_cause s raw a b x y cut_short steps h = absurd h
+passing_cause s raw a b x y turns_spent steps h = absurd h
+passing_cause s raw a b x y read_failed steps h = absurd h
+passing_cause s raw a b x y out_of_memory steps h = absurd h
+
+-- a frame is written as it is, and what is kept stays
+pub passing : (s : Recutter) (raw : Raw) (a b : Store) (x y : List ℕ) (r : Result (Unit {0}) StreamError) → ((frame : Frame) → whole raw ≡ Ok frame → step_recutting s frame ≡ Ok (canon frame, s)) → WritesFrame raw a b x y r → WritesBy recutting s s raw a b x y (ending_of (as_run r))
+passing s raw a b x y (Ok done) steps h = record { bytes = canon h.0; step = record { frame = h.0; is_whole = h.1; at_level = refl; steps = steps h.0 h.1 }; gathered = h.2 }
+passing s raw a b x y (Err error) steps h = passing_cause s raw a b x y (cause_of error) steps h
+
+changing_cause : (s t : Recutter) (raw : Raw) (a b : Store) (x y : List ℕ) (whole_is : Frame) (cause : Cause) → whole raw ≡ Ok whole_is → ((frame : Frame) → whole raw ≡ Ok frame → step_recutting s frame ≡ Ok (canon frame, t)) → IsUnwritten raw a b x y cause → WritesBy recutting s t raw a b x y (stopped_by cause)
+changing_cause s t raw a b x y frame (faulty bad) is steps h = let other : Ok frame ≡ Err bad = sym is ∙ h.0 in absurd cc
+changing_cause s t raw a b x y frame write_failed is steps h = record { bytes = canon h.0; next = t; step = record { frame = h.0; is_whole = h.1; at_level = refl; steps = steps h.0 h.1 }; failed = h.2 }
+changing_cause s t raw a b x y frame cut_short is steps h = absurd h
+changing_cause s t raw a b x y frame turns_spent is steps h = absurd h
+changing_cause s t raw a b x y frame read_failed is steps h = absurd h
+changing_cause s t raw a b x y frame out_of_memory is steps h = absurd h
+
+-- a whole frame is written as it is, and something is kept
+pub changing : (s t : Recutter) (raw : Raw) (a b : Store) (x y : List ℕ) (frame : Frame) (r : Result (Unit {0}) StreamError) → whole raw ≡ Ok frame → ((frame : Frame) → whole raw ≡ Ok frame → step_recutting s frame ≡ Ok (canon frame, t)) → WritesFrame raw a b x y r → WritesBy recutting s t raw a b x y (ending_of (as_run r))
+changing s t raw a b x y frame (Ok done) is steps h = record { bytes = canon h.0; step = record { frame = h.0; is_whole = h.1; at_level = refl; steps = steps h.0 h.1 }; gathered = h.2 }
+changing s t raw a b x y frame (Err error) is steps h = changing_cause s t raw a b x y frame (cause_of error) is steps h
+
+-- ---- bodies
+
+abbrev body_mark_of : Recutter → ℕ → List ℕ → Mark
+body_mark_of s channel payload = mark_held (held_at s channel) (Body channel payload)
+
+abbrev body_progress : Recutter → ℕ → List ℕ → Option Progress
+body_progress s channel payload = progress_after greatest (progress_in (held_at s channel)) (outline_of (Body channel payload))
+
+pub body_refused : (s : Recutter) (channel : ℕ) (payload : List ℕ) (bad : ContentFault) (a : Store) (x y : List ℕ) → y ≡ x → marks.Fault bad ≡ body_mark_of s channel payload → WritesBy recutting s s (body_raw channel payload) a a x y (refused_by (refusals.BadContent bad))
+unfolding whole_as
+body_refused s channel payload bad a x y same e =
+    (record { frame = Body channel payload; is_whole = refl; at_level = refl; refuses = ap (step_marked s (held_at s channel) (Body channel payload)) (sym e) }, kept a x y same, refl)
+
+-- the body of a message comes to its end, or goes on
+ends_at : (n after : ℕ) → None ≡ headed_progress n after → eqb after n ≡ true
+ends_at n after e = by_test (eqb after n) refl
+  where
+    by_test : (b : Bool) → eqb after n ≡ b → eqb after n ≡ true
+    by_test true is = is
+    by_test false is = let other = rw is at e in absurd cc
+
+goes_at : (n after : ℕ) (progress : Progress) → Some progress ≡ headed_progress n after → eqb after n ≡ false
+goes_at n after progress e = by_test (eqb after n) refl
+  where
+    by_test : (b : Bool) → eqb after n ≡ b → eqb after n ≡ false
+    by_test false is = is
+    by_test true is = let other = rw is at e in absurd cc
+
+-- a piece of a body, by the mark that it has
+body_steps : (s : Recutter) (channel : ℕ) (payload : List ℕ) (before after n : ℕ) (progress : Option Progress) → marks.Body before after n ≡ body_mark_of s channel payload → progress ≡ body_progress s channel payload → step_recutting s (Body channel payload) ≡ Ok (canon_row (frames_given s.size channel (eqb after n) (kept_in (held_at s channel) ++ payload)), record s { messages = set_at s.messages channel (held_with progress (left_over s.size (kept_in (held_at s channel) ++ payload))) })
+body_steps s channel payload before after n progress e is =
+    let held = held_at s channel in
+    let frame = Body channel payload in
+    let bytes = canon_row (frames_given s.size channel (eqb after n) (kept_in held ++ payload)) in
+    ap (step_marked s held frame) (sym e)
+    ∙ ap (λ m. Ok (bytes, record s { messages = set_at s.messages channel (held_with (body_progress s channel payload) (kept_marked s.size held frame m)) })) (sym e)
+    ∙ ap (λ p. Ok (bytes, record s { messages = set_at s.messages channel (held_with p (left_over s.size (kept_in held ++ payload))) })) (sym is)
+
+headed_by : (s : Recutter) (channel : ℕ) (payload : List ℕ) (before after n : ℕ) → marks.Body before after n ≡ body_mark_of s channel payload → body_progress s channel payload ≡ headed_progress n after
+headed_by s channel payload before after n e = ap (progress_marked (progress_in (held_at s channel)) (outline_of (Body channel payload))) (sym e)
+
+pub body_ends : (s : Recutter) (channel : ℕ) (payload : List ℕ) (before after n : ℕ) → marks.Body before after n ≡ body_mark_of s channel payload → None ≡ body_progress s channel payload → step_recutting s (Body channel payload) ≡ Ok (canon_row (frames_given s.size channel true (kept_in (held_at s channel) ++ payload)), record s { messages = finite.remove s.messages channel })
+body_ends s channel payload before after n e none =
+    body_steps s channel payload before after n None e none
+    ∙ ap (λ b. Ok (canon_row (frames_given s.size channel b (kept_in (held_at s channel) ++ payload)), record s { messages = finite.remove s.messages channel })) (ends_at n after (none ∙ headed_by s channel payload before after n e))
+
+pub body_goes_on : (s : Recutter) (channel : ℕ) (payload : List ℕ) (before after n : ℕ) (progress : Progress) → marks.Body before after n ≡ body_mark_of s channel payload → Some progress ≡ body_progress s channel payload → step_recutting s (Body channel payload) ≡ Ok (canon_row (frames_given s.size channel false (kept_in (held_at s channel) ++ payload)), record s { messages = finite.insert s.messages channel (record { progress = progress; kept = left_over s.size (kept_in (held_at s channel) ++ payload) }) })
+body_goes_on s channel payload before after n progress e some =
+    body_steps s channel payload before after n (Some progress) e some
+    ∙ ap (λ b. Ok (canon_row (frames_given s.size channel b (kept_in (held_at s channel) ++ payload)), record s { messages = finite.insert s.messages channel (record { progress = progress; kept = left_over s.size (kept_in (held_at s channel) ++ payload) }) })) (goes_at n after progress (some ∙ headed_by s channel payload before after n e))
+
+pub body_there : (held : Option Held) (channel : ℕ) (payload : List ℕ) (before after n : ℕ) → marks.Body before after n ≡ mark_held held (Body channel payload) → IsSome held
+body_there (Some held) channel payload before after n e = refl
+body_there None channel payload before after n e = absurd cc
+
+-- a body is a piece, or it is refused
+abbrev pub IsBodyMark : Mark → Type 0
+IsBodyMark (marks.Body before after n) = Unit {0}
+IsBodyMark (marks.Fault bad) = Unit {0}
+IsBodyMark marks.Passed = ⊥
+IsBodyMark marks.Opening = ⊥
+IsBodyMark marks.Header = ⊥
+
+pub body_mark_is : (held : Option Held) (channel : ℕ) (payload : List ℕ) → IsBodyMark (mark_held held (Body channel payload))
+body_mark_is None channel payload = tt
+body_mark_is (Some held) channel payload = by_progress held.progress
+  where
+    by_fit : (size seen : ℕ) (fits : Bool) → leb (seen + length payload) size ≡ fits → IsBodyMark (body_mark size seen (length payload))
+    by_fit size seen true e = rw e tt
+    by_fit size seen false e = rw e tt
+
+    by_progress : (progress : Progress) → IsBodyMark (mark_after greatest (Some progress) (outline_of (Body channel payload)))
+    by_progress progresses.Opened = tt
+    by_progress (progresses.Headed size seen) = by_fit size seen (leb (seen + length payload) size) refl
+    by_progress progresses.Faulted = tt

@@ -1,0 +1,51 @@
+-- What the writer answers for a frame, by what its calls answer.
+use Rattle.std.proofs.Common.{◌≡◌, ◌≢◌, ℕ, ◌+◌, ◌-◌, ◌*◌, ◌/◌, ◌%◌, ◌≤◌, List, ◌++◌, length, drop, refl, sym, ap, subst, ◌∙◌, arith, Err}
+use Rattle.std.proofs.lemmas.List.{length-append}
+use Rattle.std.proofs.lemmas.Nat.{div-add-mod'}
+use Rattle.amqp_types.specs.Levels.{plain}
+use Rattle.amqp_types.specs.Answers.{RefusesWhole}
+use Rattle.amqp_types.specs.declared.errors.ParserError.{ParserError}
+use Rattle.amqp_types.specs.declared.errors.ParserError.TheVariants as parses
+use Rattle.amqp_frame.specs.Frames.{Raw}
+use Rattle.amqp_frame.specs.Judgements.{IsPayloadFault}
+use Rattle.amqp_frame.specs.Verdicts.{whole}
+use Rattle.amqp_content.specs.declared.fault.ContentFault.{ContentFault}
+use Rattle.amqp_stream.specs.Errors.{cause_of}
+use Rattle.amqp_stream.specs.Ends.{Store}
+use Rattle.amqp_stream.specs.Writing.{payload_fault}
+use Rattle.amqp_stream.specs.Streaming.{stopped_by, WritesBy}
+use Rattle.amqp_stream.proofs.Writes.{IsNone, is_none, refusing, is_faulty, kept}
+use Rattle.amqp_recut.specs.declared.recutter.Recutter.{Recutter}
+use Rattle.amqp_recut.specs.Stepping.{recutting, left_over, Refuses}
+
+-- ---- a payload that is none
+
+not_memory : (error : ParserError) → error ≢ parses.NoMemory → refusing error ≢ Err parses.NoMemory
+not_memory error some e = some cc
+
+no_frame : (raw : Raw) (error : ParserError) → IsPayloadFault error → RefusesWhole error (whole raw) → IsNone raw (cause_of (payload_fault error))
+no_frame raw error fault h = is_none raw error fault.0 (not_memory error fault.1) h
+
+pub refuses_faulty : (raw : Raw) (other : ContentFault) (error : ParserError) → IsPayloadFault error → RefusesWhole error (whole raw) → Refuses raw other (stopped_by (cause_of (payload_fault error)))
+refuses_faulty raw other error fault h =
+    let none = no_frame raw error fault h in
+    subst (λ cause. Refuses raw other (stopped_by cause)) none.tells (is_faulty plain raw none.bad none.is_whole none.other)
+
+pub faulty_frame : (s : Recutter) (raw : Raw) (error : ParserError) (a : Store) (x : List ℕ) → IsPayloadFault error → RefusesWhole error (whole raw) → WritesBy recutting s s raw a a x x (stopped_by (cause_of (payload_fault error)))
+faulty_frame s raw error a x fault h =
+    let none = no_frame raw error fault h in
+    subst (λ cause. WritesBy recutting s s raw a a x x (stopped_by cause)) none.tells (is_faulty plain raw none.bad none.is_whole none.other, kept a x x refl, refl)
+
+-- ---- what is left over
+
+pub left_is : (size count : ℕ) (front back : List ℕ) → count ≡ (length front + length back) % size → drop ((length front + length back) - count) (front ++ back) ≡ left_over size (front ++ back)
+left_is size count front back e =
+    let all = front ++ back in
+    let total : length front + length back ≡ length all = sym (length-append front back) in
+    let rest : length all / size * size + length all % size ≡ length all = div-add-mod' (length all) size in
+    let part : count ≡ length all % size = e ∙ ap (λ n. n % size) total in
+    let place : (length front + length back) - count ≡ length all / size * size = omega (arith, total, rest, part) in
+    ap (λ n. drop n all) place
+
+pub left_few : (n m : ℕ) → n % m ≤ n
+left_few n m = omega (arith, div-add-mod' n m)

@@ -1,0 +1,39 @@
+-- What a writer keeps of the channels on which a message has begun.
+use Rattle.std.specs.Prelude.{ℕ, List, [], Option, Some, None}
+use Rattle.std.specs.FinMap as finite
+use Rattle.std.specs.Ordering.{nat_cmp}
+use Rattle.amqp_content.specs.declared.progress.Progress.{Progress}
+use Rattle.amqp_recut.specs.declared.messages.Message.{Message}
+
+-- how far a message has come, and the bytes of its body that are not written yet
+pub record Held : Type 0 where
+  pub progress : Progress
+  pub kept : List ℕ
+
+abbrev pub held_of : Message → Held
+held_of message = record { progress = message.progress; kept = message.kept.items }
+
+abbrev pub entry_held : ℕ × Message → ℕ × Held
+entry_held entry = (entry.0, held_of entry.1)
+
+-- what is kept of each channel of which something is
+abbrev pub Holding : Type 0
+Holding = finite.FinMap nat_cmp Held
+
+abbrev pub progress_in : Option Held → Option Progress
+progress_in None = None
+progress_in (Some held) = Some held.progress
+
+abbrev pub kept_in : Option Held → List ℕ
+kept_in None = []
+kept_in (Some held) = held.kept
+
+-- this is kept of a channel now
+abbrev pub set_at : Holding → ℕ → Option Held → Holding
+set_at holding channel None = finite.remove holding channel
+set_at holding channel (Some held) = finite.insert holding channel held
+
+-- nothing is kept of a message that is complete
+abbrev pub held_with : Option Progress → List ℕ → Option Held
+held_with None kept = None
+held_with (Some progress) kept = Some (record { progress = progress; kept = kept })

@@ -1,0 +1,6 @@
+pub mod InTurn
+pub mod Cuts
+pub mod Held
+pub mod Errors
+pub mod Stepping
+pub mod Recutting

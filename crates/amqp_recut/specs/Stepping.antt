@@ -1,0 +1,107 @@
+-- How recutting goes from frame to frame: what is written for a frame, and what is kept after it.
+use Rattle.std.specs.Prelude.{◌≡◌, ℕ, ◌*◌, ◌/◌, ◌==◌, Bool, true, false, List, [], ◌++◌, map, take, drop, length, Option, Some, None, Result, Ok, Err, if◌then◌else◌}
+use Rattle.std.specs.List.{range_with_len}
+use Rattle.std.specs.FinMap as finite
+use Rattle.amqp_types.specs.Levels.{plain}
+use Rattle.amqp_frame.specs.declared.frame_type.AMQPFrameType.{AMQPFrameType}
+use Rattle.amqp_frame.specs.declared.frame_type.AMQPFrameType.TheVariants as kinds
+use Rattle.amqp_frame.specs.Frames.{Raw, Frame, Body, channel_id_of}
+use Rattle.amqp_frame.specs.Outlines.{outline_of}
+use Rattle.amqp_frame.specs.Canonical.{canon, canon_row}
+use Rattle.amqp_frame.specs.Verdicts.{whole}
+use Rattle.amqp_content.specs.declared.fault.ContentFault.{ContentFault}
+use Rattle.amqp_content.specs.declared.mark.Mark.{Mark}
+use Rattle.amqp_content.specs.declared.mark.Mark.TheVariants as marks
+use Rattle.amqp_content.specs.Messages.{bytes_of}
+use Rattle.amqp_content.specs.Splits.{pieces}
+use Rattle.amqp_content.specs.Steps.{mark_after, progress_after}
+use Rattle.amqp_stream.specs.Errors.{faulty}
+use Rattle.amqp_stream.specs.Steps.{Manner}
+use Rattle.amqp_stream.specs.Streaming.{Ending, finished, refused_by, stopped_by}
+use Rattle.amqp_stream.specs.Writing.{IsFaulty}
+use Rattle.amqp_recut.specs.declared.errors.Refusal.{Refusal}
+use Rattle.amqp_recut.specs.declared.errors.Refusal.TheVariants as refusals
+use Rattle.amqp_recut.specs.declared.recutter.Recutter.{Recutter}
+use Rattle.amqp_recut.specs.InTurn.{greatest}
+use Rattle.amqp_recut.specs.Held.{Held, progress_in, kept_in, held_with, set_at}
+
+-- ---- pieces
+
+-- the pieces of some bytes that have the whole size
+abbrev pub whole_pieces : ℕ → List ℕ → List (List ℕ)
+whole_pieces size bytes = map (λ k. take size (drop (k * size) bytes)) (range_with_len 0 (length bytes / size))
+
+-- the bytes after them
+abbrev pub left_over : ℕ → List ℕ → List ℕ
+left_over size bytes = drop ((length bytes / size) * size) bytes
+
+-- the pieces that are written: all of them at the end of a body, and else those that have the whole size
+abbrev pub pieces_given : ℕ → Bool → List ℕ → List (List ℕ)
+pieces_given size true bytes = pieces size bytes
+pieces_given size false bytes = whole_pieces size bytes
+
+abbrev pub frames_given : ℕ → ℕ → Bool → List ℕ → List Frame
+frames_given size channel ends bytes = map (λ piece. Body channel piece) (pieces_given size ends bytes)
+
+-- ---- one frame
+
+abbrev pub written_marked : ℕ → Option Held → Frame → Mark → List ℕ
+written_marked size held frame (marks.Body before after n) = canon_row (frames_given size (channel_id_of frame) (after == n) (kept_in held ++ bytes_of frame))
+written_marked size held frame marks.Passed = canon frame
+written_marked size held frame marks.Opening = canon frame
+written_marked size held frame marks.Header = canon frame
+written_marked size held frame (marks.Fault bad) = []
+
+abbrev pub kept_marked : ℕ → Option Held → Frame → Mark → List ℕ
+kept_marked size held frame (marks.Body before after n) = left_over size (kept_in held ++ bytes_of frame)
+kept_marked size held frame marks.Passed = kept_in held
+kept_marked size held frame marks.Opening = []
+kept_marked size held frame marks.Header = []
+kept_marked size held frame (marks.Fault bad) = []
+
+-- what is kept of a channel
+abbrev pub held_at : Recutter → ℕ → Option Held
+held_at s channel = finite.get s.messages channel
+
+-- the mark of a frame, by what is kept of its channel
+abbrev pub mark_held : Option Held → Frame → Mark
+mark_held held frame = mark_after greatest (progress_in held) (outline_of frame)
+
+abbrev pub held_after : ℕ → Option Held → Frame → Option Held
+held_after size held frame = held_with (progress_after greatest (progress_in held) (outline_of frame)) (kept_marked size held frame (mark_held held frame))
+
+abbrev pub step_marked : Recutter → Option Held → Frame → Mark → Result (List ℕ × Recutter) Refusal
+step_marked s held frame (marks.Fault bad) = Err (refusals.BadContent bad)
+step_marked s held frame mark = Ok (written_marked s.size held frame mark, record s { messages = set_at s.messages (channel_id_of frame) (held_after s.size held frame) })
+
+abbrev pub step_recutting : Recutter → Frame → Result (List ℕ × Recutter) Refusal
+step_recutting s frame = step_marked s (held_at s (channel_id_of frame)) frame (mark_held (held_at s (channel_id_of frame)) frame)
+
+-- a whole body frame
+abbrev pub body_raw : ℕ → List ℕ → Raw
+body_raw channel payload = record { kind = kinds.Body; channel = channel; payload = payload }
+
+-- A frame is refused for this fault, or for a fault of its own.
+abbrev pub Refuses : Raw → ContentFault → Ending Refusal → Type 0
+Refuses raw fault (refused_by (refusals.BadContent bad)) = (frame : Frame) × (whole raw ≡ Ok frame) × (bad ≡ fault)
+Refuses raw fault (refused_by refusals.OpenContent) = ⊥
+Refuses raw fault (stopped_by (faulty bad)) = IsFaulty plain raw bad
+Refuses raw fault (stopped_by cause) = ⊥
+Refuses raw fault finished = ⊥
+
+-- ---- a stream
+
+-- memory is wanted where something is kept
+abbrev pub is_content_type : AMQPFrameType → Bool
+is_content_type kinds.Method = true
+is_content_type kinds.Header = true
+is_content_type kinds.Body = true
+is_content_type kinds.ProtocolHeader = false
+is_content_type kinds.Heartbeat = false
+
+-- nothing may be kept at the end of a stream
+abbrev pub end_recutting : Recutter → Option Refusal
+end_recutting s = if finite.len s.messages == 0 then None else Some refusals.OpenContent
+
+abbrev pub recutting : Manner Recutter Refusal
+recutting = record { level = plain; step = step_recutting; end = end_recutting; wants = is_content_type; compact = true }

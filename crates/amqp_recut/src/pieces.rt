@@ -1,0 +1,72 @@
+//! Body frames that are cut out of two parts, of which one follows the other.
+
+ghost use Rattle.std.specs.Prelude.{◌≡◌, ◌+◌, ◌-◌, ◌++◌, ◌^◌, ◌<◌, ◌≤◌, [], length, drop, IfOk};
+ghost use Rattle.amqp_frame.specs.Spelling.{framed};
+ghost use Rattle.amqp_stream.specs.Writing.{Gathers};
+
+use amqp_frame::frame_head;
+use amqp_stream::{OutputBuffer, Sink, SinkFault, flush, gather};
+use amqp_types::{ChannelId, NoMemory};
+use std::alloc::Global;
+
+/// Gathers a body frame whose payload is two parts.
+fn write_piece<K: Sink>(
+    out: &mut OutputBuffer,
+    sink: &mut K,
+    channel_id: ChannelId,
+    front: &[u8],
+    back: &[u8],
+) -> Result<(), SinkFault>
+    requires few { length front.now + length back.now < 2 ^ 32 }
+    ensures room { out.new.room ≡ out.old.room }
+    ensures gathers { Gathers (K.store sink.old) (K.store sink.new) out.old.bytes out.new.bytes (framed 3 channel_id (front.now ++ back.now)) result }
+{
+    let head = frame_head(3, channel_id, (front.len() + back.len()) as u32);
+    match gather(out, sink, &head) {
+        Err(fault) => return Err(fault),
+        Ok(()) => {}
+    }
+    match gather(out, sink, front) {
+        Err(fault) => return Err(fault),
+        Ok(()) => {}
+    }
+    match gather(out, sink, back) {
+        Err(fault) => return Err(fault),
+        Ok(()) => {}
+    }
+    let end = gather(out, sink, &[206]);
+    end
+}
+
+/// Writes what is pending, where it is more than this.
+pub(crate) fn settle<K: Sink>(
+    out: &mut OutputBuffer,
+    sink: &mut K,
+    most: usize,
+) -> Result<(), SinkFault>
+    ensures room { out.new.room ≡ out.old.room }
+    ensures gathers { Gathers (K.store sink.old) (K.store sink.new) out.old.bytes out.new.bytes [] result }
+    ensures few { length out.new.bytes ≤ most }
+{
+    if out.bytes().len() <= most {
+        return Ok(());
+    }
+    flush(out, sink)
+}
+
+/// The last `count` bytes of two parts.
+pub(crate) fn last_of(
+    alloc: Global,
+    front: &[u8],
+    back: &[u8],
+    count: usize,
+) -> Result<Vec<u8>, NoMemory>
+    requires { count ≤ length front.now + length back.now }
+    ensures { IfOk result (λ bytes. bytes.items ≡ drop ((length front.now + length back.now) - count) (front.now ++ back.now)) }
+{
+    let after = count.min(back.len());
+    let before = count - after;
+    let mut bytes = Vec::from_slice(alloc, &front[front.len() - before..])?;
+    bytes.extend_from_slice(&back[back.len() - after..])?;
+    Ok(bytes)
+}
