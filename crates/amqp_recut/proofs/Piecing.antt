@@ -1,7 +1,7 @@
 -- Pieces that are cut out of two parts.
 use Rattle.std.proofs.Common.{◌≡◌, ℕ, ◌+◌, ◌-◌, ◌<◌, ◌≤◌, min, Bool, true, false, List, [], ◌∷◌, ◌++◌, length, map, take, drop, sym, ap, ap₂, subst, ◌∙◌, arith, inl, inr, append_assoc, append-nil, Result}
 use Rattle.std.proofs.lemmas.Bool.{cases_lt}
-use Rattle.std.proofs.lemmas.List.{length-append, take-append-le, drop-append-le, take_min, drop_min, take_all, drop_all, take_rest}
+use Rattle.std.proofs.lemmas.List.{length-append, take-append-le, drop-append-le, take_min, drop_min, take_all, drop_all, take_rest, length-drop}
 use Rattle.std.proofs.Math.Seq.{take-append-add, drop-append-add}
 use Rattle.amqp_frame.specs.Frames.{Body}
 use Rattle.amqp_frame.specs.Spelling.{framed, head}
@@ -71,6 +71,10 @@ last_parts front back count m is fits =
       | inl less ↦ drop_all (length front - (count - m)) front (omega arith) ∙ sym (drop_all (length front + length back - count) front (omega arith))
       | inr more ↦ let same : length front - (count - m) ≡ length front + length back - count = omega arith in ap (λ n. drop n front) same
     ]
+
+-- what is left of some bytes is no longer
+pub rest_shorter : (n most : ℕ) (bytes : List ℕ) → length bytes ≤ most → length (take (length bytes - n) (drop n bytes)) ≤ most
+rest_shorter n most bytes h = omega (arith, ap length (take_rest bytes n), length-drop n bytes, h)
 
 -- ---- pieces one after another
 

@@ -1,8 +1,10 @@
 //! Body frames that are cut out of two parts, of which one follows the other.
 
 ghost use Rattle.std.specs.Prelude.{◌≡◌, ◌+◌, ◌-◌, ◌++◌, ◌^◌, ◌<◌, ◌≤◌, [], length, drop, IfOk};
+ghost use Rattle.amqp_frame.specs.Canonical.{canon_row};
 ghost use Rattle.amqp_frame.specs.Spelling.{framed};
 ghost use Rattle.amqp_stream.specs.Writing.{Gathers};
+ghost use Rattle.amqp_recut.specs.Stepping.{frames_given};
 
 use amqp_frame::frame_head;
 use amqp_stream::{OutputBuffer, Sink, SinkFault, flush, gather};
@@ -36,6 +38,41 @@ fn write_piece<K: Sink>(
     }
     let end = gather(out, sink, &[206]);
     end
+}
+
+/// Gathers the pieces of two parts as body frames: those of the whole size, and at the end of a body what is left too.
+pub(crate) fn write_pieces<K: Sink>(
+    out: &mut OutputBuffer,
+    sink: &mut K,
+    channel_id: ChannelId,
+    size: usize,
+    front: &[u8],
+    back: &[u8],
+    ends: bool,
+) -> Result<(), SinkFault>
+    requires some { 1 ≤ size }
+    requires few { size < 2 ^ 32 }
+    ensures room { out.new.room ≡ out.old.room }
+    ensures gathers { Gathers (K.store sink.old) (K.store sink.new) out.old.bytes out.new.bytes
+        (canon_row (frames_given size channel_id ends (front.now ++ back.now))) result }
+{
+    let mut first = front;
+    let mut second = back;
+    while first.len() + second.len() >= size {
+        let n = first.len().min(size);
+        let m = size - n;
+        match write_piece(out, sink, channel_id, &first[..n], &second[..m]) {
+            Err(fault) => return Err(fault),
+            Ok(()) => {}
+        }
+        first = &first[n..];
+        second = &second[m..];
+    }
+    if ends && first.len() + second.len() > 0 {
+        let last = write_piece(out, sink, channel_id, first, second);
+        return last;
+    }
+    Ok(())
 }
 
 /// Writes what is pending, where it is more than this.
