@@ -81,7 +81,7 @@ step_recutting s frame = step_marked s (held_at s (channel_id_of frame)) frame (
 abbrev pub body_raw : ℕ → List ℕ → Raw
 body_raw channel payload = record { kind = kinds.Body; channel = channel; payload = payload }
 
--- A frame is refused for this fault, or for a fault of its own.
+-- A frame is refused for this fault, or for a fault of its payload.
 abbrev pub Refuses : Raw → ContentFault → Ending Refusal → Type 0
 Refuses raw fault (refused_by (refusals.BadContent bad)) = (frame : Frame) × (whole raw ≡ Ok frame) × (bad ≡ fault)
 Refuses raw fault (refused_by refusals.OpenContent) = ⊥

@@ -58,7 +58,7 @@ impl Recutter {
         }
     }
 
-    /// The answer to a frame that is not in turn: a fault of its own comes first.
+    /// Why a frame that is not in turn is refused: a fault of its payload comes first.
     fn refuse(raw: AMQPRawFrame<'_>, fault: ContentFault) -> Result<(), RunError<Refusal>>
         ensures { Refuses (raw_of raw.entry) fault (ending_of result) }
     {
