@@ -1,6 +1,6 @@
 -- Words that name a number, and the command that has one.
 use Rattle.std.proofs.Common.{◌≡◌, ◌≢◌, ℕ, ◌^◌, ◌<◌, ◌≤◌, Bool, true, false, ◌&&◌, List, [], ◌∷◌, length, get_or, Option, Some, None, Result, Ok, Err, ◌⊎◌, refl, sym, ap, subst, ◌∙◌, inl, inr, arith}
-use Rattle.std.specs.Prelude.{nat_le, codes, if◌then◌else◌}
+use Rattle.std.specs.Prelude.{◌==◌, nat_le, codes, if◌then◌else◌}
 use Rattle.std.specs.Fmt.{decimal}
 use Rattle.std.specs.Str.{bytes_eq}
 use Rattle.std.specs.Str.Parse.{AllDigits, digits_value, ParsesUnsigned}
@@ -14,7 +14,8 @@ use Rattle.std.proofs.lemmas.Str.Parse.{IsNumeralModel, numerals_by_value, tells
 use Rattle.amqp_stream.specs.Made.{most_frames}
 use Rattle.amqp_program.specs.declared.command.Command.{Command}
 use Rattle.amqp_program.specs.declared.command.Command.TheVariants as commands
-use Rattle.amqp_program.specs.Commands.{command_named, command_of, number_named, has_padding}
+use Rattle.amqp_program.specs.Reports.{max_payload}
+use Rattle.amqp_program.specs.Commands.{command_named, command_of, number_named, has_padding, recut_by}
 
 numerals : IsNumeralModel (AllDigits 10) (digits_value 10)
 numerals = numerals_by_value _ tells_digits
@@ -123,28 +124,64 @@ named_few most word k e =
     let n = digits_value 10 word in
     few_by (bytes_eq word (decimal n)) (nat_le n most) n k most e (at_most most n)
 
+-- ---- commands with a number
+
+abbrev IsNumbered : Command → Type 0
+IsNumbered (commands.Make n) = Unit {0}
+IsNumbered (commands.Recut n) = Unit {0}
+IsNumbered command = ⊥
+
 -- a single word asks for another command
 other_word : (named : Bool) (command wanted : Command) (rest : Option Command) → command ≢ wanted → rest ≢ Some wanted → (if named then Some command else rest) ≢ Some wanted
 other_word true command wanted rest other none e = other (let same : Some command ≡ Some wanted = e in cc)
 other_word false command wanted rest other none e = none e
 
-one_word : (word : List ℕ) (n : ℕ) → command_named word ≢ Some (commands.Make n)
-one_word word n =
-    other_word _ commands.Hex (commands.Make n) _ (λ (e : commands.Hex ≡ commands.Make n). cc)
-    (other_word _ commands.Raw (commands.Make n) _ (λ (e : commands.Raw ≡ commands.Make n). cc)
-    (other_word _ commands.Tidy (commands.Make n) _ (λ (e : commands.Tidy ≡ commands.Make n). cc)
-    (other_word _ commands.Lent (commands.Make n) _ (λ (e : commands.Lent ≡ commands.Make n). cc)
-    (other_word _ commands.Help (commands.Make n) _ (λ (e : commands.Help ≡ commands.Make n). cc)
-    (other_word _ commands.Version (commands.Make n) _ (λ (e : commands.Version ≡ commands.Make n). cc)
-    (λ (e : None ≡ Some (commands.Make n)). cc))))))
+one_word : (word : List ℕ) (wanted : Command) → IsNumbered wanted → command_named word ≢ Some wanted
+one_word word wanted h =
+    other_word _ commands.Hex wanted _ (λ (e : commands.Hex ≡ wanted). subst IsNumbered (sym e) h)
+    (other_word _ commands.Raw wanted _ (λ (e : commands.Raw ≡ wanted). subst IsNumbered (sym e) h)
+    (other_word _ commands.Tidy wanted _ (λ (e : commands.Tidy ≡ wanted). subst IsNumbered (sym e) h)
+    (other_word _ commands.Lent wanted _ (λ (e : commands.Lent ≡ wanted). subst IsNumbered (sym e) h)
+    (other_word _ commands.Help wanted _ (λ (e : commands.Help ≡ wanted). subst IsNumbered (sym e) h)
+    (other_word _ commands.Version wanted _ (λ (e : commands.Version ≡ wanted). subst IsNumbered (sym e) h)
+    (λ (e : None ≡ Some wanted). cc))))))
 
-two_words : (make : Bool) (named : Option ℕ) (n : ℕ) → (if make then option_map commands.Make named else None) ≡ Some (commands.Make n) → named ≡ Some n
-two_words true (Some k) n e = cc
-two_words true None n e = absurd cc
-two_words false named n e = absurd cc
+-- a size is a number other than 0
+sized : (k n : ℕ) (none : Bool) → (k == 0) ≡ none → (if none then None else Some (commands.Recut k)) ≡ Some (commands.Recut n) → (k ≡ n) × (1 ≤ n)
+sized k n true zero e = absurd cc
+sized k n false zero e = let same : k ≡ n = cc in (same, grind (arith, nat_tests, zero, same))
+
+unsized : (k n : ℕ) (none : Bool) → (if none then None else Some (commands.Recut k)) ≢ Some (commands.Make n)
+unsized k n true e = cc
+unsized k n false e = cc
+
+abbrev with_number : Bool → Bool → Option ℕ → Option ℕ → Option Command
+with_number make cuts frames size = if make then option_map commands.Make frames else (if cuts then recut_by size else None)
+
+make_named : (make cuts : Bool) (frames size : Option ℕ) (n : ℕ) → with_number make cuts frames size ≡ Some (commands.Make n) → frames ≡ Some n
+make_named true cuts (Some k) size n e = cc
+make_named true cuts None size n e = absurd cc
+make_named false true frames (Some k) n e = absurd (unsized k n (k == 0) e)
+make_named false true frames None n e = absurd cc
+make_named false false frames size n e = absurd cc
+
+recut_named : (make cuts : Bool) (frames size : Option ℕ) (n : ℕ) → with_number make cuts frames size ≡ Some (commands.Recut n) → (size ≡ Some n) × (1 ≤ n)
+recut_named true cuts (Some k) size n e = absurd cc
+recut_named true cuts None size n e = absurd cc
+recut_named false true frames (Some k) n e = let found = sized k n (k == 0) refl e in (ap Some found.0, found.1)
+recut_named false true frames None n e = absurd cc
+recut_named false false frames size n e = absurd cc
 
 pub make_few : (words : List (List ℕ)) (n : ℕ) → command_of words ≡ Some (commands.Make n) → n ≤ most_frames
 make_few [] n e = absurd cc
-make_few (word ∷ []) n e = absurd (one_word word n e)
-make_few (word ∷ number ∷ []) n e = named_few most_frames number n (two_words (bytes_eq word (codes "make")) (number_named most_frames number) n e)
+make_few (word ∷ []) n e = absurd (one_word word (commands.Make n) tt e)
+make_few (word ∷ number ∷ []) n e = named_few most_frames number n (make_named (bytes_eq word (codes "make")) (bytes_eq word (codes "recut")) (number_named most_frames number) (number_named max_payload number) n e)
 make_few (word ∷ number ∷ other ∷ more) n e = absurd cc
+
+pub recut_fits : (words : List (List ℕ)) (n : ℕ) → command_of words ≡ Some (commands.Recut n) → (1 ≤ n) × (n ≤ max_payload)
+recut_fits [] n e = absurd cc
+recut_fits (word ∷ []) n e = absurd (one_word word (commands.Recut n) tt e)
+recut_fits (word ∷ number ∷ []) n e =
+    let found = recut_named (bytes_eq word (codes "make")) (bytes_eq word (codes "recut")) (number_named most_frames number) (number_named max_payload number) n e in
+    (found.1, named_few max_payload number n found.0)
+recut_fits (word ∷ number ∷ other ∷ more) n e = absurd cc

@@ -14,7 +14,7 @@ use Rattle.amqp_program.specs.Runs.{status_of}
 not_zero : (e : StreamError) → stream_error_status e ≢ 0
 not_zero e h = grind arith
 
-not_two : (e : StreamError) → stream_error_status e ≢ 2
+pub not_two : (e : StreamError) → stream_error_status e ≢ 2
 not_two e h = grind arith
 
 only_memory : (e : StreamError) → stream_error_status e ≡ 3 → e ≡ errors.NoMemory

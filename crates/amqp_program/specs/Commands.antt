@@ -7,6 +7,7 @@ use Rattle.std.specs.Str.Parse.{digits_value}
 use Rattle.amqp_stream.specs.Made.{most_frames}
 use Rattle.amqp_select.specs.declared.rule.Rule.{Rule}
 use Rattle.amqp_select.specs.Refusals.{Spell}
+use Rattle.amqp_program.specs.Reports.{max_payload}
 use Rattle.amqp_program.specs.declared.command.Command.{Command}
 use Rattle.amqp_program.specs.declared.command.Command.TheVariants as commands
 
@@ -30,9 +31,16 @@ number_named most word =
 abbrev pub has_padding : List ℕ → Bool
 has_padding word = (slice_index word 0 == 43) || (nat_lt 1 (length word) && (slice_index word 0 == 48))
 
--- the command of two words: `make` and a number of frames
+-- bodies are cut into some bytes
+abbrev pub recut_by : Option ℕ → Option Command
+recut_by None = None
+recut_by (Some size) = if size == 0 then None else Some (commands.Recut size)
+
+-- the command of two words: `make` and a number of frames, or `recut` and a size from 1 to the limit on payloads
 abbrev pub command_with : List ℕ → List ℕ → Option Command
-command_with word number = if bytes_eq word (codes "make") then option_map commands.Make (number_named most_frames number) else None
+command_with word number =
+    if bytes_eq word (codes "make") then option_map commands.Make (number_named most_frames number)
+    else (if bytes_eq word (codes "recut") then recut_by (number_named max_payload number) else None)
 
 -- the command that the words after the program's name ask for, but for selections: each form is one word, or two
 abbrev pub command_of : List (List ℕ) → Option Command

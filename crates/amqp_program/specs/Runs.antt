@@ -12,6 +12,10 @@ use Rattle.amqp_stream.specs.Canonicalizing.{canon_of, Canonicalizes, AnswersExa
 use Rattle.amqp_stream.specs.Writing.{IsPrefix}
 use Rattle.amqp_select.specs.declared.rule.Rule.{Rule}
 use Rattle.amqp_select.specs.Selecting.{selection}
+use Rattle.amqp_recut.specs.declared.errors.RecutError.{RecutError}
+use Rattle.amqp_recut.specs.Errors.{recut_error_status}
+use Rattle.amqp_recut.specs.Recutting.{Recuts, RecutsExactly, IsComplete}
+use Rattle.amqp_recut.specs.Recutting.{NeverBegan as NeverRecut}
 use Rattle.amqp_program.specs.Texts.{longest}
 use Rattle.amqp_program.specs.Reports.{max_payload, report}
 
@@ -87,6 +91,19 @@ pub record RunsSelect (rules : List Rule) (a b : Supply) (k l : Store) (status :
   pub no_memory : status ≡ 3 → NeverBegan a b k l answer
   pub exact : (input : List ℕ) → a.left ≡ Some input → TranscribesExactly (selection rules) plain max_payload input k l answer
   pub complete : (input : List ℕ) → a.left ≡ Some input → IsValid plain max_payload raw_turns input → NoFaults a b k l → IsDoneOrNoMemory status
+
+-- the status of an answer of recutting
+abbrev pub recut_status_of : Result (Unit {0}) RecutError → ℕ
+recut_status_of (Ok done) = 0
+recut_status_of (Err error) = recut_error_status error
+
+-- the canonical bytes of the frames were written, with the bodies of messages cut into so many bytes
+pub record RunsRecut (size : ℕ) (a b : Supply) (k l : Store) (status : ℕ) : Type 0 where
+  pub answer : Result (Unit {0}) RecutError
+  pub status_is : status ≡ recut_status_of answer
+  pub stream : Recuts max_payload size raw_turns a b k l answer ⊎ NeverRecut a b k l answer
+  pub exact : (input : List ℕ) → a.left ≡ Some input → RecutsExactly max_payload size input k l answer
+  pub complete : (input : List ℕ) → a.left ≡ Some input → IsValid plain max_payload raw_turns input → IsComplete max_payload input → NoFaults a b k l → IsDoneOrNoMemory status
 
 -- a text was printed, or a part of its front and then the sink failed
 pub record Prints (text : List ℕ) (k l : Store) (status : ℕ) : Type 0 where

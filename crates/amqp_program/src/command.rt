@@ -3,7 +3,10 @@
 ghost use Rattle.std.specs.Prelude.{◌≡◌};
 ghost use Rattle.std.specs.Option.{option_map};
 ghost use Rattle.amqp_select.specs.Refusals.{texts_of};
-ghost use Rattle.amqp_program.specs.Commands.{after_select, command_named, command_of, command_with, has_padding, number_named};
+ghost use Rattle.amqp_stream.specs.Made.{most_frames};
+ghost use Rattle.amqp_program.specs.declared.command.Command.TheVariants as commands;
+ghost use Rattle.amqp_program.specs.Commands.{after_select, command_named, command_of, command_with, has_padding, number_named, recut_by};
+ghost use Rattle.amqp_program.specs.Reports.{max_payload};
 
 /// What the words ask for.
 #[derive(Clone, Copy, Debug, PartialEq, Eq)]
@@ -20,6 +23,9 @@ pub enum Command {
     /// `lent`: canonicalizes bytes, and takes memory only before the first read.
     Lent,
 
+    /// `recut N`: canonicalizes bytes, and cuts the bodies of messages into bodies of N bytes.
+    Recut(u32),
+
     /// `make N`: makes so many frames, and prints the number of their bytes and of their
     /// canonical bytes.
     Make(u32),
@@ -33,6 +39,9 @@ pub enum Command {
 
 /// The most frames that are made.
 const MAX_FRAMES: u32 = 100_000;
+
+/// The largest size that bodies are cut into, in bytes.
+const MAX_SIZE: u32 = 131_072;
 
 /// Whether a word begins with a sign, or with a zero and more behind it.
 fn is_padded(word: &str) -> bool
@@ -69,16 +78,35 @@ fn parse_word(word: &str) -> Option<Command>
     }
 }
 
+/// The command `make` with this number of frames.
+fn parse_make(number: &str) -> Option<Command>
+    ensures { result ≡ option_map commands.Make (number_named most_frames number.now) }
+{
+    match parse_number(number, MAX_FRAMES) {
+        Some(frames) => Some(Command::Make(frames)),
+        None => None,
+    }
+}
+
+/// The command `recut` with this size, which is not 0.
+fn parse_recut(number: &str) -> Option<Command>
+    ensures { result ≡ recut_by (number_named max_payload number.now) }
+{
+    match parse_number(number, MAX_SIZE) {
+        Some(0) => None,
+        Some(size) => Some(Command::Recut(size)),
+        None => None,
+    }
+}
+
 /// The command of two words.
 fn parse_words(word: &str, number: &str) -> Option<Command>
     ensures { result ≡ command_with word.now number.now }
 {
-    if word != "make" {
-        return None;
-    }
-    match parse_number(number, MAX_FRAMES) {
-        Some(frames) => Some(Command::Make(frames)),
-        None => None,
+    match word {
+        "make" => parse_make(number),
+        "recut" => parse_recut(number),
+        _ => None,
     }
 }
 

@@ -6,6 +6,7 @@ mod hex_command;
 mod make_command;
 mod print_command;
 mod raw_command;
+mod recut_command;
 mod report;
 mod run;
 mod select_command;
@@ -42,6 +43,8 @@ fn main(rt: HostRuntime) -> ExitCode {
 
 #[cfg(test)]
 mod hostile_tests;
+#[cfg(test)]
+mod recut_tests;
 #[cfg(test)]
 mod select_tests;
 #[cfg(test)]

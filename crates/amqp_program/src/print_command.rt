@@ -17,6 +17,8 @@ pub const HELP: &str = "feksroum: reads AMQP 0-9-1 frames and writes their canon
                       matches says keep: 1 to 64 rules, each keep or drop and then any of
                       ,channel=A or ,channel=A-B  ,kind=K  ,class=A  ,method=A  in this
                       order, where K is proto, method, header, body or beat
+  feksroum recut N    as raw, and cuts the body of each message into body frames of N bytes, 1
+                      to 131072, the last of a message shorter; all else stays
   feksroum make N     makes N frames, at most 100000, and prints the number of their bytes
                       and of their canonical bytes
   feksroum --help     prints this text
@@ -26,7 +28,8 @@ The status is 0 where all of the input was frames. Others: 1 words that cannot b
 2 other words, 3 want of memory, 4 a read failed, 5 a write failed, 6 more than 16777216
 bytes of text, 7 BadHex, 10 UnknownFrameType, 11 BadProtocolHeader, 12 TooLarge (a payload
 above 131072 bytes), 13 BadFrameEnd, 14 UnknownClass, 15 UnknownMethod, 16 ShortPayload,
-17 TrailingBytes, 18 NotUtf8, 19 UnknownTag, 20 TooDeep, 21 CutShort, 22 TurnsSpent, 23 NotTidy.
+17 TrailingBytes, 18 NotUtf8, 19 UnknownTag, 20 TooDeep, 21 CutShort, 22 TurnsSpent, 23 NotTidy,
+24 BadContent (a frame that is not in turn on its channel), 25 OpenContent (the input ends in a message).
 ";
 
 /// The version.

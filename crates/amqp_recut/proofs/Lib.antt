@@ -7,3 +7,8 @@ pub mod Stepping
 pub mod Running
 pub mod Streams
 pub mod Writing
+pub mod LawsChannels
+pub mod LawsPieces
+pub mod LawsUnits
+pub mod LawsOnce
+pub mod LawsAgain

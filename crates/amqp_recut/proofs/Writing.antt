@@ -1,5 +1,5 @@
 -- What the writer answers for a frame, by what its calls answer.
-use Rattle.std.proofs.Common.{◌≡◌, ◌≢◌, ℕ, ◌+◌, ◌-◌, ◌*◌, ◌/◌, ◌%◌, ◌≤◌, List, ◌++◌, length, drop, refl, sym, ap, subst, ◌∙◌, arith, Err}
+use Rattle.std.proofs.Common.{◌≡◌, ◌≢◌, ℕ, ◌+◌, ◌-◌, ◌*◌, ◌/◌, ◌%◌, ◌≤◌, List, [], ◌++◌, length, drop, refl, sym, ap, subst, ◌∙◌, arith, Err}
 use Rattle.std.proofs.lemmas.List.{length-append}
 use Rattle.std.proofs.lemmas.Nat.{div-add-mod'}
 use Rattle.amqp_types.specs.Levels.{plain}
@@ -10,11 +10,14 @@ use Rattle.amqp_frame.specs.Frames.{Raw}
 use Rattle.amqp_frame.specs.Judgements.{IsPayloadFault}
 use Rattle.amqp_frame.specs.Verdicts.{whole}
 use Rattle.amqp_content.specs.declared.fault.ContentFault.{ContentFault}
-use Rattle.amqp_stream.specs.Errors.{cause_of}
+use Rattle.amqp_stream.specs.declared.errors.RunError.{RunError}
+use Rattle.amqp_stream.specs.declared.errors.RunError.TheVariants as runs
+use Rattle.amqp_stream.specs.Errors.{Cause, faulty, cut_short, turns_spent, read_failed, write_failed, out_of_memory, cause_of}
 use Rattle.amqp_stream.specs.Ends.{Store}
-use Rattle.amqp_stream.specs.Writing.{payload_fault}
-use Rattle.amqp_stream.specs.Streaming.{stopped_by, WritesBy}
+use Rattle.amqp_stream.specs.Writing.{Keeps, payload_fault}
+use Rattle.amqp_stream.specs.Streaming.{error_ending, stopped_by, WritesBy}
 use Rattle.amqp_stream.proofs.Writes.{IsNone, is_none, refusing, is_faulty, kept}
+use Rattle.amqp_recut.specs.declared.errors.Refusal.{Refusal}
 use Rattle.amqp_recut.specs.declared.recutter.Recutter.{Recutter}
 use Rattle.amqp_recut.specs.Stepping.{recutting, left_over, Refuses}
 
@@ -35,6 +38,24 @@ pub faulty_frame : (s : Recutter) (raw : Raw) (error : ParserError) (a : Store) 
 faulty_frame s raw error a x fault h =
     let none = no_frame raw error fault h in
     subst (λ cause. WritesBy recutting s s raw a a x x (stopped_by cause)) none.tells (is_faulty plain raw none.bad none.is_whole none.other, kept a x x refl, refl)
+
+-- ---- what is pending after an error
+
+kept_few : (a b : Store) (x y : List ℕ) → Keeps a b x y → length y ≤ length x
+kept_few a b x y h = omega (arith, ap length h.parts, length-append h.written y, length-append x [])
+
+stopped_few : (s t : Recutter) (raw : Raw) (a b : Store) (x y : List ℕ) (cause : Cause) → WritesBy recutting s t raw a b x y (stopped_by cause) → length y ≤ length x
+stopped_few s t raw a b x y (faulty bad) h = kept_few a b x y h.1
+stopped_few s t raw a b x y write_failed h = omega (arith, ap length h.failed.none)
+stopped_few s t raw a b x y out_of_memory h = kept_few a b x y h.1
+stopped_few s t raw a b x y cut_short h = absurd h
+stopped_few s t raw a b x y turns_spent h = absurd h
+stopped_few s t raw a b x y read_failed h = absurd h
+
+-- no more than before
+pub error_few : (s t : Recutter) (raw : Raw) (a b : Store) (x y : List ℕ) (error : RunError Refusal) → WritesBy recutting s t raw a b x y (error_ending error) → length y ≤ length x
+error_few s t raw a b x y (runs.Stream error) h = stopped_few s t raw a b x y (cause_of error) h
+error_few s t raw a b x y (runs.Refused why) h = kept_few a b x y h.1
 
 -- ---- what is left over
 

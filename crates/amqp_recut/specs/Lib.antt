@@ -4,3 +4,4 @@ pub mod Held
 pub mod Errors
 pub mod Stepping
 pub mod Recutting
+pub mod Laws

@@ -2,8 +2,12 @@
 #![tactic(auto)]
 
 mod errors;
+mod laws;
 mod messages;
 mod pieces;
 mod recutter;
+mod recutting;
 
 pub use errors::RecutError;
+pub use laws::{bodies_are_cut, last_size_counts, messages_stay};
+pub use recutting::recut;

@@ -4,9 +4,12 @@ ghost use Rattle.std.specs.Prelude.{◌≤◌, ◌<◌, ◌^◌};
 
 use crate::errors::Refusal;
 use crate::messages::Messages;
-use amqp_content::{ContentFault, Progress};
-use amqp_frame::{AMQPRawFrame, judge_frame};
-use amqp_stream::{RunError, payload_error};
+use crate::pieces::{last_of, settle, write_pieces};
+use amqp_content::{ContentFault, Mark, Progress, step};
+use amqp_frame::{AMQPFrameType, AMQPRawFrame, FrameOutline, judge_frame, outline_front};
+use amqp_stream::{
+    FrameWriter, OutputBuffer, RunError, Sink, StreamError, as_run, payload_error, write_canonical,
+};
 use amqp_types::{ChannelId, NoMemory};
 use std::alloc::Global;
 
@@ -58,6 +61,38 @@ impl Recutter {
         }
     }
 
+    /// Keeps nothing of a channel.
+    fn forget(&mut self, channel_id: ChannelId)
+        ensures { self.new ≡ record self.old { messages = finite.remove self.old.messages channel_id } }
+    {
+        self.messages.forget(channel_id);
+    }
+
+    /// Keeps more bytes of a message. Where memory runs out, all stays.
+    fn append(
+        &mut self,
+        channel_id: ChannelId,
+        progress: Progress,
+        bytes: &[u8],
+    ) -> Result<(), NoMemory>
+        requires there { IsSome (held_at self.old channel_id) }
+        ensures ok { OnOk result (self.new ≡ record self.old {
+          messages = finite.insert self.old.messages channel_id
+              (record { progress = progress; kept = kept_in (held_at self.old channel_id) ++ bytes.now });
+        }) }
+        ensures err { OnErr result (self.new ≡ self.old) }
+    {
+        self.messages.append(channel_id, progress, bytes)
+    }
+
+    /// Keeps these bytes of a message, and no others.
+    fn replace(&mut self, channel_id: ChannelId, progress: Progress, kept: Vec<u8>)
+        requires there { IsSome (held_at self.old channel_id) }
+        ensures { self.new ≡ record self.old { messages = finite.insert self.old.messages channel_id (record { progress = progress; kept = kept.items }) } }
+    {
+        self.messages.replace(channel_id, progress, kept);
+    }
+
     /// Why a frame that is not in turn is refused: a fault of its payload comes first.
     fn refuse(raw: AMQPRawFrame<'_>, fault: ContentFault) -> Result<(), RunError<Refusal>>
         ensures { Refuses (raw_of raw.entry) fault (ending_of result) }
@@ -65,6 +100,220 @@ impl Recutter {
         match judge_frame(raw) {
             Ok(_) => Err(RunError::Refused(Refusal::BadContent(fault))),
             Err(error) => Err(RunError::Stream(payload_error(error))),
+        }
+    }
+
+    /// Gathers a method or content header that is part of a message. Memory is taken before anything is gathered.
+    fn write_part<K: Sink>(
+        &mut self,
+        out: &mut OutputBuffer,
+        sink: &mut K,
+        raw: AMQPRawFrame<'_>,
+        progress: Option<Progress>,
+    ) -> Result<(), RunError<Refusal>>
+        requires typed { IsTyped raw.frame_type }
+        requires few { length raw.payload.now < 2 ^ 32 }
+        requires room { length out.old.bytes + frame_length (raw_of raw) ≤ out.old.room }
+        requires steps { (frame : Frame) → whole (raw_of raw) ≡ Ok frame
+            → step_recutting self.old frame ≡ Ok (canon frame, record self.old { messages = set_at self.old.messages raw.channel_id (held_with progress []) }) }
+        ensures room { out.new.room ≡ out.old.room }
+        ensures writes { WritesBy recutting self.old self.new (raw_of raw.entry) (K.store sink.old) (K.store sink.new)
+            out.old.bytes out.new.bytes (ending_of result) }
+        ensures compact { length out.new.bytes ≤ length out.old.bytes + frame_length (raw_of raw.entry) }
+    {
+        match judge_frame(raw) {
+            Err(error) => return Err(RunError::Stream(payload_error(error))),
+            Ok(_) => {}
+        }
+        match self.keep(raw.channel_id, progress) {
+            Err(_) => return Err(RunError::Stream(StreamError::NoMemory)),
+            Ok(()) => {}
+        }
+        as_run(write_canonical(out, sink, raw))
+    }
+
+    /// Gathers a method or content header.
+    fn write_typed<K: Sink>(
+        &mut self,
+        out: &mut OutputBuffer,
+        sink: &mut K,
+        raw: AMQPRawFrame<'_>,
+    ) -> Result<(), RunError<Refusal>>
+        requires typed { IsTyped raw.frame_type }
+        requires few { length raw.payload.now < 2 ^ 32 }
+        requires room { length out.old.bytes + frame_length (raw_of raw) ≤ out.old.room }
+        ensures room { out.new.room ≡ out.old.room }
+        ensures writes { WritesBy recutting self.old self.new (raw_of raw.entry) (K.store sink.old) (K.store sink.new)
+            out.old.bytes out.new.bytes (ending_of result) }
+        ensures compact { length out.new.bytes ≤ length out.old.bytes + frame_length (raw_of raw.entry) }
+    {
+        match outline_front(raw) {
+            None => as_run(write_canonical(out, sink, raw)),
+            Some(outline) => {
+                let stepped = step(u64::MAX, self.messages.progress(raw.channel_id), outline);
+                match stepped.0 {
+                    Mark::Fault(fault) => Recutter::refuse(raw, fault),
+                    Mark::Passed => as_run(write_canonical(out, sink, raw)),
+                    Mark::Opening => self.write_part(out, sink, raw, stepped.1),
+                    Mark::Header => self.write_part(out, sink, raw, stepped.1),
+                    Mark::Body { .. } => self.write_part(out, sink, raw, stepped.1),
+                }
+            }
+        }
+    }
+
+    /// Gathers the last pieces of a body, and keeps nothing more of its message.
+    fn end_body<K: Sink>(
+        &mut self,
+        out: &mut OutputBuffer,
+        sink: &mut K,
+        channel_id: ChannelId,
+        payload: &[u8],
+    ) -> Result<(), RunError<Refusal>>
+        requires steps { step_recutting self.old (Body channel_id payload.now)
+            ≡ Ok (
+              canon_row (frames_given self.old.size channel_id true (kept_in (held_at self.old channel_id) ++ payload.now)),
+              record self.old { messages = finite.remove self.old.messages channel_id },
+            ) }
+        ensures room { out.new.room ≡ out.old.room }
+        ensures writes { WritesBy recutting self.old self.new (body_raw channel_id payload.now) (K.store sink.old) (K.store sink.new)
+            out.old.bytes out.new.bytes (ending_of result) }
+    {
+        let size = self.size;
+        let kept = self.messages.kept(channel_id);
+        match write_pieces(out, sink, channel_id, size, kept, payload, true) {
+            Err(_) => return Err(RunError::Stream(StreamError::WriteFault)),
+            Ok(()) => {}
+        }
+        self.forget(channel_id);
+        Ok(())
+    }
+
+    /// Gathers the pieces that are whole, and keeps the bytes after them.
+    fn go_on<K: Sink>(
+        &mut self,
+        out: &mut OutputBuffer,
+        sink: &mut K,
+        channel_id: ChannelId,
+        payload: &[u8],
+        progress: Progress,
+    ) -> Result<(), RunError<Refusal>>
+        requires there { IsSome (held_at self.old channel_id) }
+        requires steps { step_recutting self.old (Body channel_id payload.now)
+            ≡ Ok (
+              canon_row (frames_given self.old.size channel_id false (kept_in (held_at self.old channel_id) ++ payload.now)),
+              record self.old {
+                messages = finite.insert self.old.messages channel_id
+                    (record { progress = progress; kept = left_over self.old.size (kept_in (held_at self.old channel_id) ++ payload.now) });
+              },
+            ) }
+        ensures room { out.new.room ≡ out.old.room }
+        ensures writes { WritesBy recutting self.old self.new (body_raw channel_id payload.now) (K.store sink.old) (K.store sink.new)
+            out.old.bytes out.new.bytes (ending_of result) }
+    {
+        let size = self.size;
+        let kept = self.messages.kept(channel_id);
+        let total = kept.len() + payload.len();
+        if total < size {
+            return match self.append(channel_id, progress, payload) {
+                Ok(()) => Ok(()),
+                Err(_) => Err(RunError::Stream(StreamError::NoMemory)),
+            };
+        }
+        match last_of(self.alloc, kept, payload, total % size) {
+            Err(_) => Err(RunError::Stream(StreamError::NoMemory)),
+            Ok(left) => {
+                match write_pieces(out, sink, channel_id, size, kept, payload, false) {
+                    Err(_) => return Err(RunError::Stream(StreamError::WriteFault)),
+                    Ok(()) => {}
+                }
+                self.replace(channel_id, progress, left);
+                Ok(())
+            }
+        }
+    }
+
+    /// Gathers the pieces that a body completes.
+    fn cut_body<K: Sink>(
+        &mut self,
+        out: &mut OutputBuffer,
+        sink: &mut K,
+        channel_id: ChannelId,
+        payload: &[u8],
+    ) -> Result<(), RunError<Refusal>>
+        ensures room { out.new.room ≡ out.old.room }
+        ensures writes { WritesBy recutting self.old self.new (body_raw channel_id payload.now) (K.store sink.old) (K.store sink.new)
+            out.old.bytes out.new.bytes (ending_of result) }
+    {
+        let outline = FrameOutline::Body {
+            channel_id,
+            length: payload.len() as u64,
+        };
+        let stepped = step(u64::MAX, self.messages.progress(channel_id), outline);
+        match stepped.0 {
+            Mark::Fault(fault) => Err(RunError::Refused(Refusal::BadContent(fault))),
+            Mark::Body { .. } => match stepped.1 {
+                Some(progress) => self.go_on(out, sink, channel_id, payload, progress),
+                None => self.end_body(out, sink, channel_id, payload),
+            },
+            Mark::Passed => unreachable!(),
+            Mark::Opening => unreachable!(),
+            Mark::Header => unreachable!(),
+        }
+    }
+
+    /// The same. Of what is pending then, no more stays than the frame had.
+    fn write_body<K: Sink>(
+        &mut self,
+        out: &mut OutputBuffer,
+        sink: &mut K,
+        channel_id: ChannelId,
+        payload: &[u8],
+    ) -> Result<(), RunError<Refusal>>
+        requires few { length payload.now < 2 ^ 32 }
+        ensures room { out.new.room ≡ out.old.room }
+        ensures writes { WritesBy recutting self.old self.new (body_raw channel_id payload.now) (K.store sink.old) (K.store sink.new)
+            out.old.bytes out.new.bytes (ending_of result) }
+        ensures compact { length out.new.bytes ≤ length out.old.bytes + (length payload.now + 8) }
+    {
+        let most = out.bytes().len() + payload.len() + 8;
+        match self.cut_body(out, sink, channel_id, payload) {
+            Err(error) => Err(error),
+            Ok(()) => match settle(out, sink, most) {
+                Err(_) => Err(RunError::Stream(StreamError::WriteFault)),
+                Ok(()) => Ok(()),
+            },
+        }
+    }
+}
+
+impl FrameWriter for Recutter {
+    ghost use Rattle.amqp_recut.specs.Stepping.{recutting};
+
+    type Refusal = Refusal;
+
+    ghost manner = { recutting };
+
+    fn write_frame<K: Sink>(
+        &mut self,
+        out: &mut OutputBuffer,
+        sink: &mut K,
+        raw: AMQPRawFrame<'_>,
+    ) -> Result<(), RunError<Refusal>> {
+        match raw.frame_type {
+            AMQPFrameType::ProtocolHeader => as_run(write_canonical(out, sink, raw)),
+            AMQPFrameType::Method => self.write_typed(out, sink, raw),
+            AMQPFrameType::Header => self.write_typed(out, sink, raw),
+            AMQPFrameType::Body => self.write_body(out, sink, raw.channel_id, raw.payload),
+            AMQPFrameType::Heartbeat => as_run(write_canonical(out, sink, raw)),
+        }
+    }
+
+    fn finish(&self) -> Result<(), Refusal> {
+        if self.messages.is_empty() {
+            Ok(())
+        } else {
+            Err(Refusal::OpenContent)
         }
     }
 }

@@ -4,7 +4,8 @@ use Rattle.amqp_select.specs.Refusals.{texts_of}
 use Rattle.amqp_program.specs.Commands.{after_select, command_of}
 use Rattle.amqp_program.proofs.HexRuns.{hex_not_two}
 use Rattle.amqp_program.proofs.Selections.{no_form, no_selection}
-use Rattle.amqp_program.proofs.Numerals.{make_few}
+use Rattle.amqp_program.proofs.Numerals.{make_few, recut_fits}
+use Rattle.amqp_program.proofs.RecutRuns.{recut_not_two}
 use Rattle.amqp_program.proofs.run.run.Goals as goal
 
 pub returns-in-Some-Hex-clause-usage : goal.returns-in-Some-Hex-clause-usage
@@ -16,6 +17,12 @@ pub returns-in-Some-Tidy-clause-usage : goal.returns-in-Some-Tidy-clause-usage
 returns-in-Some-Tidy-clause-usage g c =
     let named : command_of (texts_of c.args.words.now) ≡ Some commands.Tidy = search rules in
     (λ e. absurd (hex_not_two _ _ _ _ _ _ c.run_hex-in-Some-Tidy.ensures e), λ e. absurd (let same = sym named ∙ e.no_command in cc))
+
+pub run_recut-requires : goal.run_recut-requires
+run_recut-requires g c =
+    let named : command_of (texts_of c.args.words.now) ≡ Some (commands.Recut c.in-Some-Recut.size) = search rules in
+    let fits = recut_fits (texts_of c.args.words.now) _ named in
+    record { some = fits.0; fits = fits.1 }
 
 pub run_make-requires : goal.run_make-requires
 run_make-requires g c =

@@ -1,7 +1,7 @@
-use Rattle.std.proofs.Common.{◌≡◌, ℕ, List, [], ◌++◌, ◌+◌, refl, sym, ap, ◌∙◌, ◌-◌, arith, length, Ok, Err}
+use Rattle.std.proofs.Common.{[], ◌++◌, refl, ◌∙◌, ◌-◌, arith, length}
 use Rattle.std.proofs.lemmas.List.{length-append}
 use Rattle.amqp_recut.proofs.Gathering.{gathered_none}
-use Rattle.amqp_recut.proofs.Piecing.{HasGiven, given_of_two, given_fails, given_end, given_short, given_whole, rest_shorter}
+use Rattle.amqp_recut.proofs.Piecing.{given_of_two, given_fails, given_end, given_short, given_whole, rest_shorter}
 use Rattle.amqp_recut.proofs.pieces.write_pieces.Goals as goal
 use Rattle.amqp_recut.proofs.pieces.write_pieces.Goals.{else-ends-via-then-ends+else-first-second-gt0, else-ends-via-else-ends}
 

@@ -1,0 +1,168 @@
+-- Frames recut again: bodies that are cut stay, and the last of two sizes counts.
+use Rattle.std.proofs.Common.{◌≡◌, ℕ, ◌+◌, ◌*◌, ◌/◌, ◌<◌, ◌≤◌, Bool, true, false, eqb, leb, ltb, List, [], ◌∷◌, ◌++◌, length, map, drop, refl, sym, ap, ap₂, subst, ◌∙◌, arith, inl, inr}
+use Rattle.std.specs.List.{flat_map}
+use Rattle.std.proofs.lemmas.Bool.{cases_eq}
+use Rattle.std.proofs.lemmas.Bool.Decides.{nat_tests}
+use Rattle.std.proofs.lemmas.List.{append_assoc, drop_all, take_all}
+use Rattle.amqp_types.specs.Methods.{Method}
+use Rattle.amqp_types.specs.ContentHeaders.{ContentHeader}
+use Rattle.amqp_frame.specs.Frames.{Frame, Proto, Meth, Head, Body, Beat, BadBeat, channel_id_of}
+use Rattle.amqp_frame.specs.Outlines.{outline_of}
+use Rattle.amqp_content.specs.Units.{is_content, is_opening_id, of_channel, Nothing, Opened, Headed, size_in, bytes_in, IsInTurn}
+use Rattle.amqp_content.specs.Stands.{State, At, Lost}
+use Rattle.amqp_content.specs.Steps.{step, run_state}
+use Rattle.amqp_content.specs.Messages.{joined}
+use Rattle.amqp_content.specs.Splits.{pieces}
+use Rattle.amqp_content.proofs.Pieces.{pieces-none, pieces-more}
+use Rattle.amqp_content.proofs.Running.{turn_runs, stands_run}
+use Rattle.amqp_content.proofs.Telling.{joined-push, length-joined}
+use Rattle.amqp_recut.specs.InTurn.{greatest, AreInTurn, NoneIsOpen, state_on}
+use Rattle.amqp_recut.specs.Cuts.{cuts_of, frame_recut, recut_after, recut}
+use Rattle.amqp_recut.specs.Stepping.{whole_pieces, left_over}
+use Rattle.amqp_recut.specs.Laws.{IsPiece, AreCut}
+use Rattle.amqp_recut.proofs.Cutting.{given_last, given_more, left-more, given-more, given-nothing}
+use Rattle.amqp_recut.proofs.Running.{state_on-own, state_on-other, state_on-outside}
+use Rattle.amqp_recut.proofs.LawsChannels.{IsCut}
+use Rattle.amqp_recut.proofs.LawsPieces.{left_none}
+use Rattle.amqp_recut.proofs.LawsUnits.{unit_recut, begun_recut}
+use Rattle.amqp_recut.proofs.LawsOnce.{by_units, is_remade, bodies_are_cut}
+
+-- ---- bodies that are cut
+
+-- all bytes of a message so far are in pieces of the whole size
+abbrev IsWhole : ℕ → State Frame → Type 0
+IsWhole size (At (Headed opening header bodies)) = left_over size (joined bodies) ≡ []
+IsWhole size (At Nothing) = Unit {0}
+IsWhole size (At (Opened opening)) = Unit {0}
+IsWhole size Lost = Unit {0}
+
+one_whole : (size : ℕ) (bytes : List ℕ) → 1 ≤ size → length bytes ≡ size → whole_pieces size bytes ≡ bytes ∷ []
+one_whole size bytes some e =
+    let none : length (drop size bytes) ≡ 0 = ap length (drop_all size bytes (omega arith)) in
+    given-more size false bytes some (omega arith) ∙ ap₂ (λ p ps. p ∷ ps) (take_all size bytes (omega arith)) (given-nothing size false (drop size bytes) some none)
+
+one_piece : (size : ℕ) (bytes : List ℕ) → 1 ≤ size → 1 ≤ length bytes → length bytes ≤ size → pieces size bytes ≡ bytes ∷ []
+one_piece size bytes some more fits =
+    pieces-more size bytes some more ∙ ap₂ (λ p ps. p ∷ ps) (take_all size bytes fits) (ap (pieces size) (drop_all size bytes fits) ∙ pieces-none size some)
+
+piece_stays : (size : ℕ) (opening header : Frame) (bodies : List Frame) (content : List ℕ) (goes : Bool) → 1 ≤ size → left_over size (joined bodies) ≡ [] → IsPiece size (At (Headed opening header bodies)) content → ltb (bytes_in outline_of bodies + length content) (size_in (outline_of header)) ≡ goes → cuts_of size (size_in (outline_of header)) (joined bodies) content ≡ content ∷ []
+piece_stays size opening header bodies content true some none piece e =
+    let less : bytes_in outline_of bodies + length content < size_in (outline_of header) = grind (arith, nat_tests) in
+    given_more size (size_in (outline_of header)) (joined bodies) content some (omega (arith, less, length-joined bodies))
+    ∙ ap (λ l. whole_pieces size (l ++ content)) none
+    ∙ one_whole size content some (omega (arith, piece.1, less))
+piece_stays size opening header bodies content false some none piece e =
+    let over : size_in (outline_of header) ≤ bytes_in outline_of bodies + length content = grind (arith, nat_tests) in
+    given_last size (size_in (outline_of header)) (joined bodies) content some (omega (arith, piece.0, piece.1, length-joined bodies)) (omega (arith, piece.0, piece.1, over, length-joined bodies))
+    ∙ ap (λ l. pieces size (l ++ content)) none
+    ∙ one_piece size content some piece.0 (omega (arith, piece.1))
+
+frame_stays : (size : ℕ) (state : State Frame) (frame : Frame) → 1 ≤ size → IsWhole size state → IsCut size state frame → frame_recut size state frame ≡ frame ∷ []
+frame_stays size (At (Headed opening header bodies)) (Body channel content) some whole cut = ap (λ ps. map (λ part. Body channel part) ps) (piece_stays size opening header bodies content (ltb (bytes_in outline_of bodies + length content) (size_in (outline_of header))) some whole cut refl)
+frame_stays size (At Nothing) (Body channel content) some whole cut = refl
+frame_stays size (At (Opened opening)) (Body channel content) some whole cut = refl
+frame_stays size Lost (Body channel content) some whole cut = refl
+frame_stays size state (Proto major minor revision) some whole cut = refl
+frame_stays size state (Meth channel m) some whole cut = refl
+frame_stays size state (Head channel header) some whole cut = refl
+frame_stays size state Beat some whole cut = refl
+frame_stays size state (BadBeat channel) some whole cut = refl
+
+whole_method : (size channel : ℕ) (m : Method) (opens : Bool) → is_opening_id m.class m.id ≡ opens → IsWhole size (step outline_of greatest (At Nothing) (Meth channel m)).1
+whole_method size channel m true e = rw e tt
+whole_method size channel m false e = rw e tt
+
+whole_header : (size : ℕ) (opening : Frame) (channel : ℕ) (header : ContentHeader) (basic fits none : Bool) → eqb header.class_id 60 ≡ basic → leb header.body_size greatest ≡ fits → eqb 0 header.body_size ≡ none → IsWhole size (step outline_of greatest (At (Opened opening)) (Head channel header)).1
+whole_header size opening channel header false fits none basic fit done = rw basic tt
+whole_header size opening channel header true false none basic fit done = rw basic (rw fit tt)
+whole_header size opening channel header true true true basic fit done = rw basic (rw fit (rw done tt))
+whole_header size opening channel header true true false basic fit done = rw basic (rw fit (rw done (drop_all ((0 / size) * size) [] (omega arith))))
+
+left_whole : (size : ℕ) (bodies : List Frame) (channel : ℕ) (content : List ℕ) → 1 ≤ size → left_over size (joined bodies) ≡ [] → length content ≡ size → left_over size (joined (bodies ++ Body channel content ∷ [])) ≡ []
+left_whole size bodies channel content some none long =
+    ap (left_over size) (joined-push bodies (Body channel content))
+    ∙ sym (left-more size (joined bodies) content some)
+    ∙ ap (λ l. left_over size (l ++ content)) none
+    ∙ left_none size content some long
+
+whole_body : (size : ℕ) (opening header : Frame) (bodies : List Frame) (channel : ℕ) (content : List ℕ) (fits all : Bool) → 1 ≤ size → left_over size (joined bodies) ≡ [] → IsPiece size (At (Headed opening header bodies)) content → leb (bytes_in outline_of bodies + length content) (size_in (outline_of header)) ≡ fits → eqb (bytes_in outline_of bodies + length content) (size_in (outline_of header)) ≡ all → IsWhole size (step outline_of greatest (At (Headed opening header bodies)) (Body channel content)).1
+whole_body size opening header bodies channel content false all some none piece fit done = rw fit tt
+whole_body size opening header bodies channel content true true some none piece fit done = rw fit (rw done tt)
+whole_body size opening header bodies channel content true false some none piece fit done =
+    let less : bytes_in outline_of bodies + length content < size_in (outline_of header) = grind (arith, nat_tests) in
+    let long : length content ≡ size = omega (arith, piece.1, less) in
+    rw fit (rw done (left_whole size bodies channel content some none long))
+
+whole_step : (size : ℕ) (state : State Frame) (frame : Frame) → 1 ≤ size → IsWhole size state → IsCut size state frame → IsWhole size (step outline_of greatest state frame).1
+whole_step size (At Nothing) (Meth channel m) some whole cut = whole_method size channel m (is_opening_id m.class m.id) refl
+whole_step size (At Nothing) (Head channel header) some whole cut = tt
+whole_step size (At Nothing) (Body channel content) some whole cut = tt
+whole_step size (At Nothing) (Proto major minor revision) some whole cut = tt
+whole_step size (At Nothing) Beat some whole cut = tt
+whole_step size (At Nothing) (BadBeat channel) some whole cut = tt
+whole_step size (At (Opened opening)) (Head channel header) some whole cut = whole_header size opening channel header (eqb header.class_id 60) (leb header.body_size greatest) (eqb 0 header.body_size) refl refl refl
+whole_step size (At (Opened opening)) (Meth channel m) some whole cut = tt
+whole_step size (At (Opened opening)) (Body channel content) some whole cut = tt
+whole_step size (At (Opened opening)) (Proto major minor revision) some whole cut = tt
+whole_step size (At (Opened opening)) Beat some whole cut = tt
+whole_step size (At (Opened opening)) (BadBeat channel) some whole cut = tt
+whole_step size (At (Headed opening header bodies)) (Body channel content) some whole cut =
+    whole_body size opening header bodies channel content (leb (bytes_in outline_of bodies + length content) (size_in (outline_of header))) (eqb (bytes_in outline_of bodies + length content) (size_in (outline_of header))) some whole cut refl refl
+whole_step size (At (Headed opening header bodies)) (Meth channel m) some whole cut = tt
+whole_step size (At (Headed opening header bodies)) (Head channel second) some whole cut = tt
+whole_step size (At (Headed opening header bodies)) (Proto major minor revision) some whole cut = tt
+whole_step size (At (Headed opening header bodies)) Beat some whole cut = tt
+whole_step size (At (Headed opening header bodies)) (BadBeat channel) some whole cut = tt
+whole_step size Lost frame some whole cut = tt
+
+-- the same on each channel
+abbrev AreWhole : ℕ → List Frame → Type 0
+AreWhole size frames = (channel : ℕ) → IsWhole size (state_on frames channel)
+
+whole_later : (size : ℕ) (earlier : List Frame) (frame : Frame) (content : Bool) → is_content (outline_of frame) ≡ content → 1 ≤ size → AreWhole size earlier → IsCut size (state_on earlier (channel_id_of frame)) frame → AreWhole size (earlier ++ frame ∷ [])
+whole_later size earlier frame false e some whole cut channel = subst (IsWhole size) (sym (state_on-outside earlier frame channel e)) (whole channel)
+whole_later size earlier frame true e some whole cut channel = elim (cases_eq channel (channel_id_of frame)) [
+  | inl same ↦
+      subst (λ (c : ℕ). IsWhole size (state_on (earlier ++ frame ∷ []) c)) (sym same)
+      (subst (IsWhole size) (sym (state_on-own earlier frame e)) (whole_step size (state_on earlier (channel_id_of frame)) frame some (whole (channel_id_of frame)) cut))
+  | inr apart ↦ subst (IsWhole size) (sym (state_on-other earlier frame channel apart)) (whole channel)
+]
+
+cut_here : (size : ℕ) (earlier : List Frame) (frame : Frame) (frames : List Frame) → AreCut size (earlier ++ frame ∷ frames) → IsCut size (state_on earlier (channel_id_of frame)) frame
+cut_here size earlier (Body channel content) frames h = h earlier frames channel content refl
+cut_here size earlier (Proto major minor revision) frames h = tt
+cut_here size earlier (Meth channel m) frames h = tt
+cut_here size earlier (Head channel header) frames h = tt
+cut_here size earlier Beat frames h = tt
+cut_here size earlier (BadBeat channel) frames h = tt
+
+stay_after : (size : ℕ) (earlier frames : List Frame) → 1 ≤ size → AreWhole size earlier → AreCut size (earlier ++ frames) → recut_after size earlier frames ≡ frames
+stay_after size earlier [] some whole h = refl
+stay_after size earlier (frame ∷ frames) some whole h =
+    let cut = cut_here size earlier frame frames h in
+    let next = whole_later size earlier frame (is_content (outline_of frame)) refl some whole cut in
+    let rest = stay_after size (earlier ++ frame ∷ []) frames some next (subst (AreCut size) (sym (append_assoc earlier (frame ∷ []) frames)) h) in
+    ap₂ (λ xs ys. xs ++ ys) (frame_stays size (state_on earlier (channel_id_of frame)) frame some (whole (channel_id_of frame)) cut) rest
+
+pub cut_bodies_stay : (size : ℕ) (frames : List Frame) → 1 ≤ size → AreCut size frames → recut size frames ≡ frames
+cut_bodies_stay size frames some cut = stay_after size [] frames some (λ channel. tt) cut
+
+-- ---- recut again
+
+pub twice_is_once : (size : ℕ) (frames : List Frame) → 1 ≤ size → AreInTurn frames → recut size (recut size frames) ≡ recut size frames
+twice_is_once size frames some turn = cut_bodies_stay size (recut size frames) some (bodies_are_cut size frames some turn)
+
+nothing_begun : (xs : List Frame) (h : IsInTurn outline_of greatest xs) → run_state outline_of greatest (At Nothing) xs ≡ At Nothing → h.begun ≡ Nothing
+nothing_begun xs h e =
+    let at : At h.begun ≡ At Nothing = sym (turn_runs outline_of greatest h.units h.begun h.finished h.is_begun).state_is ∙ sym (ap (run_state outline_of greatest (At Nothing)) h.are) ∙ e in
+    cc
+
+pub last_size_counts : (first last : ℕ) (frames : List Frame) → 1 ≤ first → 1 ≤ last → AreInTurn frames → NoneIsOpen frames → (channel : ℕ) → of_channel outline_of channel (recut last (recut first frames)) ≡ of_channel outline_of channel (recut last frames)
+last_size_counts first last frames some more turn none channel =
+    let h = turn channel in
+    let made = is_remade first channel frames some h in
+    let ended : h.begun ≡ Nothing = nothing_begun (of_channel outline_of channel frames) h (sym (stands_run outline_of greatest (of_channel outline_of channel frames) (At Nothing) (none channel))) in
+    by_units last channel (recut first frames) more made.turn
+    ∙ ap₂ (λ us b. flat_map (unit_recut last channel) us ++ begun_recut last channel b) made.units_are (made.begun_is ∙ made.begun.nothing ended ∙ sym ended)
+    ∙ ap (λ fs. fs ++ begun_recut last channel h.begun) (made.units.again last)
+    ∙ sym (by_units last channel frames more h)

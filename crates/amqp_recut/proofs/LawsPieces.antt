@@ -1,0 +1,227 @@
+-- Bodies of one message after another, recut: the pieces of their joined bytes.
+use Rattle.std.proofs.Common.{◌≡◌, ℕ, ◌+◌, ◌-◌, ◌*◌, ◌/◌, ◌<◌, ◌≤◌, zero, suc, Bool, true, false, ltb, List, [], ◌∷◌, ◌++◌, length, map, take, drop, refl, sym, ap, ap₂, subst, ◌∙◌, arith}
+use Rattle.std.specs.List.{AllByRecursion, flat_map}
+use Rattle.std.proofs.lemmas.Bool.Decides.{nat_tests}
+use Rattle.std.proofs.lemmas.List.{append-nil, append_assoc, drop-drop, take-append-le, drop-append-le, length-drop, length-take-le, length-append, drop_all, map-append}
+use Rattle.amqp_frame.specs.Frames.{Frame, Body}
+use Rattle.amqp_frame.specs.Outlines.{outline_of}
+use Rattle.amqp_content.specs.Units.{Nothing, Headed, size_in, bytes_in, IsBody}
+use Rattle.amqp_content.specs.Answers.{Answer}
+use Rattle.amqp_content.specs.Stands.{State, At}
+use Rattle.amqp_content.specs.Steps.{step}
+use Rattle.amqp_content.specs.Messages.{joined}
+use Rattle.amqp_content.specs.Splits.{pieces}
+use Rattle.amqp_content.proofs.Moving.{bytes_in-push}
+use Rattle.amqp_content.proofs.Running.{body_step, last_step}
+use Rattle.amqp_content.proofs.Telling.{joined-push, length-joined}
+use Rattle.amqp_recut.specs.InTurn.{greatest}
+use Rattle.amqp_recut.specs.Cuts.{cuts_of}
+use Rattle.amqp_recut.specs.Stepping.{whole_pieces, left_over, pieces_given}
+use Rattle.amqp_recut.specs.Laws.{IsPiece}
+use Rattle.amqp_recut.proofs.Cutting.{given_last, given_more, whole-none, left-all, left-more, given-more, given-ended, given-nothing}
+use Rattle.amqp_recut.proofs.LawsChannels.{channel_recut, AreCutAfter}
+
+-- ---- bytes
+
+divided : (n m : ℕ) → 1 ≤ m → m ≤ n → n / m ≡ suc ((n - m) / m)
+divided n m h fits = grind arith
+
+quotient_below : (n m : ℕ) → 1 ≤ m → n < (n / m + 1) * m
+quotient_below n m h = grind arith
+
+itself_once : (m : ℕ) → 1 ≤ m → m / m ≡ 1
+itself_once m h = grind arith
+
+left_short : (size : ℕ) (bytes : List ℕ) → 1 ≤ size → length (left_over size bytes) < size
+left_short size bytes h =
+    let next = quotient_below (length bytes) size h in
+    omega (arith, next, length-drop ((length bytes / size) * size) bytes)
+
+-- nothing is left over of one piece
+pub left_none : (size : ℕ) (bytes : List ℕ) → 1 ≤ size → length bytes ≡ size → left_over size bytes ≡ []
+left_none size bytes h e =
+    let once : length bytes / size ≡ 1 = ap (λ n. n / size) e ∙ itself_once size h in
+    let all : (length bytes / size) * size ≡ size = ap (λ n. n * size) once ∙ omega arith in
+    drop_all ((length bytes / size) * size) bytes (omega arith)
+
+-- what is left over is that of the bytes after the first piece
+left_later : (size : ℕ) (bytes : List ℕ) → 1 ≤ size → size ≤ length bytes → left_over size bytes ≡ left_over size (drop size bytes)
+left_later size bytes h fits =
+    let count = divided (length bytes) size h fits in
+    let place : (length bytes / size) * size ≡ size + ((length bytes - size) / size) * size = ap (λ n. n * size) count ∙ omega arith in
+    ap (λ n. drop n bytes) place
+    ∙ sym (drop-drop (((length bytes - size) / size) * size) size bytes)
+    ∙ ap (λ n. drop ((n / size) * size) (drop size bytes)) (sym (length-drop size bytes))
+
+-- pieces of some bytes, and then those of what is left over with the bytes after them
+given_within : (size : ℕ) (ends : Bool) (fuel : ℕ) (xs ys : List ℕ) → 1 ≤ size → length xs ≤ fuel → whole_pieces size xs ++ pieces_given size ends (left_over size xs ++ ys) ≡ pieces_given size ends (xs ++ ys)
+given_within size ends zero xs ys h enough = ap₂ (λ ps l. ps ++ pieces_given size ends (l ++ ys)) (whole-none size xs (omega arith)) (left-all size xs (omega arith))
+given_within size ends (suc fuel) xs ys h enough = by_length (ltb (length xs) size) refl (λ rest. given_within size ends fuel (drop size xs) ys h rest)
+  where
+    by_length : (less : Bool) → ltb (length xs) size ≡ less → (length (drop size xs) ≤ fuel → whole_pieces size (drop size xs) ++ pieces_given size ends (left_over size (drop size xs) ++ ys) ≡ pieces_given size ends (drop size xs ++ ys)) → whole_pieces size xs ++ pieces_given size ends (left_over size xs ++ ys) ≡ pieces_given size ends (xs ++ ys)
+    by_length true e rest =
+        let short : length xs < size = grind (arith, nat_tests) in
+        ap₂ (λ ps l. ps ++ pieces_given size ends (l ++ ys)) (whole-none size xs short) (left-all size xs short)
+    by_length false e rest =
+        let fits : size ≤ length xs = grind (arith, nat_tests) in
+        let more = rest (omega (arith, length-drop size xs)) in
+        ap₂ (λ ps l. ps ++ pieces_given size ends (l ++ ys)) (given-more size false xs h fits) (left_later size xs h fits)
+        ∙ ap (λ ps. take size xs ∷ ps) more
+        ∙ ap₂ (λ p r. p ∷ pieces_given size ends r) (sym (take-append-le size xs ys fits)) (sym (drop-append-le size xs ys fits))
+        ∙ sym (given-more size ends (xs ++ ys) h (omega (arith, length-append xs ys)))
+
+given_after : (size : ℕ) (ends : Bool) (xs ys : List ℕ) → 1 ≤ size → whole_pieces size xs ++ pieces_given size ends (left_over size xs ++ ys) ≡ pieces_given size ends (xs ++ ys)
+given_after size ends xs ys h = given_within size ends (length xs) xs ys h (omega arith)
+
+-- ---- bodies with these bytes
+
+abbrev pub bodies_with : ℕ → List (List ℕ) → List Frame
+bodies_with channel parts = map (λ part. Body channel part) parts
+
+abbrev pub flat : List (List ℕ) → List ℕ
+flat parts = flat_map (λ part. part) parts
+
+pub joined_bodies : (channel : ℕ) (parts : List (List ℕ)) → joined (bodies_with channel parts) ≡ flat parts
+joined_bodies channel [] = refl
+joined_bodies channel (part ∷ parts) = ap (λ bs. part ++ bs) (joined_bodies channel parts)
+
+pub bytes_bodies : (channel : ℕ) (parts : List (List ℕ)) → bytes_in outline_of (bodies_with channel parts) ≡ length (flat parts)
+bytes_bodies channel parts = sym (length-joined (bodies_with channel parts)) ∙ ap length (joined_bodies channel parts)
+
+pub all_bodies : (channel : ℕ) (parts : List (List ℕ)) → AllByRecursion (λ x. IsBody (outline_of x)) (bodies_with channel parts)
+all_bodies channel [] = tt
+all_bodies channel (part ∷ parts) = (tt, all_bodies channel parts)
+
+pub flat_push : (parts : List (List ℕ)) (part : List ℕ) → flat (parts ++ part ∷ []) ≡ flat parts ++ part
+flat_push [] part = append-nil part
+flat_push (p ∷ ps) part = ap (λ bs. p ++ bs) (flat_push ps part) ∙ sym (append_assoc p (flat ps) part)
+
+-- the whole pieces of some bytes have no more
+whole_fit_within : (size fuel : ℕ) (bytes : List ℕ) → 1 ≤ size → length bytes ≤ fuel → length (flat (whole_pieces size bytes)) ≤ length bytes
+whole_fit_within size zero bytes h enough = let none : length (flat (whole_pieces size bytes)) ≡ 0 = ap (λ ps. length (flat ps)) (whole-none size bytes (omega arith)) in omega arith
+whole_fit_within size (suc fuel) bytes h enough = by_length (ltb (length bytes) size) refl (λ rest. whole_fit_within size fuel (drop size bytes) h rest)
+  where
+    by_length : (less : Bool) → ltb (length bytes) size ≡ less → (length (drop size bytes) ≤ fuel → length (flat (whole_pieces size (drop size bytes))) ≤ length (drop size bytes)) → length (flat (whole_pieces size bytes)) ≤ length bytes
+    by_length true e rest =
+        let none : length (flat (whole_pieces size bytes)) ≡ 0 = ap (λ ps. length (flat ps)) (whole-none size bytes (grind (arith, nat_tests))) in
+        omega arith
+    by_length false e rest =
+        let fits : size ≤ length bytes = grind (arith, nat_tests) in
+        let first : length (flat (whole_pieces size bytes)) ≡ length (take size bytes ++ flat (whole_pieces size (drop size bytes))) = ap (λ ps. length (flat ps)) (given-more size false bytes h fits) in
+        let more = rest (omega (arith, length-drop size bytes)) in
+        omega (arith, first, more, length-drop size bytes, length-take-le size bytes fits, length-append (take size bytes) (flat (whole_pieces size (drop size bytes))))
+
+pub whole_fit : (size : ℕ) (bytes : List ℕ) → 1 ≤ size → length (flat (whole_pieces size bytes)) ≤ length bytes
+whole_fit size bytes h = whole_fit_within size (length bytes) bytes h (omega arith)
+
+-- ---- bodies recut
+
+module _ (size channel : ℕ) (opening header : Frame) (some : 1 ≤ size) where
+  -- a message that has these bodies
+  abbrev headed : List Frame → State Frame
+  headed bodies = At (Headed opening header bodies)
+
+  grown : (before : List Frame) (part : List ℕ) → bytes_in outline_of before + length part < size_in (outline_of header) → (step outline_of greatest (headed before) (Body channel part)).1 ≡ headed (before ++ Body channel part ∷ [])
+  grown before part less = ap (λ (p : Answer Frame × State Frame). p.1) (body_step outline_of greatest opening header before (Body channel part) (outline_of (Body channel part)) refl tt less)
+
+  ended : (before : List Frame) (part : List ℕ) → bytes_in outline_of before + length part ≡ size_in (outline_of header) → (step outline_of greatest (headed before) (Body channel part)).1 ≡ At Nothing
+  ended before part all = ap (λ (p : Answer Frame × State Frame). p.1) (last_step outline_of greatest opening header before (Body channel part) (outline_of (Body channel part)) refl tt all)
+
+  -- a body before the last
+  one_more : (before : List Frame) (part : List ℕ) (frames : List Frame) → bytes_in outline_of before + length part < size_in (outline_of header) → channel_recut size (headed before) (Body channel part ∷ frames) ≡ bodies_with channel (whole_pieces size (left_over size (joined before) ++ part)) ++ channel_recut size (headed (before ++ Body channel part ∷ [])) frames
+  one_more before part frames less =
+      let cuts : cuts_of size (size_in (outline_of header)) (joined before) part ≡ whole_pieces size (left_over size (joined before) ++ part) = given_more size (size_in (outline_of header)) (joined before) part some (omega (arith, length-joined before)) in
+      ap₂ (λ ps s. bodies_with channel ps ++ channel_recut size s frames) cuts (grown before part less)
+
+  -- its pieces, and those of the bytes after it
+  pieces_more : (ends : Bool) (before : List Frame) (part bytes : List ℕ) → bodies_with channel (whole_pieces size (left_over size (joined before) ++ part)) ++ bodies_with channel (pieces_given size ends (left_over size (joined (before ++ Body channel part ∷ [])) ++ bytes)) ≡ bodies_with channel (pieces_given size ends (left_over size (joined before) ++ (part ++ bytes)))
+  pieces_more ends before part bytes =
+      let first = left_over size (joined before) ++ part in
+      let left : left_over size (joined (before ++ Body channel part ∷ [])) ≡ left_over size first = ap (left_over size) (joined-push before (Body channel part)) ∙ sym (left-more size (joined before) part some) in
+      ap (λ l. bodies_with channel (whole_pieces size first) ++ bodies_with channel (pieces_given size ends (l ++ bytes))) left
+      ∙ sym (map-append (λ p. Body channel p) (whole_pieces size first) (pieces_given size ends (left_over size first ++ bytes)))
+      ∙ ap (bodies_with channel) (given_after size ends first bytes some ∙ ap (pieces_given size ends) (append_assoc (left_over size (joined before)) part bytes))
+
+  -- bodies of a message that is not complete then
+  pub open_bodies : (before : List Frame) (parts : List (List ℕ)) → bytes_in outline_of before + length (flat parts) < size_in (outline_of header) → channel_recut size (headed before) (bodies_with channel parts) ≡ bodies_with channel (whole_pieces size (left_over size (joined before) ++ flat parts))
+  open_bodies before [] less =
+      let short = left_short size (joined before) some in
+      let none : whole_pieces size (left_over size (joined before) ++ []) ≡ [] = whole-none size (left_over size (joined before) ++ []) (omega (arith, short, length-append (left_over size (joined before)) [])) in
+      ap (bodies_with channel) (sym none)
+  open_bodies before (part ∷ parts) less =
+      let total = length-append part (flat parts) in
+      let rest = open_bodies (before ++ Body channel part ∷ []) parts (omega (arith, total, bytes_in-push outline_of before (Body channel part))) in
+      one_more before part (bodies_with channel parts) (omega (arith, total))
+      ∙ ap (λ fs. bodies_with channel (whole_pieces size (left_over size (joined before) ++ part)) ++ fs) rest
+      ∙ pieces_more false before part (flat parts)
+
+  -- bodies of a message up to its last
+  pub closed_bodies : (before : List Frame) (parts : List (List ℕ)) (last : List ℕ) (frames : List Frame) → bytes_in outline_of before + length (flat parts) < size_in (outline_of header) → bytes_in outline_of before + length (flat parts) + length last ≡ size_in (outline_of header) → channel_recut size (headed before) (bodies_with channel parts ++ Body channel last ∷ frames) ≡ bodies_with channel (pieces size (left_over size (joined before) ++ (flat parts ++ last))) ++ channel_recut size (At Nothing) frames
+  closed_bodies before [] last frames less all =
+      let cuts : cuts_of size (size_in (outline_of header)) (joined before) last ≡ pieces size (left_over size (joined before) ++ last) = given_last size (size_in (outline_of header)) (joined before) last some (omega (arith, length-joined before)) (omega (arith, length-joined before)) in
+      ap₂ (λ ps s. bodies_with channel ps ++ channel_recut size s frames) cuts (ended before last (omega arith))
+  closed_bodies before (part ∷ parts) last frames less all =
+      let total = length-append part (flat parts) in
+      let grown = bytes_in-push outline_of before (Body channel part) in
+      let rest = closed_bodies (before ++ Body channel part ∷ []) parts last frames (omega (arith, total, grown)) (omega (arith, total, grown)) in
+      let end = channel_recut size (At Nothing) frames in
+      one_more before part (bodies_with channel parts ++ Body channel last ∷ frames) (omega (arith, total))
+      ∙ ap (λ fs. bodies_with channel (whole_pieces size (left_over size (joined before) ++ part)) ++ fs) rest
+      ∙ sym (append_assoc (bodies_with channel (whole_pieces size (left_over size (joined before) ++ part))) (bodies_with channel (pieces size (left_over size (joined (before ++ Body channel part ∷ [])) ++ (flat parts ++ last)))) end)
+      ∙ ap (λ fs. fs ++ end) (pieces_more true before part (flat parts ++ last) ∙ ap (λ bs. bodies_with channel (pieces size (left_over size (joined before) ++ bs))) (sym (append_assoc part (flat parts) last)))
+
+  -- ---- pieces are cut
+
+  -- the bytes that are still to come of a message, where they end it or not
+  abbrev pub Fits : Bool → ℕ → Type 0
+  Fits true n = n ≡ size_in (outline_of header)
+  Fits false n = n < size_in (outline_of header)
+
+  fits_within : (ends : Bool) (n : ℕ) → Fits ends n → n ≤ size_in (outline_of header)
+  fits_within true n h = omega arith
+  fits_within false n h = omega arith
+
+  cut_nothing : (ends : Bool) (state : State Frame) (bytes : List ℕ) → length bytes ≡ 0 → AreCutAfter size state (bodies_with channel (pieces_given size ends bytes))
+  cut_nothing ends state bytes none = subst (λ (ps : List (List ℕ)). AreCutAfter size state (bodies_with channel ps)) (sym (given-nothing size ends bytes some none)) tt
+
+  -- the last piece, or bytes that are kept back
+  cut_short : (ends : Bool) (before : List Frame) (bytes : List ℕ) → length bytes < size → 1 ≤ length bytes → Fits ends (bytes_in outline_of before + length bytes) → AreCutAfter size (headed before) (bodies_with channel (pieces_given size ends bytes))
+  cut_short true before bytes less one h =
+      let piece : IsPiece size (headed before) bytes = (omega arith, omega arith) in
+      subst (λ (ps : List (List ℕ)). AreCutAfter size (headed before) (bodies_with channel ps)) (sym (given-ended size bytes some one less)) (piece, tt)
+  cut_short false before bytes less one h = subst (λ (ps : List (List ℕ)). AreCutAfter size (headed before) (bodies_with channel ps)) (sym (whole-none size bytes less)) tt
+
+  -- what comes after a piece of the whole size
+  cut_next : (ends more : Bool) (before : List Frame) (piece bytes : List ℕ) → length piece ≡ size → ltb (bytes_in outline_of before + size) (size_in (outline_of header)) ≡ more → Fits ends (bytes_in outline_of before + (size + length bytes)) → (Fits ends (bytes_in outline_of (before ++ Body channel piece ∷ []) + length bytes) → AreCutAfter size (headed (before ++ Body channel piece ∷ [])) (bodies_with channel (pieces_given size ends bytes))) → AreCutAfter size (step outline_of greatest (headed before) (Body channel piece)).1 (bodies_with channel (pieces_given size ends bytes))
+  cut_next ends true before piece bytes long e h rest =
+      let less : bytes_in outline_of before + length piece < size_in (outline_of header) = grind (arith, nat_tests) in
+      let same : bytes_in outline_of before + (size + length bytes) ≡ bytes_in outline_of (before ++ Body channel piece ∷ []) + length bytes = omega (arith, bytes_in-push outline_of before (Body channel piece)) in
+      subst (λ (s : State Frame). AreCutAfter size s (bodies_with channel (pieces_given size ends bytes))) (sym (grown before piece less)) (rest (subst (Fits ends) same h))
+  cut_next ends false before piece bytes long e h rest =
+      let within = fits_within ends (bytes_in outline_of before + (size + length bytes)) h in
+      let over : size_in (outline_of header) ≤ bytes_in outline_of before + size = grind (arith, nat_tests) in
+      cut_nothing ends (step outline_of greatest (headed before) (Body channel piece)).1 bytes (omega arith)
+
+  cut_long : (ends : Bool) (before : List Frame) (bytes : List ℕ) → size ≤ length bytes → Fits ends (bytes_in outline_of before + length bytes) → ((next : List Frame) → Fits ends (bytes_in outline_of next + length (drop size bytes)) → AreCutAfter size (headed next) (bodies_with channel (pieces_given size ends (drop size bytes)))) → AreCutAfter size (headed before) (bodies_with channel (pieces_given size ends bytes))
+  cut_long ends before bytes fits h rest =
+      let first = take size bytes in
+      let within = fits_within ends (bytes_in outline_of before + length bytes) h in
+      let long : length first ≡ size = length-take-le size bytes fits in
+      let piece : IsPiece size (headed before) first = (omega arith, omega arith) in
+      let same : bytes_in outline_of before + length bytes ≡ bytes_in outline_of before + (size + length (drop size bytes)) = omega (arith, length-drop size bytes) in
+      subst (λ (ps : List (List ℕ)). AreCutAfter size (headed before) (bodies_with channel ps)) (sym (given-more size ends bytes some fits))
+      (piece, cut_next ends (ltb (bytes_in outline_of before + size) (size_in (outline_of header))) before first (drop size bytes) long refl (subst (Fits ends) same h) (rest (before ++ Body channel first ∷ [])))
+
+  cut_within : (ends : Bool) (fuel : ℕ) (before : List Frame) (bytes : List ℕ) → length bytes ≤ fuel → Fits ends (bytes_in outline_of before + length bytes) → AreCutAfter size (headed before) (bodies_with channel (pieces_given size ends bytes))
+  cut_within ends zero before bytes enough h = cut_nothing ends (headed before) bytes (omega arith)
+  cut_within ends (suc fuel) before bytes enough h = by_length (ltb (length bytes) size) (ltb 0 (length bytes)) refl refl (λ (small : length (drop size bytes) ≤ fuel) (next : List Frame). cut_within ends fuel next (drop size bytes) small)
+    where
+      by_length : (less one : Bool) → ltb (length bytes) size ≡ less → ltb 0 (length bytes) ≡ one → (length (drop size bytes) ≤ fuel → (next : List Frame) → Fits ends (bytes_in outline_of next + length (drop size bytes)) → AreCutAfter size (headed next) (bodies_with channel (pieces_given size ends (drop size bytes)))) → AreCutAfter size (headed before) (bodies_with channel (pieces_given size ends bytes))
+      by_length false one e f rest =
+          let fits : size ≤ length bytes = grind (arith, nat_tests) in
+          cut_long ends before bytes fits h (rest (omega (arith, length-drop size bytes)))
+      by_length true true e f rest = cut_short ends before bytes (grind (arith, nat_tests)) (grind (arith, nat_tests)) h
+      by_length true false e f rest = cut_nothing ends (headed before) bytes (grind (arith, nat_tests))
+
+  pub cut_given : (ends : Bool) (before : List Frame) (bytes : List ℕ) → Fits ends (bytes_in outline_of before + length bytes) → AreCutAfter size (headed before) (bodies_with channel (pieces_given size ends bytes))
+  cut_given ends before bytes h = cut_within ends (length bytes) before bytes (omega arith) h
