@@ -34,10 +34,10 @@ refuses_faulty raw other error fault h =
     let none = no_frame raw error fault h in
     subst (λ cause. Refuses raw other (stopped_by cause)) none.tells (is_faulty plain raw none.bad none.is_whole none.other)
 
-pub faulty_frame : (s : Recutter) (raw : Raw) (error : ParserError) (a : Store) (x : List ℕ) → IsPayloadFault error → RefusesWhole error (whole raw) → WritesBy recutting s s raw a a x x (stopped_by (cause_of (payload_fault error)))
-faulty_frame s raw error a x fault h =
+pub faulty_frame : (s : Recutter) (raw : Raw) (error : ParserError) (a : Store) (x y : List ℕ) → y ≡ x → IsPayloadFault error → RefusesWhole error (whole raw) → WritesBy recutting s s raw a a x y (stopped_by (cause_of (payload_fault error)))
+faulty_frame s raw error a x y same fault h =
     let none = no_frame raw error fault h in
-    subst (λ cause. WritesBy recutting s s raw a a x x (stopped_by cause)) none.tells (is_faulty plain raw none.bad none.is_whole none.other, kept a x x refl, refl)
+    subst (λ cause. WritesBy recutting s s raw a a x y (stopped_by cause)) none.tells (is_faulty plain raw none.bad none.is_whole none.other, kept a x y same, refl)
 
 -- ---- what is pending after an error
 

@@ -29,6 +29,7 @@ impl Recutter {
     ghost use Rattle.amqp_frame.specs.Frames.{Frame, Body, raw_of, IsTyped};
     ghost use Rattle.amqp_frame.specs.Canonical.{canon, canon_row};
     ghost use Rattle.amqp_frame.specs.Verdicts.{whole};
+    ghost use Rattle.amqp_stream.specs.Ends.{Store};
     ghost use Rattle.amqp_stream.specs.Writing.{frame_length};
     ghost use Rattle.amqp_stream.specs.Streaming.{WritesBy, ending_of};
     ghost use Rattle.amqp_recut.specs.Held.{held_with, set_at, kept_in};
@@ -103,33 +104,35 @@ impl Recutter {
         }
     }
 
-    /// Gathers a method or content header that is part of a message. Memory is taken before anything is gathered.
-    fn write_part<K: Sink>(
+    /// Puts a method or content header that is part of a message after the pending bytes. Where memory runs out, it is taken
+    /// back.
+    fn write_part(
         &mut self,
         out: &mut OutputBuffer,
-        sink: &mut K,
         raw: AMQPRawFrame<'_>,
         progress: Option<Progress>,
     ) -> Result<(), RunError<Refusal>>
         requires typed { IsTyped raw.frame_type }
         requires few { length raw.payload.now < 2 ^ 32 }
-        requires room { length out.old.bytes + frame_length (raw_of raw) ≤ out.old.room }
+        requires room { length out.old.bytes + (length raw.payload.now + 8) ≤ out.old.room }
         requires steps { (frame : Frame) → whole (raw_of raw) ≡ Ok frame
             → step_recutting self.old frame ≡ Ok (canon frame, record self.old { messages = set_at self.old.messages raw.channel_id (held_with progress []) }) }
         ensures room { out.new.room ≡ out.old.room }
-        ensures writes { WritesBy recutting self.old self.new (raw_of raw.entry) (K.store sink.old) (K.store sink.new)
-            out.old.bytes out.new.bytes (ending_of result) }
-        ensures compact { length out.new.bytes ≤ length out.old.bytes + frame_length (raw_of raw.entry) }
+        ensures writes { (store : Store) → WritesBy recutting self.old self.new (raw_of raw.entry) store store out.old.bytes out.new.bytes (ending_of result) }
+        ensures compact { length out.new.bytes ≤ length out.old.bytes + (length raw.entry.payload.now + 8) }
     {
-        match judge_frame(raw) {
+        let pending = out.bytes().len();
+        match out.push_raw(raw) {
             Err(error) => return Err(RunError::Stream(payload_error(error))),
-            Ok(_) => {}
-        }
-        match self.keep(raw.channel_id, progress) {
-            Err(_) => return Err(RunError::Stream(StreamError::NoMemory)),
             Ok(()) => {}
         }
-        as_run(write_canonical(out, sink, raw))
+        match self.keep(raw.channel_id, progress) {
+            Ok(()) => Ok(()),
+            Err(_) => {
+                out.truncate(pending);
+                Err(RunError::Stream(StreamError::NoMemory))
+            }
+        }
     }
 
     /// Gathers a method or content header.
@@ -154,9 +157,9 @@ impl Recutter {
                 match stepped.0 {
                     Mark::Fault(fault) => Recutter::refuse(raw, fault),
                     Mark::Passed => as_run(write_canonical(out, sink, raw)),
-                    Mark::Opening => self.write_part(out, sink, raw, stepped.1),
-                    Mark::Header => self.write_part(out, sink, raw, stepped.1),
-                    Mark::Body { .. } => self.write_part(out, sink, raw, stepped.1),
+                    Mark::Opening => self.write_part(out, raw, stepped.1),
+                    Mark::Header => self.write_part(out, raw, stepped.1),
+                    Mark::Body { .. } => self.write_part(out, raw, stepped.1),
                 }
             }
         }

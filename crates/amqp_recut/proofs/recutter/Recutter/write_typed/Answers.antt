@@ -1,8 +1,8 @@
-use Rattle.std.proofs.Common.{refl, sym, ap, ◌∙◌}
+use Rattle.std.proofs.Common.{length, refl, sym, ap, ◌∙◌, arith}
 use Rattle.amqp_frame.specs.Frames.{raw_of}
 use Rattle.amqp_content.specs.Steps.{mark_after, progress_after}
 use Rattle.amqp_recut.specs.InTurn.{greatest}
-use Rattle.amqp_recut.proofs.Stepping.{passing, refused_as, typed_passed, typed_part, typed_refused}
+use Rattle.amqp_recut.proofs.Stepping.{passing, refused_as, typed_passed, typed_part, typed_refused, typed_length}
 use Rattle.amqp_recut.proofs.recutter.Recutter.write_typed.Goals as goal
 
 pub returns-in-None-clause-writes : goal.returns-in-None-clause-writes
@@ -36,3 +36,21 @@ write_part-requires-in-Body-clause-steps g c =
     let mark = sym c.in-Body.is ∙ c.step-stepped.ensures.mark ∙ ap (λ p. mark_after greatest p c.in-Some.outline) c.progress.ensures in
     let progress = c.step-stepped.ensures.progress ∙ ap (λ p. progress_after greatest p c.in-Some.outline) c.progress.ensures in
     typed_part c.args.self.now (raw_of c.args.raw) c.in-Some.outline _ c.step-stepped.result.1 c.requires.typed c.in-Some.ensures tt mark progress
+
+pub write_part-requires-clause-room : goal.write_part-requires-clause-room
+write_part-requires-clause-room g c = omega (arith, typed_length c.args.raw.frame_type (length c.args.raw.payload.now) c.requires.typed, c.requires.room)
+
+pub write_part-requires-in-Header-clause-room : goal.write_part-requires-in-Header-clause-room
+write_part-requires-in-Header-clause-room g c = omega (arith, typed_length c.args.raw.frame_type (length c.args.raw.payload.now) c.requires.typed, c.requires.room)
+
+pub write_part-requires-in-Body-clause-room : goal.write_part-requires-in-Body-clause-room
+write_part-requires-in-Body-clause-room g c = omega (arith, typed_length c.args.raw.frame_type (length c.args.raw.payload.now) c.requires.typed, c.requires.room)
+
+pub returns-in-Opening-clause-writes : goal.returns-in-Opening-clause-writes
+returns-in-Opening-clause-writes g c = c.write_part.ensures.writes (g.K.Sink.store c.args.sink.now)
+
+pub returns-in-Header-clause-writes : goal.returns-in-Header-clause-writes
+returns-in-Header-clause-writes g c = c.write_part-in-Header.ensures.writes (g.K.Sink.store c.args.sink.now)
+
+pub returns-in-Body-clause-writes : goal.returns-in-Body-clause-writes
+returns-in-Body-clause-writes g c = c.write_part-in-Body.ensures.writes (g.K.Sink.store c.args.sink.now)
