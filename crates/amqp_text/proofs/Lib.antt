@@ -3,3 +3,9 @@ pub mod Told
 pub mod ToldSlots
 pub mod ToldBack
 pub mod SlotsBack
+pub mod Lining
+pub mod Borrowed
+pub mod Dumps
+pub mod Holding
+pub mod Generated
+pub mod Newlines

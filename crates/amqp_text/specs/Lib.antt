@@ -2,3 +2,9 @@ pub mod Words
 pub mod Values
 pub mod Slots
 pub mod Telling
+pub mod Lines
+pub mod Payloads
+pub mod LineTexts
+pub mod Dumping
+pub mod Typed
+pub mod Laws

@@ -1,5 +1,4 @@
 use Rattle.std.proofs.Common.{length}
-use Rattle.amqp_text.proofs.SlotsBack.{properties_back}
 use Rattle.amqp_text.proofs.slots.+write_set.Given as goal
 
 abbrev pub decreases-write_set : goal.decreases-write_set

@@ -1,5 +1,3 @@
-use Rattle.std.proofs.Common.{◌≡◌, ◌+◌, ◌<◌, ◌≤◌, ◌^◌, ◌++◌, drop}
-use Rattle.std.specs.Fmt.{decimal}
 use Rattle.amqp_text.proofs.Digits.{ArePut}
 use Rattle.amqp_text.proofs.words.put_digits.Given as goal
 

@@ -1,4 +1,4 @@
-use Rattle.std.proofs.Common.{sym, ap, ◌∙◌}
+use Rattle.std.proofs.Common.{ap, ◌∙◌}
 use Rattle.amqp_text.specs.Words.{sign}
 use Rattle.amqp_text.proofs.Digits.{one_more_sign}
 use Rattle.amqp_text.proofs.words.write_signs.Goals as goal

@@ -1,0 +1,5 @@
+use Rattle.amqp_text.proofs.Newlines.{one_newline}
+use Rattle.amqp_text.proofs.laws.lines_have_one_newline.Goals as goal
+
+pub returns : goal.returns
+returns c = one_newline

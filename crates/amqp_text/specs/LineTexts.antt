@@ -1,0 +1,41 @@
+-- What is put for a frame: its canonical bytes, its line, or why neither.
+use Rattle.std.specs.Prelude.{◌≡◌, ◌++◌, List, ℕ, Result, Ok, Err, IsOk}
+use Rattle.amqp_types.specs.Levels.{plain}
+use Rattle.amqp_types.specs.declared.errors.GenError.{GenError}
+use Rattle.amqp_types.specs.declared.errors.GenError.TheVariants as refusals
+use Rattle.amqp_frame.specs.Frames.{Frame, Raw}
+use Rattle.amqp_frame.specs.Canonical.{canon, size_of}
+use Rattle.amqp_frame.specs.Verdicts.{whole}
+use Rattle.amqp_stream.specs.declared.errors.StreamError.{StreamError}
+use Rattle.amqp_stream.specs.Errors.{Cause, faulty, out_of_memory, cause_of}
+use Rattle.amqp_stream.specs.Writing.{IsFaulty}
+use Rattle.amqp_text.specs.Lines.{line}
+
+-- why a borrowed frame was not told: a fault of its payload, or memory
+abbrev pub IsUntold : Raw → Cause → Type 0
+IsUntold raw (faulty bad) = IsFaulty plain raw bad
+IsUntold raw out_of_memory = Unit {0}
+IsUntold raw cause = ⊥
+
+-- the canonical bytes of the frame that a borrowed one is, or why there are none
+abbrev pub PutsCanonical : Raw → List ℕ → Result (Unit {0}) StreamError → Type 0
+PutsCanonical raw canonical (Ok done) = (frame : Frame) × (whole raw ≡ Ok frame) × (canonical ≡ canon frame)
+PutsCanonical raw canonical (Err error) = IsUntold raw (cause_of error)
+
+-- the line of that frame
+abbrev pub PutsLine : Raw → List ℕ → Result (Unit {0}) StreamError → Type 0
+PutsLine raw text (Ok done) = (frame : Frame) × (whole raw ≡ Ok frame) × (text ≡ line frame)
+PutsLine raw text (Err error) = IsUntold raw (cause_of error)
+
+-- its canonical bytes and its line
+abbrev pub PutsBoth : Raw → List ℕ → List ℕ → Result (Unit {0}) StreamError → Type 0
+PutsBoth raw canonical text (Ok done) = (frame : Frame) × (whole raw ≡ Ok frame) × (canonical ≡ canon frame) × (text ≡ line frame)
+PutsBoth raw canonical text (Err error) = IsUntold raw (cause_of error)
+
+-- ---- typed frames
+
+-- The line of a frame that has a size is appended. A refusal is that of measuring the frame, or memory, and leaves the vector as it was.
+abbrev pub AppendsLine : List ℕ → List ℕ → Frame → Result (Unit {0}) GenError → Type 0
+AppendsLine old new frame (Ok done) = IsOk (size_of frame) × (new ≡ old ++ line frame)
+AppendsLine old new frame (Err refusals.NoMemory) = new ≡ old
+AppendsLine old new frame (Err error) = (size_of frame ≡ Err error) × (new ≡ old)
