@@ -2,6 +2,7 @@ pub mod TextReading
 pub mod HexRuns
 pub mod RawRuns
 pub mod RecutRuns
+pub mod TextRuns
 pub mod Selections
 pub mod SelectRuns
 pub mod Statuses

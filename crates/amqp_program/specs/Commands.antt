@@ -18,8 +18,9 @@ command_named word =
     else (if bytes_eq word (codes "raw") then Some commands.Raw
     else (if bytes_eq word (codes "tidy") then Some commands.Tidy
     else (if bytes_eq word (codes "lent") then Some commands.Lent
+    else (if bytes_eq word (codes "dump") then Some commands.Dump
     else (if bytes_eq word (codes "--help") then Some commands.Help
-    else (if bytes_eq word (codes "--version") then Some commands.Version else None)))))
+    else (if bytes_eq word (codes "--version") then Some commands.Version else None))))))
 
 -- the number that a word names, up to a greatest: the word is how the number is printed
 unfoldable pub number_named : ℕ → List ℕ → Option ℕ

@@ -16,6 +16,8 @@ use Rattle.amqp_recut.specs.declared.errors.RecutError.{RecutError}
 use Rattle.amqp_recut.specs.Errors.{recut_error_status}
 use Rattle.amqp_recut.specs.Recutting.{Recuts, RecutsExactly, IsComplete}
 use Rattle.amqp_recut.specs.Recutting.{NeverBegan as NeverRecut}
+use Rattle.amqp_text.specs.Lines.{lines}
+use Rattle.amqp_text.specs.Dumping.{Dumps}
 use Rattle.amqp_program.specs.Texts.{longest}
 use Rattle.amqp_program.specs.Reports.{max_payload, report}
 
@@ -90,6 +92,14 @@ pub record RunsSelect (rules : List Rule) (a b : Supply) (k l : Store) (status :
   pub stream : Transcribes (selection rules) plain max_payload raw_turns a b k l answer ⊎ NeverBegan a b k l answer
   pub no_memory : status ≡ 3 → NeverBegan a b k l answer
   pub exact : (input : List ℕ) → a.left ≡ Some input → TranscribesExactly (selection rules) plain max_payload input k l answer
+  pub complete : (input : List ℕ) → a.left ≡ Some input → IsValid plain max_payload raw_turns input → NoFaults a b k l → IsDoneOrNoMemory status
+
+-- the lines of the frames were written
+pub record RunsDump (a b : Supply) (k l : Store) (status : ℕ) : Type 0 where
+  pub answer : Result (Unit {0}) StreamError
+  pub status_is : status ≡ status_of answer
+  pub stream : Dumps max_payload raw_turns a b k l answer ⊎ NeverBegan a b k l answer
+  pub exact : (input : List ℕ) → a.left ≡ Some input → TranscribesExactly lines plain max_payload input k l answer
   pub complete : (input : List ℕ) → a.left ≡ Some input → IsValid plain max_payload raw_turns input → NoFaults a b k l → IsDoneOrNoMemory status
 
 -- the status of an answer of recutting

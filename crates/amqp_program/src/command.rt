@@ -23,6 +23,9 @@ pub enum Command {
     /// `lent`: canonicalizes bytes, and takes memory only before the first read.
     Lent,
 
+    /// `dump`: writes a line of text for each frame.
+    Dump,
+
     /// `recut N`: canonicalizes bytes, and cuts the bodies of messages into bodies of N bytes.
     Recut(u32),
 
@@ -72,6 +75,7 @@ fn parse_word(word: &str) -> Option<Command>
         "raw" => Some(Command::Raw),
         "tidy" => Some(Command::Tidy),
         "lent" => Some(Command::Lent),
+        "dump" => Some(Command::Dump),
         "--help" => Some(Command::Help),
         "--version" => Some(Command::Version),
         _ => None,

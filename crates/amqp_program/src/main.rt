@@ -2,6 +2,7 @@
 #![tactic(auto)]
 
 mod command;
+mod dump_command;
 mod hex_command;
 mod make_command;
 mod print_command;
@@ -49,5 +50,7 @@ mod recut_tests;
 mod select_tests;
 #[cfg(test)]
 mod tests;
+#[cfg(test)]
+mod text_tests;
 #[cfg(test)]
 mod tidy_tests;

@@ -12,6 +12,7 @@ pub const HELP: &str = "feksroum: reads AMQP 0-9-1 frames and writes their canon
   feksroum tidy       as hex, and takes tidy frames alone: those in which all that reading
                       drops stands as it is written
   feksroum lent       as raw, by borrowed frames: memory is taken before the first read alone
+  feksroum dump       reads bytes, and writes a line of text for each frame
   feksroum select RULE..
                       as raw, and writes the frames alone for which the first rule that
                       matches says keep: 1 to 64 rules, each keep or drop and then any of

@@ -6,9 +6,10 @@ ghost use Rattle.amqp_select.specs.declared.rule.Rule.{Rule};
 ghost use Rattle.amqp_select.specs.Refusals.{texts_of};
 ghost use Rattle.amqp_program.specs.Commands.{command_of, IsNoForm, IsSelection};
 ghost use Rattle.amqp_program.specs.Makes.{RunsMake};
-ghost use Rattle.amqp_program.specs.Runs.{RunsHex, RunsRaw, RunsRecut, RunsSelect, Prints};
+ghost use Rattle.amqp_program.specs.Runs.{RunsDump, RunsHex, RunsRaw, RunsRecut, RunsSelect, Prints};
 
 use crate::command::{Command, parse_command, rules_of};
+use crate::dump_command::run_dump;
 use crate::hex_command::run_hex;
 use crate::make_command::run_make;
 use crate::print_command::{HELP, VERSION, print};
@@ -33,6 +34,8 @@ pub fn run<S: Source, K: Sink>(alloc: Global, words: &[String], source: &mut S, 
         → RunsRaw (S.supply source.old) (S.supply source.new) (K.store sink.old) (K.store sink.new) result }
     ensures make { (n : ℕ) → command_of (texts_of words.now) ≡ Some (Command.Make n)
         → RunsMake n (K.store sink.old) (K.store sink.new) result × (source.new ≡ source.old) }
+    ensures dump { command_of (texts_of words.now) ≡ Some Command.Dump
+        → RunsDump (S.supply source.old) (S.supply source.new) (K.store sink.old) (K.store sink.new) result }
     ensures recut { (n : ℕ) → command_of (texts_of words.now) ≡ Some (Command.Recut n)
         → RunsRecut n (S.supply source.old) (S.supply source.new) (K.store sink.old) (K.store sink.new) result }
     ensures select { (rules : List Rule) → IsSelection (texts_of words.now) rules
@@ -54,6 +57,7 @@ pub fn run<S: Source, K: Sink>(alloc: Global, words: &[String], source: &mut S, 
         Some(Command::Tidy) => run_hex(alloc, Profile::Tidy, source, sink),
         Some(Command::Raw) => run_raw(alloc, source, sink),
         Some(Command::Lent) => run_lent(alloc, source, sink),
+        Some(Command::Dump) => run_dump(alloc, source, sink),
         Some(Command::Recut(size)) => run_recut(alloc, size, source, sink),
         Some(Command::Make(frames)) => run_make(alloc, frames, sink),
         Some(Command::Help) => print(sink, HELP),

@@ -5,7 +5,6 @@ use Rattle.amqp_program.specs.Commands.{after_select, command_of}
 use Rattle.amqp_program.proofs.HexRuns.{hex_not_two}
 use Rattle.amqp_program.proofs.Selections.{no_form, no_selection}
 use Rattle.amqp_program.proofs.Numerals.{make_few, recut_fits}
-use Rattle.amqp_program.proofs.RecutRuns.{recut_not_two}
 use Rattle.amqp_program.proofs.run.run.Goals as goal
 
 pub returns-in-Some-Hex-clause-usage : goal.returns-in-Some-Hex-clause-usage

@@ -1,0 +1,25 @@
+-- Runs of `dump`.
+use Rattle.std.proofs.Common.{◌≡◌, ◌≢◌, ℕ, List, ◌⊎◌, Some, Result, sym, subst, ◌∙◌}
+use Rattle.amqp_types.specs.Levels.{plain}
+use Rattle.amqp_stream.specs.declared.errors.StreamError.{StreamError}
+use Rattle.amqp_stream.specs.Ends.{Supply, Store}
+use Rattle.amqp_stream.specs.Transcribing.{TranscribesExactly, NeverBegan, IsValid, NoFaults, IsOkOrNoMemory}
+use Rattle.amqp_text.specs.Lines.{lines}
+use Rattle.amqp_text.specs.Dumping.{Dumps}
+use Rattle.amqp_program.specs.Reports.{max_payload}
+use Rattle.amqp_program.specs.Runs.{IsDoneOrNoMemory, RunsDump, raw_turns, status_of}
+use Rattle.amqp_program.proofs.RawRuns.{done_or_no_memory}
+use Rattle.amqp_program.proofs.Statuses.{answer_status_not_two}
+
+pub dump_not_two : (a b : Supply) (k l : Store) (status : ℕ) → RunsDump a b k l status → status ≢ 2
+dump_not_two a b k l status run h = answer_status_not_two run.answer (sym run.status_is ∙ h)
+
+-- a run that gave this answer
+pub dump_runs : (a b : Supply) (k l : Store) (answer : Result (Unit {0}) StreamError) (status : ℕ) → status ≡ status_of answer → Dumps max_payload raw_turns a b k l answer ⊎ NeverBegan a b k l answer → ((input : List ℕ) → a.left ≡ Some input → TranscribesExactly lines plain max_payload input k l answer) → ((input : List ℕ) → a.left ≡ Some input → IsValid plain max_payload raw_turns input → NoFaults a b k l → IsOkOrNoMemory answer) → RunsDump a b k l status
+dump_runs a b k l answer status e stream exact complete = record {
+  answer = answer;
+  status_is = e;
+  stream = stream;
+  exact = exact;
+  complete = λ input left valid none. subst IsDoneOrNoMemory (sym e) (done_or_no_memory answer (complete input left valid none));
+}
