@@ -1,0 +1,168 @@
+/* Runs the repository's examples that the functions speak of, each as the program does:
+ *
+ *     examples FOLDER
+ *
+ * `raw` and `lent` are bytes; `hex` and `tidy` are hex texts, whose answer is the canonical bytes in hex and, on a line of its
+ * own, the name of the fault. Also tests the frames and payloads of each against what canonicalizing says, the names of
+ * statuses, and arguments at their bounds. */
+#include <feksroum.h>
+#include <stdio.h>
+#include <stdlib.h>
+#include <string.h>
+
+enum { MAX_PAYLOAD = 131072, SIZE = 1 << 20 };
+
+static uint8_t input[SIZE], wanted[SIZE], bytes[SIZE], out[SIZE], text[SIZE];
+
+static size_t read_file(const char *folder, const char *name, const char *kind, uint8_t *into) {
+    char path[4096];
+    snprintf(path, sizeof path, "%s/%s.%s", folder, name, kind);
+    FILE *file = fopen(path, "rb");
+    if (!file) {
+        fprintf(stderr, "examples: no file %s\n", path);
+        exit(2);
+    }
+    size_t length = fread(into, 1, SIZE, file);
+    fclose(file);
+    return length;
+}
+
+static uint8_t digit(uint8_t character) {
+    return character <= '9' ? (uint8_t)(character - '0') : (uint8_t)((character | 32) - 'a' + 10);
+}
+
+/* The bytes of a hex text, without the newline at its end. */
+static size_t from_hex(const uint8_t *characters, size_t length) {
+    size_t count = length / 2;
+    for (size_t k = 0; k < count; k++) {
+        bytes[k] = (uint8_t)(digit(characters[2 * k]) << 4 | digit(characters[2 * k + 1]));
+    }
+    return count;
+}
+
+static size_t report(feksroum_progress progress) {
+    size_t length = 0;
+    for (size_t k = 0; k < progress.written; k++) {
+        text[length++] = (uint8_t)"0123456789abcdef"[out[k] >> 4];
+        text[length++] = (uint8_t)"0123456789abcdef"[out[k] & 15];
+    }
+    text[length++] = '\n';
+    if (progress.status) {
+        length += feksroum_name(progress.status, text + length, FEKSROUM_NAME_MAX);
+        text[length++] = '\n';
+    }
+    return length;
+}
+
+/* Goes from frame to frame, and finds the same end. */
+static bool frames_agree(size_t length, feksroum_progress progress) {
+    size_t at = 0;
+    while (at < length) {
+        feksroum_frame frame = feksroum_next(bytes + at, length - at, MAX_PAYLOAD);
+        uint8_t status = frame.status;
+        if (status == FEKSROUM_OK) {
+            status = feksroum_check(frame.type, bytes + at + frame.payload_start, frame.payload_length).status;
+        }
+        if (status != FEKSROUM_OK) {
+            return status == progress.status && at == progress.used;
+        }
+        at += frame.used;
+    }
+    return progress.status == FEKSROUM_OK && at == progress.used;
+}
+
+/* The statuses of the header and the names that the library has for them. */
+static bool names_agree(void) {
+    static const struct {
+        uint8_t status;
+        const char *name;
+    } names[] = {
+        {FEKSROUM_NO_MEMORY, "NoMemory"},
+        {FEKSROUM_READ_FAULT, "ReadFault"},
+        {FEKSROUM_WRITE_FAULT, "WriteFault"},
+        {FEKSROUM_UNKNOWN_FRAME_TYPE, "UnknownFrameType"},
+        {FEKSROUM_BAD_PROTOCOL_HEADER, "BadProtocolHeader"},
+        {FEKSROUM_TOO_LARGE, "TooLarge"},
+        {FEKSROUM_BAD_FRAME_END, "BadFrameEnd"},
+        {FEKSROUM_UNKNOWN_CLASS, "UnknownClass"},
+        {FEKSROUM_UNKNOWN_METHOD, "UnknownMethod"},
+        {FEKSROUM_SHORT_PAYLOAD, "ShortPayload"},
+        {FEKSROUM_TRAILING_BYTES, "TrailingBytes"},
+        {FEKSROUM_NOT_UTF8, "NotUtf8"},
+        {FEKSROUM_UNKNOWN_TAG, "UnknownTag"},
+        {FEKSROUM_TOO_DEEP, "TooDeep"},
+        {FEKSROUM_INCOMPLETE, "CutShort"},
+        {FEKSROUM_TURNS_SPENT, "TurnsSpent"},
+        {FEKSROUM_NOT_TIDY, "NotTidy"},
+        {FEKSROUM_BUFFER_TOO_SMALL, "BufferTooSmall"},
+        {FEKSROUM_BAD_ARGUMENT, "BadArgument"},
+    };
+    size_t named = 0;
+    for (int status = 0; status < 256; status++) {
+        named += feksroum_name((uint8_t)status, text, SIZE) > 0;
+    }
+    for (size_t k = 0; k < sizeof names / sizeof *names; k++) {
+        size_t length = feksroum_name(names[k].status, text, FEKSROUM_NAME_MAX);
+        if (length != strlen(names[k].name) || memcmp(text, names[k].name, length) != 0) {
+            return false;
+        }
+    }
+    return named == sizeof names / sizeof *names;
+}
+
+/* Arguments at their bounds: no bytes at all, and what is tested. */
+static bool arguments_are_tested(void) {
+    static const uint8_t beat[] = {8, 0, 0, 0, 0, 0, 0, 206};
+    feksroum_progress none = feksroum_canonicalize(NULL, 0, NULL, 0, MAX_PAYLOAD, FEKSROUM_PLAIN);
+    feksroum_progress shorter = feksroum_canonicalize(beat, 8, out, 7, MAX_PAYLOAD, FEKSROUM_PLAIN);
+    feksroum_progress level = feksroum_canonicalize(beat, 8, out, 8, MAX_PAYLOAD, 2);
+    return none.status == FEKSROUM_OK && shorter.status == FEKSROUM_BUFFER_TOO_SMALL &&
+           level.status == FEKSROUM_BAD_ARGUMENT && shorter.used + shorter.written + level.used + level.written == 0 &&
+           feksroum_next(NULL, 0, 0).status == FEKSROUM_INCOMPLETE &&
+           feksroum_check(FEKSROUM_HEARTBEAT, NULL, 0).canonical && feksroum_name(FEKSROUM_TOO_DEEP, NULL, 0) == 7;
+}
+
+static bool run(const char *folder, const char *name, const char *command, int status) {
+    bool is_text = strcmp(command, "hex") == 0 || strcmp(command, "tidy") == 0;
+    uint8_t level = strcmp(command, "tidy") == 0 ? FEKSROUM_TIDY : FEKSROUM_PLAIN;
+    size_t length = read_file(folder, name, command, input);
+    size_t wanted_length = read_file(folder, name, "out", wanted);
+    if (is_text) {
+        length = from_hex(input, length);
+    } else {
+        memcpy(bytes, input, length);
+    }
+    feksroum_progress progress = feksroum_canonicalize(bytes, length, out, length, MAX_PAYLOAD, level);
+    const uint8_t *printed = is_text ? text : out;
+    size_t printed_length = is_text ? report(progress) : progress.written;
+    bool agrees = level == FEKSROUM_TIDY || frames_agree(length, progress);
+    return progress.status == status && printed_length == wanted_length && agrees &&
+           memcmp(printed, wanted, wanted_length) == 0;
+}
+
+int main(int argc, char **argv) {
+    char path[4096], line[4096], name[256], command[256];
+    int status, done = 0, failed = !names_agree() || !arguments_are_tested();
+    snprintf(path, sizeof path, "%s/statuses", argc == 2 ? argv[1] : "");
+    FILE *list = fopen(path, "r");
+    if (!list) {
+        fputs("examples FOLDER\n", stderr);
+        return 2;
+    }
+    while (fgets(line, sizeof line, list)) {
+        if (sscanf(line, "%255s %255s %d", name, command, &status) != 3 || !strstr(" raw lent hex tidy ", command)) {
+            continue;
+        }
+        done++;
+        if (!run(argv[1], name, command, status)) {
+            fprintf(stderr, "examples: %s %s is not as wanted\n", command, name);
+            failed = 1;
+        }
+    }
+    fclose(list);
+    if (failed) {
+        fputs("examples: something is not as wanted\n", stderr);
+    }
+    printf("c: %d examples%s\n", done, failed ? "" : " as wanted");
+    return failed || done == 0;
+}

@@ -1,0 +1,102 @@
+//! Readers and writers that fail, pieces, and threads.
+
+use feksroum::{canonicalize, canonicalize_slice, Error, FrameType, Frames, Level, StreamError, MAX_PAYLOAD};
+use std::io::{self, Read, Write};
+use std::path::PathBuf;
+use std::{fs, thread};
+
+fn example(name: &str) -> Vec<u8> {
+    fs::read(PathBuf::from(env!("CARGO_MANIFEST_DIR")).join("../../examples").join(name)).unwrap()
+}
+
+/// Gives pieces of the same size, each after an interrupted read.
+struct Pieces<'a> {
+    bytes: &'a [u8],
+    size: usize,
+    interrupts: bool,
+}
+
+impl Read for Pieces<'_> {
+    fn read(&mut self, buf: &mut [u8]) -> io::Result<usize> {
+        self.interrupts = !self.interrupts;
+        if self.interrupts {
+            return Err(io::ErrorKind::Interrupted.into());
+        }
+        let size = self.size;
+        Read::take(&mut self.bytes, size as u64).read(buf)
+    }
+}
+
+/// Fails.
+struct Broken;
+
+impl Read for Broken {
+    fn read(&mut self, _: &mut [u8]) -> io::Result<usize> {
+        Err(io::Error::new(io::ErrorKind::Other, "broken"))
+    }
+}
+
+impl Write for Broken {
+    fn write(&mut self, _: &[u8]) -> io::Result<usize> {
+        Err(io::Error::new(io::ErrorKind::Other, "broken"))
+    }
+
+    fn flush(&mut self) -> io::Result<()> {
+        Ok(())
+    }
+}
+
+#[test]
+fn pieces_of_any_size_give_the_same_bytes() {
+    let (bytes, wanted) = (example("server_stream.raw"), example("server_stream.out"));
+    for size in [1, 2, 7, 8, 9, 100, 4096] {
+        let mut out = Vec::new();
+        canonicalize(Pieces { bytes: &bytes, size, interrupts: false }, &mut out, MAX_PAYLOAD, Level::Plain).unwrap();
+        assert_eq!(out, wanted);
+    }
+}
+
+#[test]
+fn failed_reads_and_writes_are_reported() {
+    let bytes = example("body.raw");
+    let read = canonicalize(bytes.chain(Broken), Vec::new(), MAX_PAYLOAD, Level::Plain).unwrap_err();
+    assert!(matches!(read, StreamError::Read(_)) && read.status() == 4);
+    let write = canonicalize(&bytes[..], Broken, MAX_PAYLOAD, Level::Plain).unwrap_err();
+    assert!(matches!(write, StreamError::Write(_)) && write.status() == 5);
+    assert_eq!(write.to_string(), "the write failed: broken");
+}
+
+#[test]
+fn frames_are_borrowed_and_end_with_the_error() {
+    let bytes = [3, 0, 1, 0, 0, 0, 2, 104, 105, 206, 1, 0, 1, 0, 0, 0, 1, 0, 206];
+    let mut frames = Frames::new(&bytes, MAX_PAYLOAD);
+    let body = frames.next().unwrap().unwrap();
+    assert_eq!((body.frame_type, body.channel, body.payload), (FrameType::Body, 1, &b"hi"[..]));
+    assert_eq!(frames.next(), Some(Err(Error::ShortPayload)));
+    assert_eq!(frames.next(), None);
+    assert_eq!(frames.rest(), &bytes[10..]);
+}
+
+#[test]
+fn limits_hold() {
+    let bytes = [3, 0, 1, 0, 0, 0, 2, 104, 105, 206];
+    assert_eq!(canonicalize_slice(&bytes, &mut [0; 10], 2, Level::Plain).end, Ok(()));
+    assert_eq!(canonicalize_slice(&bytes, &mut [0; 10], 1, Level::Plain).end, Err(Error::TooLarge));
+}
+
+#[test]
+fn four_threads_at_once() {
+    let (bytes, wanted) = (example("server_stream.raw"), example("server_stream.out"));
+    thread::scope(|scope| {
+        for size in 1..=4 {
+            let (bytes, wanted) = (&bytes, &wanted);
+            scope.spawn(move || {
+                for _ in 0..50 {
+                    let mut out = Vec::new();
+                    canonicalize(Pieces { bytes, size: size * 500, interrupts: false }, &mut out, MAX_PAYLOAD, Level::Plain).unwrap();
+                    assert_eq!(&out, wanted);
+                }
+            });
+        }
+    });
+}

@@ -1,0 +1,210 @@
+-- One frame that is put, and the loop over the frames in front.
+use Rattle.std.proofs.Common.{◌≡◌, ◌≢◌, ℕ, ◌+◌, ◌<◌, ◌≤◌, ◌^◌, List, get_or, [], ◌∷◌, ◌++◌, length, drop, Some, Ok, Err, refl, sym, ap, subst, ◌∙◌, arith, append_assoc, append-nil}
+use Rattle.std.proofs.lemmas.List.{length-append, length-drop, drop-drop, drop_all}
+use Rattle.std.proofs.lemmas.List.Concat.{flat_map-append}
+use Rattle.amqp_types.specs.Levels.{Level}
+use Rattle.amqp_types.specs.Judging.{Fault, Judged, past, fault, took, not_tidy, short_payload, trailing_bytes}
+use Rattle.amqp_types.specs.Answers.{RefusesWhole}
+use Rattle.amqp_types.specs.Writing.{Puts}
+use Rattle.amqp_types.specs.declared.errors.ParserError.{ParserError}
+use Rattle.amqp_types.specs.declared.errors.ParserError.TheVariants as parses
+use Rattle.amqp_types.proofs.Puts.{puts_none, puts_then}
+use Rattle.amqp_frame.specs.declared.frame_type.AMQPFrameType.TheVariants as kinds
+use Rattle.amqp_frame.specs.declared.looking.FrameLayout.{FrameLayout}
+use Rattle.amqp_frame.specs.Canonical.{canon, canon_row}
+use Rattle.amqp_frame.specs.Frames.{Frame, Proto, Raw}
+use Rattle.amqp_frame.specs.Fronts.{front, place}
+use Rattle.amqp_frame.specs.Looks.{laid_out}
+use Rattle.amqp_frame.specs.Outer.{outer}
+use Rattle.amqp_frame.specs.Spelling.{proto}
+use Rattle.amqp_frame.specs.Verdicts.{IsPayloadError, judged, verdict, whole, whole_as}
+use Rattle.amqp_frame.proofs.Cuts.{IsStop, front-got, front-stop, front-none, place-none, verdict-got_within, verdict-whole}
+use Rattle.amqp_frame.proofs.OuterLook.{outer-in_bounds}
+use Rattle.amqp_stream.specs.declared.errors.StreamError.{StreamError}
+use Rattle.amqp_stream.specs.declared.errors.StreamError.TheVariants as errors
+use Rattle.amqp_stream.specs.Errors.{error_of, stream_error_status}
+use Rattle.amqp_stream.specs.Reading.{Lies}
+use Rattle.amqp_stream.specs.Transcribing.{answer_at, answer_to}
+use Rattle.amqp_stream.specs.Writing.{IsFaulty, frame_length, payload_fault}
+use Rattle.amqp_stream.proofs.Going.{frame_fits}
+use Rattle.amqp_stream.proofs.Writes.{is_faulty}
+use Rattle.amqp_c.specs.Rewriting.{Canonicalizes, PutsFrame, PutsFrom, PutsVersion, end_status}
+use Rattle.amqp_c.specs.Scans.{error_at}
+
+-- ---- one frame
+
+-- a whole payload with this fault, of which the error tells
+pub record HasFault (raw : Raw) (error : StreamError) : Type 0 where
+  pub bad : Fault
+  pub is_whole : whole raw ≡ Err bad
+  pub other : bad ≢ not_tidy
+  pub error_is : error ≡ error_of bad
+
+pub has_fault : (raw : Raw) (error : ParserError) → IsPayloadError error → error ≢ parses.NoMemory → RefusesWhole error (whole raw) → HasFault raw (payload_fault error)
+has_fault raw parses.NoMemory inside some h = absurd (some refl)
+has_fault raw parses.Incomplete inside some h = absurd inside
+has_fault raw parses.UnknownFrameType inside some h = absurd inside
+has_fault raw parses.BadProtocolHeader inside some h = absurd inside
+has_fault raw parses.BadFrameEnd inside some h = absurd inside
+has_fault raw error inside some h = record { bad = _; is_whole = h; other = λ e. absurd cc; error_is = refl }
+
+-- a payload with a fault is put at no level
+pub unput : (level : Level) (old new : List ℕ) (at : ℕ) (raw : Raw) (error : ParserError) (stream : StreamError) → stream ≡ payload_fault error → IsPayloadError error → error ≢ parses.NoMemory → RefusesWhole error (whole raw) → new ≡ old → PutsFrame level old new at raw (Err stream)
+unput level old new at raw error stream is inside some h same =
+    let f = has_fault raw error inside some h in
+    (f.bad, is_faulty level raw f.bad f.is_whole f.other, is ∙ f.error_is, same)
+
+-- a protocol header
+version_whole : (channel : ℕ) (payload : List ℕ) → length payload ≡ 3 → whole_as kinds.ProtocolHeader channel payload ≡ Ok (Proto (get_or payload 0 0) (get_or payload 1 0) (get_or payload 2 0))
+unfolding whole_as
+version_whole channel [] e = absurd (omega arith)
+version_whole channel (a ∷ []) e = absurd (omega arith)
+version_whole channel (a ∷ b ∷ []) e = absurd (omega arith)
+version_whole channel (a ∷ b ∷ c ∷ []) e = refl
+version_whole channel (a ∷ b ∷ c ∷ d ∷ more) e = absurd (omega arith)
+
+pub version_put : (old new payload bytes : List ℕ) (at end : ℕ) → length payload ≡ 3 → bytes ≡ proto (get_or payload 0 0) (get_or payload 1 0) (get_or payload 2 0) → Puts old new at bytes end → PutsVersion old new at payload (Ok end)
+unfolding canon
+version_put old new payload bytes at end e is put = (Proto _ _ _, (λ channel. version_whole channel payload e), subst (λ (xs : List ℕ). Puts old new at xs end) is put, refl)
+
+version_fails : (channel : ℕ) (payload : List ℕ) → length payload < 3 → whole_as kinds.ProtocolHeader channel payload ≡ Err short_payload
+unfolding whole_as
+version_fails channel [] h = refl
+version_fails channel (a ∷ []) h = refl
+version_fails channel (a ∷ b ∷ []) h = refl
+version_fails channel (a ∷ b ∷ c ∷ more) h = absurd (omega arith)
+
+pub version_short : (buf payload : List ℕ) (at : ℕ) → length payload < 3 → PutsVersion buf buf at payload (Err errors.ShortPayload)
+version_short buf payload at h = (short_payload, (λ channel. version_fails channel payload h), (λ e. absurd cc), refl, refl)
+
+version_trails : (channel : ℕ) (payload : List ℕ) → 4 ≤ length payload → whole_as kinds.ProtocolHeader channel payload ≡ Err trailing_bytes
+unfolding whole_as
+version_trails channel [] h = absurd (omega arith)
+version_trails channel (a ∷ []) h = absurd (omega arith)
+version_trails channel (a ∷ b ∷ []) h = absurd (omega arith)
+version_trails channel (a ∷ b ∷ c ∷ []) h = absurd (omega arith)
+version_trails channel (a ∷ b ∷ c ∷ d ∷ more) h = refl
+
+pub version_trailing : (buf payload : List ℕ) (at : ℕ) → 4 ≤ length payload → PutsVersion buf buf at payload (Err errors.TrailingBytes)
+version_trailing buf payload at h = (trailing_bytes, (λ channel. version_trails channel payload h), (λ e. absurd cc), refl, refl)
+
+-- ---- the frame in front
+
+stop_judged : (level : Level) (j : Judged Raw) (error : StreamError) → error_at j ≡ Some error → error_at (judged level j) ≡ Some error
+stop_judged level (took raw n) error e = absurd cc
+stop_judged level past error e = e
+stop_judged level (fault bad) error e = e
+
+pub unscanned : (level : Level) (m : ℕ) (bytes : List ℕ) (error : StreamError) → error_at (outer (Some m) bytes) ≡ Some error → error_at (verdict level (Some m) bytes) ≡ Some error
+unfolding verdict
+unscanned level m bytes error e = stop_judged level (outer (Some m) bytes) error e
+
+-- the payload of a frame in front has a length of four bytes
+few_bytes : (m : ℕ) (bytes : List ℕ) (raw : Raw) (n : ℕ) → m < 2 ^ 32 → outer (Some m) bytes ≡ took raw n → length raw.payload < 2 ^ 32
+few_bytes m bytes raw n few found = omega (arith, (outer-in_bounds (Some m) bytes raw n found).payload m refl)
+
+pub front_put : (level : Level) (m : ℕ) (bytes old new : List ℕ) (at end : ℕ) (raw : Raw) (layout : FrameLayout) → Lies m bytes layout → raw ≡ laid_out layout bytes → end ≤ at + frame_length raw → PutsFrame level old new at raw (Ok end) → PutsFrom level m bytes old new at layout.frame_len end
+front_put level m bytes old new at end raw layout lies is within puts =
+    let found : outer (Some m) bytes ≡ took raw layout.frame_len = lies.found ∙ ap (λ (r : Raw). took r layout.frame_len) (sym is) in
+    record {
+      frame = puts.0;
+      found = verdict-whole level (Some m) bytes raw layout.frame_len puts.0 found puts.2 puts.1;
+      put = puts.3;
+      no_longer = omega (arith, within, frame_fits m bytes raw layout.frame_len found);
+    }
+
+pub front_room : (m : ℕ) (bytes : List ℕ) (raw : Raw) (layout : FrameLayout) (at room : ℕ) → Lies m bytes layout → raw ≡ laid_out layout bytes → at + length bytes ≤ room → at + frame_length raw ≤ room
+front_room m bytes raw layout at room lies is h = rw is (omega (arith, frame_fits m bytes (laid_out layout bytes) layout.frame_len lies.found, lies.inside, h))
+
+pub front_few : (m : ℕ) (bytes : List ℕ) (raw : Raw) (layout : FrameLayout) → m < 2 ^ 32 → Lies m bytes layout → raw ≡ laid_out layout bytes → length raw.payload < 2 ^ 32
+front_few m bytes raw layout few lies is = rw is (few_bytes m bytes (laid_out layout bytes) layout.frame_len few lies.found)
+
+fault_verdict : (level : Level) (m : ℕ) (bytes : List ℕ) (raw : Raw) (n : ℕ) (bad : Fault) → outer (Some m) bytes ≡ took raw n → IsFaulty level raw bad → verdict level (Some m) bytes ≡ fault bad
+unfolding verdict
+fault_verdict level m bytes raw n bad found is = ap (judged level) found ∙ is.judged_bad n
+
+pub front_unput : (level : Level) (m : ℕ) (bytes old new : List ℕ) (at : ℕ) (raw : Raw) (layout : FrameLayout) (error : StreamError) → Lies m bytes layout → raw ≡ laid_out layout bytes → PutsFrame level old new at raw (Err error) → (error_at (verdict level (Some m) bytes) ≡ Some error) × (new ≡ old)
+front_unput level m bytes old new at raw layout error lies is puts =
+    let found : outer (Some m) bytes ≡ took raw layout.frame_len = lies.found ∙ ap (λ (r : Raw). took r layout.frame_len) (sym is) in
+    (ap error_at (fault_verdict level m bytes raw layout.frame_len puts.0 found puts.1) ∙ ap (λ e. Some e) (sym puts.2), puts.3)
+
+-- ---- the loop
+
+-- So many bytes are a sequence of frames, whatever follows, whose canonical bytes stand at the front of the buffer.
+pub record Going (level : Level) (m : ℕ) (bytes old now : List ℕ) (used done : ℕ) : Type 0 where
+  pub frames : List Frame
+  pub row : front level (Some m) bytes ≡ frames ++ front level (Some m) (drop used bytes)
+  pub after : place level (Some m) bytes ≡ place level (Some m) (drop used bytes)
+  pub put : Puts old now 0 (canon_row frames) done
+  pub within : used ≤ length bytes
+  pub shorter : done ≤ used
+
+pub going_start : (level : Level) (m : ℕ) (bytes old : List ℕ) → Going level m bytes old old 0 0
+going_start level m bytes old = record { frames = []; row = refl; after = refl; put = puts_none old 0 [] refl; within = omega arith; shorter = omega arith }
+
+canon_row-more : (frames : List Frame) (f : Frame) → canon_row (frames ++ f ∷ []) ≡ canon_row frames ++ canon f
+canon_row-more frames f = flat_map-append canon frames (f ∷ []) ∙ ap (λ (xs : List ℕ). canon_row frames ++ xs) (append-nil (canon f))
+
+pub going_on : {level : Level} {m : ℕ} {bytes old now new : List ℕ} {used done more end : ℕ} → length bytes ≤ length old → Going level m bytes old now used done → PutsFrom level m (drop used bytes) now new done more end → Going level m bytes old new (used + more) end
+going_on {level = level} {m = m} {bytes = bytes} {old = old} {now = now} {new = new} {used = used} {done = done} {more = more} {end = end} room g p =
+    let rest = drop used bytes in
+    let at = verdict-got_within level (Some m) rest p.frame more p.found in
+    let goes = front-got level (Some m) rest p.frame more p.found in
+    let further : drop more rest ≡ drop (used + more) bytes = drop-drop more used bytes in
+    let long : 0 + length (canon_row g.frames ++ canon p.frame) ≤ length old = omega (arith, length-append (canon_row g.frames) (canon p.frame), g.put.behind, p.put.behind, p.no_longer, g.shorter, at.1, length-drop used bytes) in
+    let both : Puts old new 0 (canon_row g.frames ++ canon p.frame) end = puts_then old now new 0 done end (canon_row g.frames) (canon p.frame) long g.put p.put in
+    record {
+      frames = g.frames ++ p.frame ∷ [];
+      row = g.row ∙ ap (λ (fs : List Frame). g.frames ++ fs) (goes.row ∙ ap (λ (xs : List ℕ). p.frame ∷ front level (Some m) xs) further) ∙ sym (append_assoc g.frames (p.frame ∷ []) (front level (Some m) (drop (used + more) bytes)));
+      after = g.after ∙ goes.after ∙ ap (place level (Some m)) further;
+      put = subst (λ (xs : List ℕ). Puts old new 0 xs end) (sym (canon_row-more g.frames p.frame)) both;
+      within = omega (arith, at.1, length-drop used bytes, g.within);
+      shorter = omega (arith, p.no_longer, g.shorter);
+    }
+
+-- as many bytes are left to the loop as measure it
+pub going_falls : (level : Level) (m : ℕ) (bytes now new : List ℕ) (used done more end : ℕ) → PutsFrom level m (drop used bytes) now new done more end → (8 ≤ more) × (used + more ≤ length bytes)
+going_falls level m bytes now new used done more end p =
+    let at = verdict-got_within level (Some m) (drop used bytes) p.frame more p.found in
+    (at.0, omega (arith, at.0, at.1, length-drop used bytes))
+
+stops : (j : Judged Frame) (error : StreamError) → error_at j ≡ Some error → IsStop j
+stops (took f n) error e = absurd cc
+stops past error e = tt
+stops (fault bad) error e = tt
+
+status_stop : (bytes : List ℕ) (j : Judged Frame) (error : StreamError) → 0 < length bytes → error_at j ≡ Some error → end_status (answer_at bytes j) ≡ stream_error_status error
+status_stop [] j error some e = absurd (omega arith)
+status_stop (b ∷ bytes) (took f n) error some e = absurd cc
+status_stop (b ∷ bytes) past error some e = let is : errors.CutShort ≡ error = cc in ap stream_error_status is
+status_stop (b ∷ bytes) (fault bad) error some e = let is : error_of bad ≡ error = cc in ap stream_error_status is
+
+-- where the front is all that was used
+going_ends : {level : Level} {m : ℕ} {bytes old now : List ℕ} {used done status : ℕ} → Going level m bytes old now used done → front level (Some m) (drop used bytes) ≡ [] → place level (Some m) (drop used bytes) ≡ drop used bytes → status ≡ end_status (answer_to level m bytes) → Canonicalizes level m bytes old now (record { used = used; written = done; status = status })
+going_ends {level = level} {m = m} {bytes = bytes} {old = old} {now = now} {used = used} {done = done} g none stays is =
+    let all : front level (Some m) bytes ≡ g.frames = g.row ∙ ap (λ (fs : List Frame). g.frames ++ fs) none ∙ append-nil g.frames in
+    let left : place level (Some m) bytes ≡ drop used bytes = g.after ∙ stays in
+    record {
+      used = omega (arith, ap length left, length-drop used bytes, g.within);
+      left = sym left;
+      put = subst (λ (fs : List Frame). Puts old now 0 (canon_row fs) done) (sym all) g.put;
+      no_longer = g.shorter;
+      status = is;
+    }
+
+pub going_stops : {level : Level} {m : ℕ} {bytes old now : List ℕ} {used done : ℕ} (error : StreamError) → used < length bytes → Going level m bytes old now used done → error_at (verdict level (Some m) (drop used bytes)) ≡ Some error → Canonicalizes level m bytes old now (record { used = used; written = done; status = stream_error_status error })
+going_stops {level = level} {m = m} {bytes = bytes} {used = used} error some g e =
+    let rest = drop used bytes in
+    let stop = front-stop level (Some m) rest (stops (verdict level (Some m) rest) error e) in
+    let left : place level (Some m) bytes ≡ rest = g.after ∙ stop.1 in
+    let there : 0 < length rest = omega (arith, length-drop used bytes) in
+    let status : end_status (answer_to level m bytes) ≡ stream_error_status error = ap (λ (p : List ℕ). end_status (answer_at p (verdict level (Some m) p))) left ∙ status_stop rest (verdict level (Some m) rest) error there e in
+    going_ends g stop.0 stop.1 (sym status)
+
+pub going_finishes : {level : Level} {m : ℕ} {bytes old now : List ℕ} {used done : ℕ} → length bytes ≤ used → Going level m bytes old now used done → Canonicalizes level m bytes old now (record { used = used; written = done; status = 0 })
+going_finishes {level = level} {m = m} {bytes = bytes} {used = used} all g =
+    let none : drop used bytes ≡ [] = drop_all used bytes all in
+    let empty : front level (Some m) (drop used bytes) ≡ [] = ap (front level (Some m)) none ∙ front-none level (Some m) in
+    let nothing : place level (Some m) (drop used bytes) ≡ [] = ap (place level (Some m)) none ∙ place-none level (Some m) in
+    let left : place level (Some m) bytes ≡ [] = g.after ∙ nothing in
+    going_ends g empty (nothing ∙ sym none) (sym (ap (λ (p : List ℕ). end_status (answer_at p (verdict level (Some m) p))) left))

@@ -1,0 +1,10 @@
+use Rattle.std.proofs.Common.{length, ◌-◌}
+use Rattle.amqp_types.specs.Levels.{level_of}
+use Rattle.amqp_c.proofs.Fronts.{Going}
+use Rattle.amqp_c.proofs.canonicalize.canonicalize.Given as goal
+
+abbrev pub invariant-frames : goal.invariant-frames
+invariant-frames l = Going (level_of l.fn.profile) l.fn.max_payload l.fn.bytes l.fn.out l.out l.used l.written
+
+abbrev pub decreases-frames : goal.decreases-frames
+decreases-frames l = length l.bytes - l.used

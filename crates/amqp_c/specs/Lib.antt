@@ -1,0 +1,4 @@
+pub mod Scans
+pub mod Checks
+pub mod Statuses
+pub mod Rewriting

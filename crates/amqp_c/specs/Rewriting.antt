@@ -1,0 +1,106 @@
+-- What is written for the frames in front of some bytes, and feeding them in pieces.
+use Rattle.std.specs.Prelude.{◌≡◌, ◌≢◌, ◌==◌, ℕ, ◌+◌, ◌≤◌, true, List, [], ◌∷◌, ◌++◌, length, drop, if◌then◌else◌, Option, Some, None, Result, Ok, Err}
+use Rattle.std.specs.List.{concat}
+use Rattle.amqp_types.specs.Levels.{Level}
+use Rattle.amqp_types.specs.Judging.{Fault, past, fault, not_tidy, took}
+use Rattle.amqp_types.specs.Writing.{Puts}
+use Rattle.amqp_types.specs.declared.profile.Profile.{Profile}
+use Rattle.amqp_types.specs.declared.profile.Profile.TheVariants as profiles
+use Rattle.amqp_frame.specs.declared.frame_type.AMQPFrameType.TheVariants as kinds
+use Rattle.amqp_frame.specs.Frames.{Frame, Raw}
+use Rattle.amqp_frame.specs.Canonical.{canon}
+use Rattle.amqp_frame.specs.Verdicts.{is_at, verdict, whole, whole_as}
+use Rattle.amqp_frame.specs.Fronts.{place}
+use Rattle.amqp_stream.specs.declared.errors.StreamError.{StreamError}
+use Rattle.amqp_stream.specs.Errors.{error_of, stream_error_status}
+use Rattle.amqp_stream.specs.Writing.{IsFaulty}
+use Rattle.amqp_stream.specs.Canonicalizing.{canon_of}
+use Rattle.amqp_stream.specs.Transcribing.{answer_to, place_verdict}
+use Rattle.amqp_c.specs.declared.canonicalize.Progress.{Progress}
+use Rattle.amqp_c.specs.Scans.{error_at, fault_status}
+
+-- the level that a number names
+abbrev pub profile_at : ℕ → Option Profile
+profile_at level = if level == 0 then Some profiles.Plain else (if level == 1 then Some profiles.Tidy else None)
+
+-- the status that a stream ends with
+abbrev pub end_status : Result (Unit {0}) StreamError → ℕ
+end_status (Ok done) = 0
+end_status (Err error) = stream_error_status error
+
+-- ---- one call
+
+-- nothing is used or written
+pub record Refuses (status : ℕ) (old new : List ℕ) (progress : Progress) : Type 0 where
+  pub is : progress ≡ record { used = 0; written = 0; status = status }
+  pub kept : new ≡ old
+
+-- The frames in front are used, and their canonical bytes stand at the front of the buffer, which is kept after them. The status is that of a stream of these bytes.
+pub record Canonicalizes (level : Level) (m : ℕ) (bytes old new : List ℕ) (progress : Progress) : Type 0 where
+  pub used : progress.used + length (place level (Some m) bytes) ≡ length bytes
+  pub left : drop progress.used bytes ≡ place level (Some m) bytes
+  pub put : Puts old new 0 (canon_of level m bytes) progress.written
+  pub no_longer : progress.written ≤ progress.used
+  pub status : progress.status ≡ end_status (answer_to level m bytes)
+
+-- ---- one frame
+
+-- the canonical bytes of a frame at a level are put at the place, or it is said why they are not, and nothing is put
+abbrev pub PutsFrame : Level → List ℕ → List ℕ → ℕ → Raw → Result ℕ StreamError → Type 0
+PutsFrame level old new at raw (Ok end) = (frame : Frame) × (whole raw ≡ Ok frame) × (is_at level raw ≡ true) × Puts old new at (canon frame) end
+PutsFrame level old new at raw (Err error) = (bad : Fault) × IsFaulty level raw bad × (error ≡ error_of bad) × (new ≡ old)
+
+-- the same of a protocol header, on any channel
+abbrev pub PutsVersion : List ℕ → List ℕ → ℕ → List ℕ → Result ℕ StreamError → Type 0
+PutsVersion old new at payload (Ok end) = (frame : Frame) × ((channel : ℕ) → whole_as kinds.ProtocolHeader channel payload ≡ Ok frame) × Puts old new at (canon frame) end × (length (canon frame) ≡ 8)
+PutsVersion old new at payload (Err error) = (bad : Fault) × ((channel : ℕ) → whole_as kinds.ProtocolHeader channel payload ≡ Err bad) × (bad ≢ not_tidy) × (error ≡ error_of bad) × (new ≡ old)
+
+-- the frame in front was used and its canonical bytes put
+pub record PutsFrom (level : Level) (m : ℕ) (bytes old new : List ℕ) (at used end : ℕ) : Type 0 where
+  pub frame : Frame
+  pub found : verdict level (Some m) bytes ≡ took frame used
+  pub put : Puts old new at (canon frame) end
+  pub no_longer : end ≤ at + used
+
+-- the canonical bytes of the frame in front are put at the place, or it is said why none is in front, and nothing is put
+abbrev pub PutsFront : Level → ℕ → List ℕ → List ℕ → List ℕ → ℕ → Result (ℕ × ℕ) StreamError → Type 0
+PutsFront level m bytes old new at (Ok (used, end)) = PutsFrom level m bytes old new at used end
+PutsFront level m bytes old new at (Err error) = (error_at (verdict level (Some m) bytes) ≡ Some error) × (new ≡ old)
+
+-- ---- pieces
+
+-- what a call writes for some bytes, what it leaves of them, and its status
+pub record Call : Type 0 where
+  pub text : List ℕ
+  pub left : List ℕ
+  pub status : ℕ
+
+abbrev pub called : Level → ℕ → List ℕ → Call
+called level m bytes = record { text = canon_of level m bytes; left = place level (Some m) bytes; status = end_status (answer_to level m bytes) }
+
+-- one call after others: what they left, in front of the next piece
+abbrev pub then_called : Level → ℕ → Call → List ℕ → Call
+then_called level m done piece =
+    let next = called level m (done.left ++ piece) in
+    record { text = done.text ++ next.text; left = next.left; status = next.status }
+
+abbrev pub fed_after : Level → ℕ → Call → List (List ℕ) → Call
+fed_after level m done [] = done
+fed_after level m done (piece ∷ pieces) = fed_after level m (then_called level m done piece) pieces
+
+-- a first piece and then others
+abbrev pub fed : Level → ℕ → List ℕ → List (List ℕ) → Call
+fed level m first pieces = fed_after level m (called level m first) pieces
+
+-- Bytes that are fed in pieces, with what was left in front of the next piece, give what one call gives for them all.
+abbrev pub PiecesAreWhole : Type 0
+PiecesAreWhole = (level : Level) (m : ℕ) (first : List ℕ) (pieces : List (List ℕ)) → fed level m first pieces ≡ called level m (first ++ concat pieces)
+
+-- A fault stays, whatever follows: nothing more is used or written.
+abbrev pub FaultsStay : Type 0
+FaultsStay = (level : Level) (m : ℕ) (bytes more : List ℕ) (bad : Fault) → place_verdict level m bytes ≡ fault bad
+    → called level m (bytes ++ more) ≡ record { text = canon_of level m bytes; left = place level (Some m) bytes ++ more; status = fault_status bad }
+
+-- Where more bytes are needed, fewer are left than a frame of the largest size has.
+abbrev pub LittleIsLeft : Type 0
+LittleIsLeft = (level : Level) (m : ℕ) (bytes : List ℕ) → place_verdict level m bytes ≡ past → length (place level (Some m) bytes) ≤ m + 7

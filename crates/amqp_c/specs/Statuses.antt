@@ -1,0 +1,54 @@
+-- Statuses beside those of streams, and the names of all.
+use Rattle.std.specs.Prelude.{◌≡◌, ◌==◌, ◌<◌, ◌≤◌, ℕ, List, codes, length, if◌then◌else◌, Option, Some, None}
+use Rattle.amqp_types.specs.Writing.{written}
+use Rattle.amqp_stream.specs.declared.errors.StreamError.TheVariants as streams
+use Rattle.amqp_stream.specs.Errors.{stream_error_name, stream_error_status}
+use Rattle.amqp_c.specs.declared.statuses.CallError.{CallError}
+use Rattle.amqp_c.specs.declared.statuses.CallError.TheVariants as errors
+
+-- the buffer for what is written is shorter than the bytes
+abbrev pub buffer_too_small : ℕ
+buffer_too_small = 40
+
+-- an argument is none of those that are allowed
+abbrev pub bad_argument : ℕ
+bad_argument = 41
+
+abbrev pub call_error_status : CallError → ℕ
+call_error_status (errors.Stream error) = stream_error_status error
+call_error_status errors.BufferTooSmall = buffer_too_small
+call_error_status errors.BadArgument = bad_argument
+
+abbrev pub call_error_name : CallError → List ℕ
+call_error_name (errors.Stream error) = stream_error_name error
+call_error_name errors.BufferTooSmall = codes "BufferTooSmall"
+call_error_name errors.BadArgument = codes "BadArgument"
+
+-- A name is written at the front of a buffer, where it is long enough, and its length is returned.
+pub record WritesName (name old new : List ℕ) (result : ℕ) : Type 0 where
+  pub length_is : result ≡ length name
+  pub fits : length name ≤ length old → new ≡ written old 0 name
+  pub too_long : length old < length name → new ≡ old
+
+-- the error that has a status; each has one of its own
+abbrev pub call_error_at : ℕ → Option CallError
+call_error_at status =
+    if status == 3 then Some (errors.Stream streams.NoMemory)
+    else (if status == 4 then Some (errors.Stream streams.ReadFault)
+    else (if status == 5 then Some (errors.Stream streams.WriteFault)
+    else (if status == 10 then Some (errors.Stream streams.UnknownFrameType)
+    else (if status == 11 then Some (errors.Stream streams.BadProtocolHeader)
+    else (if status == 12 then Some (errors.Stream streams.TooLarge)
+    else (if status == 13 then Some (errors.Stream streams.BadFrameEnd)
+    else (if status == 14 then Some (errors.Stream streams.UnknownClass)
+    else (if status == 15 then Some (errors.Stream streams.UnknownMethod)
+    else (if status == 16 then Some (errors.Stream streams.ShortPayload)
+    else (if status == 17 then Some (errors.Stream streams.TrailingBytes)
+    else (if status == 18 then Some (errors.Stream streams.NotUtf8)
+    else (if status == 19 then Some (errors.Stream streams.UnknownTag)
+    else (if status == 20 then Some (errors.Stream streams.TooDeep)
+    else (if status == 21 then Some (errors.Stream streams.CutShort)
+    else (if status == 22 then Some (errors.Stream streams.TurnsSpent)
+    else (if status == 23 then Some (errors.Stream streams.NotTidy)
+    else (if status == buffer_too_small then Some errors.BufferTooSmall
+    else (if status == bad_argument then Some errors.BadArgument else None))))))))))))))))))

@@ -1,0 +1,225 @@
+//! Canonical bytes of the whole frames in front of some bytes.
+
+ghost use Rattle.std.specs.Prelude.{◌≡◌, ◌+◌, ◌^◌, ◌<◌, ◌≤◌, Some, None, length, IfOk};
+ghost use Rattle.amqp_types.specs.Levels.{level_of, plain, tidy};
+ghost use Rattle.amqp_frame.specs.Frames.{raw_of};
+ghost use Rattle.amqp_frame.specs.Looks.{laid_out};
+ghost use Rattle.amqp_stream.specs.Writing.{frame_length};
+ghost use Rattle.amqp_c.specs.Rewriting.{Canonicalizes, PutsFrame, PutsFront, PutsVersion, Refuses, profile_at};
+ghost use Rattle.amqp_c.specs.Statuses.{bad_argument, buffer_too_small};
+
+use crate::next::scan;
+use crate::statuses::{BAD_ARGUMENT, BUFFER_TOO_SMALL};
+use amqp_frame::{
+    AMQPFrameType, AMQPRawFrame, FrameLayout, Mark, ProtocolVersion, header_bytes, judge_frame,
+    put_canonical,
+};
+use amqp_stream::{StreamError, payload_error};
+use amqp_types::{Profile, put_bytes};
+
+/// How many entries of tables in no order are sorted at once. A table with more of them takes quadratic time.
+const MARKS: usize = 256;
+
+/// How far a call came.
+#[repr(C)]
+#[derive(Clone, Copy, Debug, PartialEq, Eq)]
+pub struct Progress {
+    /// How many bytes the whole frames in front have.
+    pub used: usize,
+
+    /// How many canonical bytes were written for them, no more than `used`.
+    pub written: usize,
+
+    /// 0 where nothing follows these frames, 21 where the bytes end inside the next one, or the fault's status.
+    pub status: u8,
+}
+
+/// The level that a number names: 0 plain, 1 tidy.
+fn profile_of(level: u8) -> Option<Profile>
+    ensures { result ≡ profile_at level }
+{
+    match level {
+        0 => Some(Profile::Plain),
+        1 => Some(Profile::Tidy),
+        _ => None,
+    }
+}
+
+/// The frame that lies so at the front of some bytes.
+#[inline(always)]
+fn frame_at(bytes: &[u8], layout: FrameLayout) -> AMQPRawFrame<'_>
+    requires { layout.payload_start + layout.payload_len ≤ length bytes.now }
+    ensures { raw_of result ≡ laid_out layout bytes.now }
+{
+    AMQPRawFrame {
+        frame_type: layout.frame_type,
+        channel_id: layout.channel_id,
+        payload: &bytes[layout.payload_start..layout.payload_start + layout.payload_len],
+    }
+}
+
+/// Puts a protocol header with this payload.
+fn put_version(out: &mut [u8], at: usize, payload: &[u8]) -> Result<usize, StreamError>
+    requires { at + 8 ≤ length out.old }
+    ensures { PutsVersion out.old out.new at payload.now result }
+{
+    match payload {
+        [major, minor, revision] => {
+            let version = ProtocolVersion {
+                major: *major,
+                minor: *minor,
+                revision: *revision,
+            };
+            Ok(put_bytes(out, at, &header_bytes(version)))
+        }
+        [_, _, _, _, ..] => Err(StreamError::TrailingBytes),
+        _ => Err(StreamError::ShortPayload),
+    }
+}
+
+/// Puts the canonical bytes of a borrowed frame, and returns the place after them.
+#[inline(always)]
+fn put_plain(
+    out: &mut [u8],
+    at: usize,
+    scratch: &mut [Mark],
+    raw: AMQPRawFrame<'_>,
+) -> Result<usize, StreamError>
+    requires few { length raw.payload.now < 2 ^ 32 }
+    requires room { at + frame_length (raw_of raw) ≤ length out.old }
+    ensures puts { PutsFrame plain out.old out.new at (raw_of raw.entry) result }
+    ensures within { IfOk result (λ end. end ≤ at + frame_length (raw_of raw.entry)) }
+{
+    match raw.frame_type {
+        AMQPFrameType::ProtocolHeader => put_version(out, at, raw.payload),
+        _ => match put_canonical(out, at, scratch, raw) {
+            Ok(end) => Ok(end),
+            Err(error) => Err(payload_error(error)),
+        },
+    }
+}
+
+/// The same of a tidy frame. Where it is not tidy, nothing is put.
+fn put_tidy(
+    out: &mut [u8],
+    at: usize,
+    scratch: &mut [Mark],
+    raw: AMQPRawFrame<'_>,
+) -> Result<usize, StreamError>
+    requires few { length raw.payload.now < 2 ^ 32 }
+    requires room { at + frame_length (raw_of raw) ≤ length out.old }
+    ensures puts { PutsFrame tidy out.old out.new at (raw_of raw.entry) result }
+    ensures within { IfOk result (λ end. end ≤ at + frame_length (raw_of raw.entry)) }
+{
+    match judge_frame(raw) {
+        Err(error) => Err(payload_error(error)),
+        Ok(judged) if !judged.tidy => Err(StreamError::NotTidy),
+        Ok(_) => put_plain(out, at, scratch, raw),
+    }
+}
+
+/// The same of a frame at a level.
+#[inline(always)]
+fn put_at_level(
+    profile: Profile,
+    out: &mut [u8],
+    at: usize,
+    scratch: &mut [Mark],
+    raw: AMQPRawFrame<'_>,
+) -> Result<usize, StreamError>
+    requires few { length raw.payload.now < 2 ^ 32 }
+    requires room { at + frame_length (raw_of raw) ≤ length out.old }
+    ensures puts { PutsFrame (level_of profile) out.old out.new at (raw_of raw.entry) result }
+    ensures within { IfOk result (λ end. end ≤ at + frame_length (raw_of raw.entry)) }
+{
+    match profile {
+        Profile::Plain => put_plain(out, at, scratch, raw),
+        Profile::Tidy => put_tidy(out, at, scratch, raw),
+    }
+}
+
+/// Puts the canonical bytes of the frame in front at a level, and returns how many bytes it has and the place after them.
+#[inline(always)]
+fn put_front(
+    profile: Profile,
+    max_payload: u32,
+    bytes: &[u8],
+    out: &mut [u8],
+    at: usize,
+    scratch: &mut [Mark],
+) -> Result<(usize, usize), StreamError>
+    requires room { at + length bytes.now ≤ length out.old }
+    ensures { PutsFront (level_of profile) max_payload bytes.now out.old out.new at result }
+{
+    match scan(max_payload, bytes) {
+        Err(error) => Err(error),
+        Ok(layout) => match put_at_level(profile, out, at, scratch, frame_at(bytes, layout)) {
+            Err(error) => Err(error),
+            Ok(end) => Ok((layout.frame_len, end)),
+        },
+    }
+}
+
+/// Writes the canonical bytes of the whole frames in front at a level.
+fn canonicalize(bytes: &[u8], out: &mut [u8], max_payload: u32, profile: Profile) -> Progress
+    requires room { length bytes.now ≤ length out.old }
+    ensures { Canonicalizes (level_of profile) max_payload bytes.now out.old out.new result }
+{
+    let mut scratch = [Mark::default(); MARKS];
+    let mut used = 0;
+    let mut written = 0;
+    'frames: while used < bytes.len() {
+        match put_front(
+            profile,
+            max_payload,
+            &bytes[used..],
+            out,
+            written,
+            &mut scratch,
+        ) {
+            Ok((more, end)) => {
+                used += more;
+                written = end;
+            }
+            Err(error) => {
+                return Progress {
+                    used,
+                    written,
+                    status: error.status(),
+                };
+            }
+        }
+    }
+    Progress {
+        used,
+        written,
+        status: 0,
+    }
+}
+
+/// Writes the canonical bytes of the whole frames in front, with payloads of at most `max_payload` bytes, at a level (0
+/// plain, 1 tidy), into a buffer at least as long as the bytes.
+#[unsafe(no_mangle)]
+pub extern "C" fn feksroum_canonicalize(
+    bytes: &[u8],
+    out: &mut [u8],
+    max_payload: u32,
+    level: u8,
+) -> Progress
+    ensures argument { profile_at level ≡ None → Refuses bad_argument out.old out.new result }
+    ensures small { (profile : Profile) → profile_at level ≡ Some profile → length out.old < length bytes.now
+        → Refuses buffer_too_small out.old out.new result }
+    ensures canonicalizes { (profile : Profile) → profile_at level ≡ Some profile → length bytes.now ≤ length out.old
+        → Canonicalizes (level_of profile) max_payload bytes.now out.old out.new result }
+{
+    let status = match profile_of(level) {
+        None => BAD_ARGUMENT,
+        Some(_) if out.len() < bytes.len() => BUFFER_TOO_SMALL,
+        Some(profile) => return canonicalize(bytes, out, max_payload, profile),
+    };
+    Progress {
+        used: 0,
+        written: 0,
+        status,
+    }
+}

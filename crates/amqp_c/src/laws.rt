@@ -1,0 +1,18 @@
+//! Laws of feeding bytes in pieces, each the contract of a function that does nothing.
+
+ghost use Rattle.amqp_c.specs.Rewriting.{FaultsStay, LittleIsLeft, PiecesAreWhole};
+
+/// Bytes that are fed in pieces, with what was left in front of the next piece, give what one call gives for them all.
+pub fn pieces_are_whole()
+    ensures { PiecesAreWhole }
+{}
+
+/// A fault stays, whatever follows.
+pub fn faults_stay()
+    ensures { FaultsStay }
+{}
+
+/// Where more bytes are needed, fewer are left than a frame of the largest size has.
+pub fn little_is_left()
+    ensures { LittleIsLeft }
+{}

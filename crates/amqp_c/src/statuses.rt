@@ -1,0 +1,83 @@
+//! The statuses that calls return, and their names.
+
+ghost use Rattle.std.specs.Prelude.{◌≡◌, None};
+ghost use Rattle.amqp_c.specs.Statuses.{WritesName, call_error_at, call_error_name, call_error_status};
+
+use amqp_stream::StreamError;
+use amqp_types::put_bytes;
+
+/// The buffer for what is written is shorter than the bytes.
+pub const BUFFER_TOO_SMALL: u8 = 40;
+
+/// An argument is none of those that are allowed.
+pub const BAD_ARGUMENT: u8 = 41;
+
+/// Why a call did not come to the end of its bytes.
+#[derive(Clone, Copy, Debug, PartialEq, Eq)]
+pub enum CallError {
+    /// A stream of these bytes would end so.
+    Stream(StreamError),
+
+    /// The buffer for what is written is shorter than the bytes.
+    BufferTooSmall,
+
+    /// An argument is none of those that are allowed.
+    BadArgument,
+}
+
+/// The variant's name.
+fn name_of(error: CallError) -> &'static str
+    ensures { result.now ≡ call_error_name error }
+{
+    match error {
+        CallError::Stream(error) => error.name(),
+        CallError::BufferTooSmall => "BufferTooSmall",
+        CallError::BadArgument => "BadArgument",
+    }
+}
+
+/// The error that has a status.
+fn error_with(status: u8) -> Option<CallError>
+    ensures { result ≡ call_error_at status }
+{
+    let error = match status {
+        3 => StreamError::NoMemory,
+        4 => StreamError::ReadFault,
+        5 => StreamError::WriteFault,
+        10 => StreamError::UnknownFrameType,
+        11 => StreamError::BadProtocolHeader,
+        12 => StreamError::TooLarge,
+        13 => StreamError::BadFrameEnd,
+        14 => StreamError::UnknownClass,
+        15 => StreamError::UnknownMethod,
+        16 => StreamError::ShortPayload,
+        17 => StreamError::TrailingBytes,
+        18 => StreamError::NotUtf8,
+        19 => StreamError::UnknownTag,
+        20 => StreamError::TooDeep,
+        21 => StreamError::CutShort,
+        22 => StreamError::TurnsSpent,
+        23 => StreamError::NotTidy,
+        BUFFER_TOO_SMALL => return Some(CallError::BufferTooSmall),
+        BAD_ARGUMENT => return Some(CallError::BadArgument),
+        _ => return None,
+    };
+    Some(CallError::Stream(error))
+}
+
+/// Writes the name of a status at the front of a buffer where it fits, and returns its length, which is at most 17; 0 where
+/// the status is no error's.
+#[unsafe(no_mangle)]
+pub extern "C" fn feksroum_name(status: u8, out: &mut [u8]) -> usize
+    ensures named { (error : CallError) → call_error_status error ≡ status → WritesName (call_error_name error) out.old out.new result }
+    ensures none { call_error_at status ≡ None → (result ≡ 0) × (out.new ≡ out.old) }
+{
+    let Some(error) = error_with(status) else {
+        return 0;
+    };
+    let name = name_of(error).as_bytes();
+    if name.len() <= out.len() {
+        put_bytes(out, 0, name);
+    }
+    name.len()
+}

@@ -1,0 +1,154 @@
+//! Each export on frames whose answers are known, and bytes in pieces.
+
+use super::*;
+use crate::canonicalize::feksroum_canonicalize;
+use crate::check::feksroum_check;
+use crate::next::feksroum_next;
+use crate::statuses::feksroum_name;
+
+const LIMIT: u32 = 131_072;
+
+/// A body of one byte on channel 1, an empty heartbeat, and a protocol header.
+const BODY: [u8; 9] = [3, 0, 1, 0, 0, 0, 1, 104, 206];
+
+const HEARTBEAT: [u8; 8] = [8, 0, 0, 0, 0, 0, 0, 206];
+
+const HEADER: [u8; 8] = [65, 77, 81, 80, 0, 0, 9, 1];
+
+/// A heartbeat that carries a byte.
+const LOUD: [u8; 9] = [8, 0, 0, 0, 0, 0, 1, 7, 206];
+
+/// A queue is declared, with the key `a` twice.
+const TWICE: [u8; 28] = [
+    1, 0, 1, 0, 0, 0, 20, 0, 50, 0, 10, 0, 0, 0, 31, 0, 0, 0, 8, 1, 97, 116, 0, 1, 97, 116, 7, 206,
+];
+
+const ONCE: [u8; 24] = [
+    1, 0, 1, 0, 0, 0, 16, 0, 50, 0, 10, 0, 0, 0, 31, 0, 0, 0, 4, 1, 97, 116, 1, 206,
+];
+
+/// Bytes, the limit, and what is in front: used, where and how long the payload is, channel, type, status.
+const FRONTS: [(&[u8], u32, (usize, usize, usize, u16, u8, u8)); 11] = [
+    (&BODY, LIMIT, (9, 7, 1, 1, 3, 0)),
+    (&HEARTBEAT, 0, (8, 7, 0, 0, 8, 0)),
+    (&HEADER, 0, (8, 5, 3, 0, 65, 0)),
+    (&TWICE, 20, (28, 7, 20, 1, 1, 0)),
+    (&TWICE, 19, (0, 0, 0, 0, 0, 12)),
+    (&[], LIMIT, (0, 0, 0, 0, 0, 21)),
+    (&[1, 0, 1, 0, 0, 0], LIMIT, (0, 0, 0, 0, 0, 21)),
+    (&[4], LIMIT, (0, 0, 0, 0, 0, 10)),
+    (&[65, 77, 81, 81], LIMIT, (0, 0, 0, 0, 0, 11)),
+    (&[8, 0, 0, 0, 0, 0, 0, 207], LIMIT, (0, 0, 0, 0, 0, 13)),
+    (&[3, 1, 2, 0, 0, 0, 0, 206, 9], LIMIT, (8, 7, 0, 258, 3, 0)),
+];
+
+#[test]
+fn fronts_are_found(rt: HostRuntime) {
+    for row in &FRONTS {
+        let front = feksroum_next(row.0, row.1);
+        let lies = (front.used, front.payload_start, front.payload_len);
+        let is = (front.channel, front.frame_type, front.status);
+        assert!(rt; (lies.0, lies.1, lies.2, is.0, is.1, is.2) == row.2);
+    }
+}
+
+/// A type, a payload, and what it is: class, method, body size, canonical, tidy, status.
+const PAYLOADS: [(u8, &[u8], (u16, u16, u64, bool, bool, u8)); 14] = [
+    (1, &[0, 85, 0, 10, 1], (85, 10, 0, true, true, 0)),
+    (1, &[0, 85, 0, 10, 255], (85, 10, 0, false, false, 0)),
+    (1, &[0, 85, 0, 10], (0, 0, 0, false, false, 16)),
+    (1, &[0, 85, 0, 10, 0, 0], (0, 0, 0, false, false, 17)),
+    (1, &[0, 86, 0, 10], (0, 0, 0, false, false, 14)),
+    (1, &[0, 85, 0, 12], (0, 0, 0, false, false, 15)),
+    (
+        2,
+        &[0, 60, 0, 0, 0, 0, 0, 0, 0, 0, 1, 5, 0, 0],
+        (60, 0, 261, true, true, 0),
+    ),
+    (
+        2,
+        &[0, 60, 0, 7, 0, 0, 0, 0, 0, 0, 0, 5, 0, 0],
+        (60, 0, 5, false, false, 0),
+    ),
+    (3, &[1, 2, 3], (0, 0, 0, true, true, 0)),
+    (8, &[], (0, 0, 0, true, true, 0)),
+    (8, &[7], (0, 0, 0, false, false, 0)),
+    (65, &[0, 9, 1], (0, 0, 0, true, true, 0)),
+    (65, &[0, 9], (0, 0, 0, false, false, 16)),
+    (4, &[], (0, 0, 0, false, false, 10)),
+];
+
+#[test]
+fn payloads_are_checked(rt: HostRuntime) {
+    for row in &PAYLOADS {
+        let summary = feksroum_check(row.0, row.1);
+        let stands = (summary.class_id, summary.method_id, summary.body_size);
+        let is = (summary.canonical, summary.tidy, summary.status);
+        assert!(rt; (stands.0, stands.1, stands.2, is.0, is.1, is.2) == row.2);
+    }
+}
+
+/// Bytes, the level, how many are used, what is written, and the status.
+const STREAMS: [(&[u8], u8, usize, &[u8], u8); 9] = [
+    (&[], 0, 0, &[], 0),
+    (&HEADER, 0, 8, &HEADER, 0),
+    (&TWICE, 0, 28, &ONCE, 0),
+    (&TWICE, 1, 28, &ONCE, 0),
+    (&LOUD, 0, 9, &HEARTBEAT, 0),
+    (&LOUD, 1, 0, &[], 23),
+    (&[3, 0, 1, 0, 0, 0, 1, 104, 206, 1, 0], 0, 9, &BODY, 21),
+    (&[3, 0, 1, 0, 0, 0, 1, 104, 206, 9], 0, 9, &BODY, 10),
+    (
+        &[3, 0, 1, 0, 0, 0, 1, 104, 206, 1, 0, 0, 0, 0, 0, 1, 0, 206],
+        0,
+        9,
+        &BODY,
+        16,
+    ),
+];
+
+#[test]
+fn streams_are_canonicalized(rt: HostRuntime) {
+    for row in &STREAMS {
+        let mut out = [99; 40];
+        let progress = feksroum_canonicalize(row.0, &mut out, LIMIT, row.1);
+        assert!(rt; progress.used == row.2 && progress.status == row.4);
+        assert!(rt; out.get(..progress.written) == Some(row.3));
+        assert!(rt; out.get(progress.written) == Some(&99));
+    }
+}
+
+#[test]
+fn pieces_give_what_the_whole_gives(rt: HostRuntime) {
+    for cut in 0..=TWICE.len() {
+        let mut out = [0; 28];
+        let first = feksroum_canonicalize(&TWICE[..cut], &mut out, LIMIT, 0);
+        let whole = cut == 0 || cut == TWICE.len();
+        assert!(rt; first.status == if whole { 0 } else { 21 });
+        assert!(rt; first.used == if cut == TWICE.len() { TWICE.len() } else { 0 });
+    }
+}
+
+#[test]
+fn arguments_are_tested(rt: HostRuntime) {
+    let mut out = [99; 9];
+    let short = feksroum_canonicalize(&BODY, &mut out[..8], LIMIT, 0);
+    assert!(rt; short.used == 0 && short.written == 0 && short.status == 40);
+    let level = feksroum_canonicalize(&BODY, &mut out, LIMIT, 2);
+    assert!(rt; level.used == 0 && level.written == 0 && level.status == 41);
+    assert!(rt; out == [99; 9]);
+    let exact = feksroum_canonicalize(&BODY, &mut out, 1, 0);
+    assert!(rt; exact.written == 9 && exact.status == 0 && out == BODY);
+    let limit = feksroum_canonicalize(&BODY, &mut out, 0, 0);
+    assert!(rt; limit.written == 0 && limit.status == 12);
+}
+
+#[test]
+fn statuses_have_names(rt: HostRuntime) {
+    let mut out = [99; 17];
+    assert!(rt; feksroum_name(13, &mut out) == 11 && out.get(..11) == Some(b"BadFrameEnd"));
+    assert!(rt; feksroum_name(11, &mut out) == 17 && out == *b"BadProtocolHeader");
+    assert!(rt; feksroum_name(40, &mut out[..13]) == 14 && out == *b"BadProtocolHeader");
+    assert!(rt; feksroum_name(41, &mut out) == 11 && out.get(..11) == Some(b"BadArgument"));
+    assert!(rt; feksroum_name(0, &mut out) == 0 && feksroum_name(255, &mut out) == 0);
+}
