@@ -1,5 +1,6 @@
 pub mod Cutting
 pub mod Holding
+pub mod Current
 pub mod Gathering
 pub mod Piecing
 pub mod Channels

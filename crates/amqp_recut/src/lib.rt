@@ -3,7 +3,9 @@
 
 mod errors;
 mod laws;
+mod message;
 mod messages;
+mod others;
 mod pieces;
 mod recutter;
 mod recutting;

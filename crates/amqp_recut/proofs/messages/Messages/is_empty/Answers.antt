@@ -1,8 +1,5 @@
-use Rattle.std.proofs.Common.{ap, ◌∙◌, eqb}
-use Rattle.std.specs.FinMap as finite
-use Rattle.amqp_recut.specs.Held.{Holding, held_of}
-use Rattle.amqp_recut.proofs.Holding.{holding_empty}
+use Rattle.amqp_recut.proofs.Current.{is_some}
 use Rattle.amqp_recut.proofs.messages.Messages.is_empty.Goals as goal
 
-pub returns : goal.returns
-returns c = ap (λ n. eqb n 0) c.len.ensures.len ∙ holding_empty held_of c.self.inside.channels.entries ∙ ap (λ (m : Holding). eqb (finite.len m) 0) c.self.view_is
+pub returns-in-Some : goal.returns-in-Some
+returns-in-Some c = is_some c.self.inside.current c.in-Some.field-0 c.self.inside.others c.args.self.now c.in-Some.is c.self.view_is
