@@ -11,8 +11,46 @@ use amqp_stream::{OutputBuffer, Sink, SinkFault, flush, gather};
 use amqp_types::{ChannelId, NoMemory};
 use std::alloc::Global;
 
+/// Pieces up to this size are pending with the small frames.
+const SMALL_PIECE: usize = 4096;
+
+/// Puts a body frame whose payload is two parts after the pending bytes.
+#[inline(always)]
+fn push_piece(out: &mut OutputBuffer, channel_id: ChannelId, front: &[u8], back: &[u8])
+    requires few { length front.now + length back.now < 2 ^ 32 }
+    requires room { length out.old.bytes + (length front.now + length back.now + 8) ≤ out.old.room }
+    ensures room { out.new.room ≡ out.old.room }
+    ensures pushed { out.new.bytes ≡ out.old.bytes ++ framed 3 channel_id (front.now ++ back.now) }
+{
+    out.push(&frame_head(3, channel_id, (front.len() + back.len()) as u32));
+    out.push(front);
+    out.push(back);
+    out.push(&[206]);
+}
+
 /// Gathers a body frame whose payload is two parts.
+#[inline(always)]
 fn write_piece<K: Sink>(
+    out: &mut OutputBuffer,
+    sink: &mut K,
+    channel_id: ChannelId,
+    front: &[u8],
+    back: &[u8],
+) -> Result<(), SinkFault>
+    requires few { length front.now + length back.now < 2 ^ 32 }
+    ensures room { out.new.room ≡ out.old.room }
+    ensures gathers { Gathers (K.store sink.old) (K.store sink.new) out.old.bytes out.new.bytes (framed 3 channel_id (front.now ++ back.now)) result }
+{
+    let len = front.len() + back.len();
+    if len <= SMALL_PIECE && len + 8 <= out.room() {
+        push_piece(out, channel_id, front, back);
+        return Ok(());
+    }
+    gather_piece(out, sink, channel_id, front, back)
+}
+
+/// The same by parts, each of which is written from where it lies where it does not fit.
+fn gather_piece<K: Sink>(
     out: &mut OutputBuffer,
     sink: &mut K,
     channel_id: ChannelId,

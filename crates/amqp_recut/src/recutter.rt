@@ -49,6 +49,7 @@ impl Recutter {
     }
 
     /// Keeps this of a channel, and no bytes. Where memory runs out, all stays.
+    #[inline(always)]
     fn keep(&mut self, channel_id: ChannelId, progress: Option<Progress>) -> Result<(), NoMemory>
         ensures ok { OnOk result (self.new ≡ record self.old { messages = set_at self.old.messages channel_id (held_with progress []) }) }
         ensures err { OnErr result (self.new ≡ self.old) }
@@ -106,6 +107,7 @@ impl Recutter {
 
     /// Puts a method or content header that is part of a message after the pending bytes. Where memory runs out, it is taken
     /// back.
+    #[inline(always)]
     fn write_part(
         &mut self,
         out: &mut OutputBuffer,
@@ -136,6 +138,7 @@ impl Recutter {
     }
 
     /// Gathers a method or content header.
+    #[inline(always)]
     fn write_typed<K: Sink>(
         &mut self,
         out: &mut OutputBuffer,
@@ -166,6 +169,7 @@ impl Recutter {
     }
 
     /// Gathers the last pieces of a body, and keeps nothing more of its message.
+    #[inline(always)]
     fn end_body<K: Sink>(
         &mut self,
         out: &mut OutputBuffer,
@@ -237,6 +241,7 @@ impl Recutter {
     }
 
     /// Gathers the pieces that a body completes.
+    #[inline(always)]
     fn cut_body<K: Sink>(
         &mut self,
         out: &mut OutputBuffer,
@@ -266,6 +271,7 @@ impl Recutter {
     }
 
     /// The same. Of what is pending then, no more stays than the frame had.
+    #[inline(always)]
     fn write_body<K: Sink>(
         &mut self,
         out: &mut OutputBuffer,

@@ -1,7 +1,7 @@
 use Rattle.std.proofs.Common.{[], ◌∷◌, ◌++◌, refl, ◌∙◌, append_assoc, Err}
 use Rattle.amqp_recut.proofs.Gathering.{gathered_more, gathers_then, gathers_less, gathers_as}
 use Rattle.amqp_recut.proofs.Piecing.{piece_bytes}
-use Rattle.amqp_recut.proofs.pieces.write_piece.Goals as goal
+use Rattle.amqp_recut.proofs.pieces.gather_piece.Goals as goal
 
 pub returns-in-Err-clause-gathers : goal.returns-in-Err-clause-gathers
 returns-in-Err-clause-gathers g c =
