@@ -9,3 +9,11 @@ pub mod Dumps
 pub mod Holding
 pub mod Generated
 pub mod Newlines
+pub mod ReadWords
+pub mod ReadBack
+pub mod ReadSteps
+pub mod ReadSlots
+pub mod SlotSteps
+pub mod ReadLines
+pub mod LineSteps
+pub mod LinesApart

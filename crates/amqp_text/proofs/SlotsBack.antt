@@ -72,7 +72,7 @@ slots_back (reserved_slot form constant ∷ slots) bytes rest items h =
 -- ---- properties
 
 -- the first of the items of a form that gives one
-one_text : (form : Form) (items : List Item) (p : Property) → p.form ≡ form → gives_one form ≡ true → length items ≡ item_count form → option_text p (first_item items) ≡ codes " " ++ (property_name p.bit ++ (codes "=" ++ form_text p.form items))
+pub one_text : (form : Form) (items : List Item) (p : Property) → p.form ≡ form → gives_one form ≡ true → length items ≡ item_count form → option_text p (first_item items) ≡ codes " " ++ (property_name p.bit ++ (codes "=" ++ form_text p.form items))
 unfolding option_text
 one_text (flags_form count) items p is one h = absurd cc
 one_text (number_form width) [] p is one h = absurd (omega arith)
@@ -106,7 +106,7 @@ set_back mask (p ∷ ps) one bytes rest options h =
     ap (λ bs. told_set mask (p ∷ ps) (bs ++ rest)) h.bytes_are ∙ both_back (told_option (flag_at mask p.bit) p) (told_set mask ps) (λ a b. a ++ b) h.front h.behind rest _ _ first second
     ∙ ap₂ (λ os bs. took (set_text (p ∷ ps) os) (length bs)) (sym h.joined) (sym h.bytes_are)
 
-give_one_each : give_one properties ≡ true
+pub give_one_each : give_one properties ≡ true
 unfolding properties later_properties
 give_one_each = refl
 

@@ -18,7 +18,7 @@ use Rattle.amqp_text.specs.Telling.{Says, Tells, is_reserved, told_form, told_op
 -- ---- one slot
 
 -- which slot a shape stands for
-kept : (shape : Shape) → is_reserved (slot_of shape) ≡ false → slot_of shape ≡ kept_slot (form_of shape)
+pub kept : (shape : Shape) → is_reserved (slot_of shape) ≡ false → slot_of shape ≡ kept_slot (form_of shape)
 kept shapes.Octet e = refl
 kept shapes.Short e = refl
 kept shapes.Long e = refl
@@ -33,7 +33,7 @@ kept shapes.ReservedFlag e = absurd cc
 kept shapes.ReservedShortString e = absurd cc
 kept shapes.ReservedLongString e = absurd cc
 
-reserved : (shape : Shape) → is_reserved (slot_of shape) ≡ true → (constant : List Item) × (slot_of shape ≡ reserved_slot (form_of shape) constant)
+pub reserved : (shape : Shape) → is_reserved (slot_of shape) ≡ true → (constant : List Item) × (slot_of shape ≡ reserved_slot (form_of shape) constant)
 reserved shapes.Octet e = absurd cc
 reserved shapes.Short e = absurd cc
 reserved shapes.Long e = absurd cc

@@ -8,3 +8,6 @@ pub mod LineTexts
 pub mod Dumping
 pub mod Typed
 pub mod Laws
+pub mod Errors
+pub mod Reading
+pub mod ReadingLines

@@ -67,7 +67,7 @@ fn write_form(out: &mut Vec<u8>, shape: Shape, i: &[u8]) -> Result<usize, NoMemo
 }
 
 /// Whether a slot is reserved.
-fn is_reserved(shape: Shape) -> bool
+pub(crate) fn is_reserved(shape: Shape) -> bool
     ensures { result ≡ is_reserved (slot_of shape) }
 {
     match shape {
@@ -115,7 +115,7 @@ pub(crate) fn write_slots(out: &mut Vec<u8>, shapes: &[Shape], i: &[u8]) -> Resu
 
 /// The name of the property with this bit in the mask.
 #[tactic(auto, unfolding(crate::specs::Slots::property_name))]
-fn property_name(bit: Identifier) -> &'static [u8]
+pub(crate) fn property_name(bit: Identifier) -> &'static [u8]
     ensures { result.now ≡ property_name bit }
 {
     match bit {

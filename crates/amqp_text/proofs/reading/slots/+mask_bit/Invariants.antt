@@ -1,0 +1,4 @@
+use Rattle.amqp_text.proofs.reading.slots.+mask_bit.Given as goal
+
+abbrev pub decreases-mask_bit : goal.decreases-mask_bit
+decreases-mask_bit l = l.bit

@@ -1,0 +1,4 @@
+use Rattle.amqp_text.proofs.reading.words.+read_signs.Given as goal
+
+abbrev pub decreases-read_signs : goal.decreases-read_signs
+decreases-read_signs l = l.count

@@ -1,0 +1,12 @@
+use Rattle.std.proofs.Common.{◌≤◌, length}
+use Rattle.amqp_text.proofs.ReadSteps.{GoesOn, IsHexRead}
+use Rattle.amqp_text.proofs.reading.words.read_hex.Given as goal
+
+abbrev pub invariant-loop-rest : goal.invariant-loop-rest
+invariant-loop-rest l = record {
+  goes_on : GoesOn IsHexRead l.i l.fn.out.items l.rest l.out.items;
+  no_longer : length l.rest ≤ length l.i;
+}
+
+abbrev pub decreases-loop-rest : goal.decreases-loop-rest
+decreases-loop-rest l = length l.rest
