@@ -4,8 +4,7 @@ use crate::{
     dump, equal_lines_are_equal_frames, equal_texts_are_equal_sequences, gen_line,
     lines_have_one_newline,
 };
-use amqp_canonical::bytes_from;
-use amqp_frame::{AMQPFrame, GenError, parse_frame};
+use amqp_frame::{AMQPFrame, GenError};
 use amqp_stream::{PieceSource, ScriptSink, StreamError, VecSink};
 use std::alloc::Global;
 use std::test::Fail;
@@ -112,29 +111,6 @@ fn frames_are_dumped_as_lines(rt: HostRuntime) -> Result<(), Fail> {
             assert_eq!(rt; sink.bytes(), lines.as_bytes());
         }
     }
-    Ok(())
-}
-
-/// The lines of frames that are read as typed ones.
-fn typed_lines(alloc: Global, input: &[u8]) -> Result<Vec<u8>, Fail> {
-    let mut lines = Vec::new(alloc);
-    let mut rest = input;
-    for _ in 0..input.len() {
-        if rest.is_empty() {
-            break;
-        }
-        let (used, frame) = parse_frame(alloc, rest)?;
-        gen_line(alloc, &mut lines, &frame)?;
-        rest = bytes_from(rest, used);
-    }
-    Ok(lines)
-}
-
-#[test]
-fn a_typed_frame_has_the_same_line(rt: HostRuntime) -> Result<(), Fail> {
-    let lines = typed_lines(rt.alloc(), &DECLARE)?;
-    let wanted = "method 1 50.10 \"some_queue\" +++++ {}\n";
-    assert_eq!(rt; lines.as_slice(), wanted.as_bytes());
     Ok(())
 }
 
