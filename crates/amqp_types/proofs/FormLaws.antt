@@ -24,12 +24,12 @@ module _ {A : Type 0} (Spells : Level → List ℕ → A → Type 0) (strict_is_
   is_plain tidy bytes x h = tidy_is_plain bytes x h
   is_plain strict bytes x h = tidy_is_plain bytes x (strict_is_tidy bytes x h)
 
--- no bytes spell two, where judging is exact and each level is plain
+-- no bytes encode two, where decoding is exact and each level is plain
 pub one_at_each : {A : Type 0} (judge : Judge A) (Spells : Level → List ℕ → A → Type 0) → IsExact judge (Spells plain) → ((level : Level) (bytes : List ℕ) (x : A) → Spells level bytes x → Spells plain bytes x)
     → (level : Level) (bytes : List ℕ) (x y : A) → Spells level bytes x → Spells level bytes y → x ≡ y
 one_at_each judge Spells exact into level bytes x y p q = one_meaning judge (Spells plain) exact bytes x y (into level bytes x p) (into level bytes y q)
 
--- a form with one spelling, which is the same at each level
+-- a form with one encoding, which is the same at each level
 pub once_lawful : {A : Type 0} (judge : Judge A) (Spells : List ℕ → A → Type 0) (canonical : A → List ℕ) → IsExact judge Spells → ((bytes : List ℕ) (x : A) → Spells bytes x → bytes ≡ canonical x) → IsLawful judge (λ level. Spells) canonical
 once_lawful {A} judge Spells canonical exact only = record {
   exact = exact;

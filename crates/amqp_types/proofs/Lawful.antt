@@ -1,4 +1,4 @@
--- What is made of a lawful form, and two lawful forms one behind the other, are lawful.
+-- What is made of a lawful form, and two lawful forms one after the other, are lawful.
 use Rattle.std.proofs.Common.{◌≡◌, ℕ, ◌+◌, ◌≤◌, List, ◌++◌, length, refl, sym, ap, ap₂, subst, ◌∙◌, arith}
 use Rattle.std.proofs.lemmas.List.{length-append}
 use Rattle.amqp_types.specs.Levels.{Level, plain, tidy, strict}

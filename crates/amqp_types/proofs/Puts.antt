@@ -1,4 +1,4 @@
--- Calls that put bytes one behind another, or into room behind a vector.
+-- Calls that put bytes one after another, or into room at the end of a vector.
 use Rattle.std.proofs.Common.{◌≡◌, ℕ, ◌+◌, ◌≤◌, List, [], ◌++◌, length, take, drop, replicate, sym, ap, ◌∙◌, arith}
 use Rattle.std.proofs.lemmas.List.{length-append, length-replicate, take_at}
 use Rattle.amqp_types.specs.Writing.{written, Puts}

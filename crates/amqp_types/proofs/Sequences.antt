@@ -1,4 +1,4 @@
--- What is made of what was read, and what is read one behind another, is exact where its parts are.
+-- What is made of what was read, and what is read one after another, is exact where its parts are.
 use Rattle.std.proofs.Common.{◌≡◌, ℕ, ◌+◌, ◌≤◌, List, ◌++◌, length, take, drop, refl, sym, ap, ap₂, subst, ◌∙◌, append_assoc, arith}
 use Rattle.std.proofs.lemmas.List.{length-append, length-drop, drop_at}
 use Rattle.std.proofs.Math.Seq.{take-add}
@@ -22,7 +22,7 @@ module _ {A B : Type 0} (make : A → B) (judge : Judge A) (Spells : List ℕ �
 pub map_taken : {A B : Type 0} (make : A → B) (judge : Judge A) (Spells : List ℕ → A → Type 0) → IsExact judge Spells → (bytes rest : List ℕ) (x : A) → Spells bytes x → judge_map make judge (bytes ++ rest) ≡ took (make x) (length bytes)
 map_taken make judge Spells exact bytes rest x h = ap (λ j. j >>= λ x. took (make x.0) x.1) (exact.taken bytes rest x h)
 
--- two things, one behind the other
+-- two things, one after the other
 module _ {A B C : Type 0} (first : Judge A) (second : Judge B) (join : A → B → C) (First : List ℕ → A → Type 0) (Second : List ℕ → B → Type 0) (first_exact : IsExact first First) (second_exact : IsExact second Second) where
   both_spelled : (bytes : List ℕ) (z : C) (n : ℕ) → IsBytes bytes → judge_both first second join bytes ≡ took z n → SpellsBoth First Second join (take n bytes) z × (n ≤ length bytes)
   both_spelled bytes z n fits h =

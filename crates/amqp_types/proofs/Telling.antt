@@ -1,4 +1,4 @@
--- A test that parts tidy spellings from plain ones tells of what is judged, and two such tests do so of two things, one behind the other.
+-- A test that parts tidy encodings from plain ones says of what is decoded, and two such tests do so of two things, one after the other.
 use Rattle.std.proofs.Common.{◌≡◌, ℕ, ◌&&◌, Bool, true, List, ◌++◌, length, take, drop, refl, sym, ap, subst, ◌∙◌, append_assoc}
 use Rattle.std.proofs.lemmas.Bool.{and_from, and_parts}
 use Rattle.std.proofs.lemmas.List.{drop_at, take-append-drop}
@@ -7,7 +7,7 @@ use Rattle.amqp_types.specs.Judging.{Judge, IsExact}
 use Rattle.amqp_types.specs.Sequences.{SpellsBoth}
 use Rattle.amqp_types.specs.Tidiness.{used_by, test_both, IsToldBy}
 
--- A plain spelling of which the test holds is tidy, and it holds of each tidy one, whatever follows.
+-- A plain encoding of which the test holds is tidy, and it holds of each tidy one, whatever follows.
 pub record IsTest {A : Type 0} (Spells : Level → List ℕ → A → Type 0) (test : List ℕ → Bool) : Type 0 where
   pub tidied : (bytes rest : List ℕ) (x : A) → Spells plain bytes x → test (bytes ++ rest) ≡ true → Spells tidy bytes x
   pub tested : (bytes rest : List ℕ) (x : A) → Spells tidy bytes x → test (bytes ++ rest) ≡ true
@@ -21,7 +21,7 @@ told judge Spells test exact is = record {
   tested = is.tested;
 }
 
--- two things, one behind the other
+-- two things, one after the other
 module _ {A B C : Type 0} (first : Judge A) (join : A → B → C) (First : Level → List ℕ → A → Type 0) (Second : Level → List ℕ → B → Type 0) (one two : List ℕ → Bool)
     (exact : IsExact first (First plain)) (into : (bytes : List ℕ) (x : A) → First tidy bytes x → First plain bytes x) (is_one : IsTest First one) (is_two : IsTest Second two) where
   abbrev Both : Level → List ℕ → C → Type 0

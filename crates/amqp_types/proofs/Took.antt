@@ -1,4 +1,4 @@
--- What the steps of a judgement took, where all of it took something.
+-- What the steps of a decoding function took, where all of it took something.
 use Rattle.std.proofs.Common.{◌≡◌, ℕ, Bool, true, false, cond, refl}
 use Rattle.amqp_types.specs.Judging.{Judged, Fault, took, past, fault, ◌>>=◌}
 

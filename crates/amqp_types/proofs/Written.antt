@@ -1,4 +1,4 @@
--- Bytes that are written one behind another.
+-- Bytes that are written one after another.
 use Rattle.std.proofs.Common.{◌≡◌, ℕ, ◌+◌, ◌≤◌, List, [], ◌++◌, length, take, drop, append-nil, append_assoc, refl, sym, ap, ap₂, ◌∙◌, arith}
 use Rattle.std.proofs.lemmas.List.{length-append, length-take-le, length-drop, drop-drop, take_at, drop_at, drop_all, take-append-drop}
 use Rattle.amqp_types.specs.Writing.{written}
@@ -13,7 +13,7 @@ written-length buf at bytes room =
 pub written_keeps_length : (buf : List ℕ) (at : ℕ) (bytes : List ℕ) → at + length bytes ≤ length buf → (written buf at bytes ≡ written buf at bytes) × (length (written buf at bytes) ≡ length buf)
 written_keeps_length buf at bytes room = (refl, written-length buf at bytes room)
 
--- two parts written one behind the other
+-- two parts written one after the other
 pub written-written : (buf : List ℕ) (at place : ℕ) (first second : List ℕ) → place ≡ at + length first → at + length (first ++ second) ≤ length buf → written (written buf at first) place second ≡ written buf at (first ++ second)
 unfolding written
 written-written buf at place first second behind_first room =

@@ -1,10 +1,10 @@
--- What a parse call answers is what is judged.
+-- What a parse call returns is what is decoded.
 use Rattle.std.specs.Prelude.{◌≡◌, ℕ, Result, Ok, Err}
 use Rattle.amqp_types.specs.Judging.{Judged, took, past, fault, Fault, unknown_frame_type, bad_protocol_header, bad_frame_end, unknown_class, unknown_method, short_payload, trailing_bytes, not_utf8, unknown_tag, too_deep}
 use Rattle.amqp_types.specs.declared.errors.ParserError.{ParserError}
 use Rattle.amqp_types.specs.declared.errors.ParserError.TheVariants as errors
 
--- the error tells what is judged; want of memory tells nothing, and may come in place of any answer
+-- each error says why nothing is decoded; out of memory says nothing, and may come in place of any result
 abbrev pub Refuses : {B : Type 0} → ParserError → Judged B → Type 0
 Refuses errors.Incomplete judged = judged ≡ past
 Refuses errors.UnknownFrameType judged = judged ≡ fault unknown_frame_type
@@ -19,7 +19,7 @@ Refuses errors.UnknownTag judged = judged ≡ fault unknown_tag
 Refuses errors.TooDeep judged = judged ≡ fault too_deep
 Refuses errors.NoMemory judged = Unit {0}
 
--- a parse call answers what is judged, unless memory runs out
+-- a parse call returns what is decoded, unless memory runs out
 abbrev pub Answers : {A B : Type 0} → (A → B) → Result (ℕ × A) ParserError → Judged B → Type 0
 Answers view (Ok found) judged = judged ≡ took (view found.1) found.0
 Answers view (Err error) judged = Refuses error judged
@@ -29,7 +29,7 @@ abbrev pub AnswersFully : {A B : Type 0} → (A → B) → Result (ℕ × A) Par
 AnswersFully view (Err errors.NoMemory) judged = ⊥
 AnswersFully view result judged = Answers view result judged
 
--- the error tells the fault of a whole payload, in which nothing can be wanted beyond its end
+-- the error says the fault of a whole payload, in which nothing can be incomplete
 abbrev pub RefusesWhole : {B : Type 0} → ParserError → Result B Fault → Type 0
 RefusesWhole errors.Incomplete read = ⊥
 RefusesWhole errors.UnknownFrameType read = read ≡ Err unknown_frame_type
@@ -44,7 +44,7 @@ RefusesWhole errors.UnknownTag read = read ≡ Err unknown_tag
 RefusesWhole errors.TooDeep read = read ≡ Err too_deep
 RefusesWhole errors.NoMemory read = Unit {0}
 
--- a call that reads a whole payload answers what it is, unless memory runs out
+-- a call that decodes a whole payload returns what it is, unless memory runs out
 abbrev pub AnswersWhole : {A B : Type 0} → (A → B) → Result A ParserError → Result B Fault → Type 0
 AnswersWhole view (Ok found) read = read ≡ Ok (view found)
 AnswersWhole view (Err error) read = RefusesWhole error read

@@ -6,16 +6,16 @@ use Rattle.amqp_types.specs.declared.errors.ParserError.{ParserError}
 use Rattle.amqp_types.specs.declared.errors.ParserError.TheVariants as parser_errors
 use Rattle.amqp_types.specs.declared.errors.GenError.{GenError}
 
--- a parse call answers what is judged, and has used bytes that are there
+-- a parse call returns what is decoded, and has used bytes that are there
 pub record Parses {A B : Type 0} (view : A → B) (result : Result (ℕ × A) ParserError) (bytes : List ℕ) (judge : Judge B) : Type 0 where
   pub judged : Answers view result (judge bytes)
   pub used : IfOk result (λ found. found.0 ≤ length bytes)
 
--- a call that takes no memory, and so does not answer that there is none
+-- a call that takes no memory, and so never returns that it is out of memory
 abbrev pub NeedsNoMemory : {A : Type 0} → Result A ParserError → Type 0
 NeedsNoMemory result = IfErr result (λ error. error ≢ parser_errors.NoMemory)
 
--- a size call answers the size, which is small enough to be added to others
+-- a size call returns the size, which is small enough to be added to others
 pub record Measures (result size : Result ℕ GenError) : Type 0 where
   pub measured : result ≡ size
   pub bound : IfOk result (λ n. n ≤ 2 ^ 40)

@@ -57,7 +57,7 @@ content_header_size header = measured (any_deep_option header.options) (any_long
 abbrev pub ContentHeadersAreLawful : Type 0
 ContentHeadersAreLawful = IsLawful judge_content_header SpellsContentHeader content_header_bytes
 
--- what is spelled is neither long nor too deep
+-- what is encoded is neither long nor too deep
 abbrev pub SpelledContentHeadersAreBounded : Type 0
 SpelledContentHeadersAreBounded = (level : Level) (bytes : List ℕ) (header : ContentHeader) → SpellsContentHeader level bytes header → (any_deep_option header.options ≡ false) × (any_long_option header.options ≡ false)
 

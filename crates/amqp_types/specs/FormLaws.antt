@@ -12,9 +12,9 @@ pub record IsLawful {A : Type 0} (judge : Judge A) (Spells : Level → List ℕ 
   -- each level is within the one before
   pub strict_is_tidy : (bytes : List ℕ) (x : A) → Spells strict bytes x → Spells tidy bytes x
   pub tidy_is_plain : (bytes : List ℕ) (x : A) → Spells tidy bytes x → Spells plain bytes x
-  -- no bytes spell two
+  -- no bytes encode two
   pub one_meaning : (level : Level) (bytes : List ℕ) (x y : A) → Spells level bytes x → Spells level bytes y → x ≡ y
-  -- What is spelled has one strict spelling, its canonical bytes, and none is shorter.
+  -- What is encoded has one strict encoding, its canonical bytes, and none is shorter.
   pub strict_is_canonical : (bytes : List ℕ) (x : A) → Spells strict bytes x → bytes ≡ canonical x
   pub canonical_is_strict : (bytes : List ℕ) (x : A) → Spells plain bytes x → Spells strict (canonical x) x
   pub shortest : (bytes : List ℕ) (x : A) → Spells plain bytes x → length (canonical x) ≤ length bytes

@@ -16,7 +16,7 @@ pub data Fault : Type 0 where
   too_deep : Fault
   not_tidy : Fault
 
--- took: this, in so many bytes. past: more bytes are wanted than the container has
+-- took: this, in so many bytes. past: the container ends inside what is decoded
 pub data Judged (A : Type 0) : Type 0 where
   took : A → ℕ → Judged A
   past : Judged A
@@ -36,7 +36,7 @@ past >>= f = past
 abbrev pub IsBytes : List ℕ → Type 0
 IsBytes bytes = (i : ℕ) → slice_index bytes i < 256
 
--- Judging takes exactly what is spelled: what it takes is spelled by the bytes that it uses, and what is spelled it takes, whatever follows.
+-- Decoding takes exactly what is encoded: what it takes is encoded by the bytes that it uses, and what is encoded it takes, whatever follows.
 pub record IsExact {A : Type 0} (judge : Judge A) (Spells : List ℕ → A → Type 0) : Type 0 where
   pub spelled : (bytes : List ℕ) (x : A) (n : ℕ) → IsBytes bytes → judge bytes ≡ took x n → Spells (take n bytes) x × (n ≤ length bytes)
   pub taken : (bytes rest : List ℕ) (x : A) → Spells bytes x → judge (bytes ++ rest) ≡ took x (length bytes)

@@ -1,10 +1,10 @@
--- How closely a spelling keeps to the one that is written.
+-- How closely an encoding keeps to the one that is written.
 use Rattle.amqp_types.specs.declared.profile.Profile.{Profile}
 use Rattle.amqp_types.specs.declared.profile.Profile.TheVariants as profiles
 
 -- plain: all that the standard's grammar gives, which is what peers send.
 -- tidy: reserved fields, unused bits, a header's weight and a heartbeat's payload stand as they are written.
--- strict: the one spelling that is written. A true boolean is 1, and a table has each key once, in rising order.
+-- strict: the one encoding that is written. A true boolean is 1, and a table has each key once, in ascending order.
 pub data Level : Type 0 where
   plain : Level
   tidy : Level

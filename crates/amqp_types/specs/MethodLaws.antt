@@ -16,7 +16,7 @@ use Rattle.amqp_types.specs.MethodSpelling.{SpellsPayload}
 abbrev pub is_short : ℕ → Bool
 is_short n = nat_lt n (2 ^ 16)
 
--- two bytes hold the id of each row, and its reserved slots have the least constants of their forms
+-- two bytes hold the id of each row, and its reserved fields have the least constants of their forms
 abbrev pub are_sound_rows : List Row → Bool
 are_sound_rows [] = true
 are_sound_rows (row ∷ rows) = (is_short row.0 && are_least row.1) && are_sound_rows rows
@@ -26,14 +26,14 @@ abbrev pub are_sound_classes : List (ℕ × List Row) → Bool
 are_sound_classes [] = true
 are_sound_classes (class ∷ classes) = (is_short class.0 && are_sound_rows class.1) && are_sound_classes classes
 
--- the slots of each row of the table
+-- the fields of each row of the table
 abbrev pub RowsAreLawful : Type 0
 RowsAreLawful = (class id : ℕ) (slots : List Slot) → slots_at class id ≡ Some slots → IsLawful (judge_slots slots) (λ level. SpellsSlots level slots) (slots_bytes slots)
 
 abbrev pub PayloadsAreLawful : Type 0
 PayloadsAreLawful = IsLawful judge_payload SpellsPayload payload_bytes
 
--- what is spelled is neither long nor too deep
+-- what is encoded is neither long nor too deep
 abbrev pub SpelledPayloadsAreBounded : Type 0
 SpelledPayloadsAreBounded = (level : Level) (bytes : List ℕ) (m : Method) → SpellsPayload level bytes m → (any_deep m.items ≡ false) × (any_long m.items ≡ false)
 

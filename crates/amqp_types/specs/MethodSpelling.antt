@@ -1,4 +1,4 @@
--- How methods are spelled, at each level (AMQP 0-9-1, section 4.2.4).
+-- How methods are encoded, at each level (AMQP 0-9-1, section 4.2.4).
 use Rattle.std.specs.Prelude.{◌≡◌, ℕ, List, ◌++◌, Some}
 use Rattle.amqp_types.specs.Levels.{Level}
 use Rattle.amqp_types.specs.Numbers.{bytes2, SpellsNumber}
@@ -7,7 +7,7 @@ use Rattle.amqp_types.specs.SlotSpelling.{SpellsSlots}
 use Rattle.amqp_types.specs.Rows.{slots_at}
 use Rattle.amqp_types.specs.Methods.{Method}
 
--- The bytes are a class id, a method id and the slots that the table has for them.
+-- The bytes are a class id, a method id and the fields that the table has for them.
 pub record SpellsPayload (level : Level) (bytes : List ℕ) (m : Method) : Type 0 where
   pub slots : List Slot
   pub class_bytes : List ℕ

@@ -1,4 +1,4 @@
--- Methods as they stand in a payload: a class id, a method id and the slots of the method (AMQP 0-9-1, section 4.2.4).
+-- Methods as they stand in a payload: a class id, a method id and the fields of the method (AMQP 0-9-1, section 4.2.4).
 use Rattle.std.specs.Prelude.{ℕ, ◌+◌, List, [], ◌++◌, drop, Option, Some, None, unwrap_or, Result}
 use Rattle.amqp_types.specs.Judging.{Judged, Judge, Fault, took, fault, unknown_class, unknown_method, ◌>>=◌}
 use Rattle.amqp_types.specs.Numbers.{bytes2, number_bytes, judge_number}
@@ -8,7 +8,7 @@ use Rattle.amqp_types.specs.SlotBytes.{slots_bytes, items_size}
 use Rattle.amqp_types.specs.Rows.{rows_of, slots_at}
 use Rattle.amqp_types.specs.declared.errors.GenError.{GenError}
 
--- a method of a class by its id, and what its slots give
+-- a method of a class by its id, and what its fields give
 pub record Method : Type 0 where
   pub class : ℕ
   pub id : ℕ
@@ -19,35 +19,35 @@ method class id items = record { class = class; id = id; items = items }
 
 -- ---- the canonical bytes, and their size
 
--- the method id and the slots; of a method that is not in the table, no slots
+-- the method id and the fields; of a method that is not in the table, no fields
 unfoldable pub method_bytes : Method → List ℕ
 method_bytes m = number_bytes bytes2 m.id ++ slots_bytes (unwrap_or (slots_at m.class m.id) []) m.items
 
 unfoldable pub method_size : Method → Result ℕ GenError
 method_size m = items_size m.items (method_bytes m)
 
--- the class id, and the method behind it
+-- the class id, and the method after it
 unfoldable pub payload_bytes : Method → List ℕ
 payload_bytes m = number_bytes bytes2 m.class ++ method_bytes m
 
 unfoldable pub payload_size : Method → Result ℕ GenError
 payload_size m = items_size m.items (payload_bytes m)
 
--- ---- judging
+-- ---- decoding
 
 -- what stands in the table, in no bytes
 abbrev pub known : {A : Type 0} → Fault → Option A → Judged A
 known unknown None = fault unknown
 known unknown (Some x) = took x 0
 
--- the slots of a method, behind both ids
+-- the fields of a method, after both ids
 unfoldable pub judge_method : ℕ → ℕ → Judge Method
 judge_method class id bytes = do
   slots ← known unknown_method (slots_at class id)
   items ← judge_slots slots.0 bytes
   took (method class id items.0) items.1
 
--- a method id and the slots, behind a class id
+-- a method id and the fields, after a class id
 unfoldable pub judge_in_class : ℕ → Judge Method
 judge_in_class class bytes = do
   rows ← known unknown_class (rows_of class)
@@ -55,7 +55,7 @@ judge_in_class class bytes = do
   m ← judge_method class id.0 (drop id.1 bytes)
   took m.0 (id.1 + m.1)
 
--- a class id, a method id and the slots
+-- a class id, a method id and the fields
 unfoldable pub judge_payload : Judge Method
 judge_payload bytes = do
   class ← judge_number bytes2 bytes

@@ -33,7 +33,7 @@ number_limit bytes8 = 2 ^ 64
 abbrev pub number_bytes : NumberWidth → ℕ → List ℕ
 number_bytes width n = to_be_bytes (width_of width) n
 
--- A number has one spelling, at every level.
+-- A number has one encoding, at every level.
 pub record SpellsNumber (width : NumberWidth) (bytes : List ℕ) (n : ℕ) : Type 0 where
   pub fits : n < number_limit width
   pub bytes_are : bytes ≡ number_bytes width n

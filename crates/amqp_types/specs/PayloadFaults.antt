@@ -14,7 +14,7 @@ IsInside unknown_tag = Unit {0}
 IsInside too_deep = Unit {0}
 IsInside bad = ⊥
 
--- judging finds no other faults
+-- decoding finds no other faults
 abbrev pub FailsInside : {A : Type 0} → Judge A → Type 0
 FailsInside judge = (bytes : List ℕ) (bad : Fault) → judge bytes ≡ fault bad → IsInside bad
 

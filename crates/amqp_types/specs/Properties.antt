@@ -1,4 +1,4 @@
--- The 14 properties of a message. A mask says which of them are set, and those stand behind it (AMQP 0-9-1, section 4.2.6.1).
+-- The 14 properties of a message. A mask says which of them are set, and those stand after it (AMQP 0-9-1, section 4.2.6.1).
 use Rattle.std.specs.Prelude.{ℕ, List, [], ◌∷◌}
 use Rattle.amqp_types.specs.Numbers.{bytes1, bytes8}
 use Rattle.amqp_types.specs.Slots.{Form, number_form, short_string_form, table_form}

@@ -1,4 +1,4 @@
--- The canonical bytes of properties, their one strict spelling.
+-- The canonical bytes of properties, their one strict encoding.
 use Rattle.std.specs.Prelude.{ℕ, ◌+◌, ◌^◌, List, [], ◌∷◌, ◌++◌, Bool, false, ◌||◌, Option, Some, None, Result}
 use Rattle.amqp_types.specs.Numbers.{bytes2}
 use Rattle.amqp_types.specs.Sizes.{measured}
@@ -22,7 +22,7 @@ unfoldable pub optional_bytes : Form → Option Item → List ℕ
 optional_bytes form None = []
 optional_bytes form (Some item) = form_bytes form (item ∷ [])
 
--- the properties that are set, one behind another
+-- the properties that are set, one after another
 unfoldable pub set_bytes : List Property → List (Option Item) → List ℕ
 set_bytes [] options = []
 set_bytes (p ∷ ps) [] = []

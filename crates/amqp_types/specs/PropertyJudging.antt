@@ -17,7 +17,7 @@ unfoldable pub judge_optional : Bool → Form → Judge (Option Item)
 judge_optional true form bytes = judge_map first_item (judge_form form) bytes
 judge_optional false form bytes = took None 0
 
--- the properties whose bits are set in the mask, one behind another
+-- the properties whose bits are set in the mask, one after another
 unfoldable pub judge_set : ℕ → List Property → Judge (List (Option Item))
 judge_set mask [] bytes = took [] 0
 judge_set mask (p ∷ ps) bytes = judge_both (judge_optional (flag_at mask p.bit) p.form) (judge_set mask ps) (λ option options. option ∷ options) bytes

@@ -26,7 +26,7 @@ SetsAreLawful = (mask : ℕ) (ps : List Property) → give_one ps ≡ true → I
 abbrev pub PropertiesAreLawful : Type 0
 PropertiesAreLawful = IsLawful judge_properties SpellsProperties properties_bytes
 
--- what is spelled is neither long nor too deep
+-- what is encoded is neither long nor too deep
 abbrev pub SpelledPropertiesAreBounded : Type 0
 SpelledPropertiesAreBounded = (level : Level) (bytes : List ℕ) (options : List (Option Item)) → SpellsProperties level bytes options → (any_deep_option options ≡ false) × (any_long_option options ≡ false)
 

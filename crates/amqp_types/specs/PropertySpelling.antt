@@ -1,4 +1,4 @@
--- How properties are spelled, at each level.
+-- How properties are encoded, at each level.
 use Rattle.std.specs.Prelude.{◌≡◌, ◌<◌, ◌^◌, ℕ, List, [], ◌∷◌, ◌++◌, Bool, true, false, Option, None}
 use Rattle.amqp_types.specs.Levels.{Level}
 use Rattle.amqp_types.specs.Sequences.{SpellsMade, SpellsBoth}
@@ -14,7 +14,7 @@ abbrev pub SpellsOptional : Level → Bool → Form → List ℕ → Option Item
 SpellsOptional level true form bytes option = SpellsMade (SpellsForm level form) first_item bytes option
 SpellsOptional level false form bytes option = (bytes ≡ []) × (option ≡ None)
 
--- properties one behind another, each of which is there exactly where its bit is set in the mask
+-- properties one after another, each of which is there exactly where its bit is set in the mask
 abbrev pub SpellsSet : Level → ℕ → List Property → List ℕ → List (Option Item) → Type 0
 SpellsSet level mask [] bytes options = (bytes ≡ []) × (options ≡ [])
 SpellsSet level mask (p ∷ ps) bytes options = SpellsBoth (SpellsOptional level (flag_at mask p.bit) p.form) (SpellsSet level mask ps) (λ option others. option ∷ others) bytes options

@@ -1,4 +1,4 @@
--- The table of methods: of each class its methods, each with its id and its slots in the order in which they stand. They are those of AMQP 0-9-1's reference of classes and methods, with the class access of earlier versions and the extensions that RabbitMQ has made.
+-- The table of methods: of each class its methods, each with its id and its fields in the order in which they stand. They are those of AMQP 0-9-1's reference of classes and methods, with the class access of earlier versions and the extensions that RabbitMQ has made.
 use Rattle.std.specs.Prelude.{ℕ, ◌==◌, false, List, [], ◌∷◌, Option, option_and_then}
 use Rattle.std.specs.Map.{lookup}
 use Rattle.amqp_types.specs.Numbers.{bytes1, bytes2, bytes4, bytes8}
@@ -45,7 +45,7 @@ reserved_short_string = reserved_slot short_string_form (text_item [] ∷ [])
 abbrev reserved_long_string : Slot
 reserved_long_string = reserved_slot long_string_form (bytes_item [] ∷ [])
 
--- a method's id and its slots
+-- a method's id and its fields
 abbrev pub Row : Type 0
 Row = ℕ × List Slot
 
@@ -241,6 +241,6 @@ classes =
 unfoldable pub rows_of : ℕ → Option (List Row)
 rows_of class = lookup (λ id. class == id) classes
 
--- the slots of a method
+-- the fields of a method
 unfoldable pub slots_at : ℕ → ℕ → Option (List Slot)
 slots_at class id = option_and_then (λ rows. lookup (λ k. id == k) rows) (rows_of class)

@@ -1,4 +1,4 @@
--- One thing behind another.
+-- One thing after another.
 use Rattle.std.specs.Prelude.{◌≡◌, ℕ, ◌+◌, List, ◌++◌, drop}
 use Rattle.amqp_types.specs.Judging.{Judge, took, ◌>>=◌}
 
@@ -12,14 +12,14 @@ pub record SpellsMade {A B : Type 0} (Spells : List ℕ → A → Type 0) (make 
   pub spelled : Spells bytes thing
   pub made : y ≡ make thing
 
--- two things, one behind the other, and what they are joined to
+-- two things, one after the other, and what they are joined to
 abbrev pub judge_both : {A B C : Type 0} → Judge A → Judge B → (A → B → C) → Judge C
 judge_both first second join bytes = do
   x ← first bytes
   y ← second (drop x.1 bytes)
   took (join x.0 y.0) (x.1 + y.1)
 
--- The bytes are those of two things, one behind the other, and z is what they are joined to.
+-- The bytes are those of two things, one after the other, and z is what they are joined to.
 pub record SpellsBoth {A B C : Type 0} (First : List ℕ → A → Type 0) (Second : List ℕ → B → Type 0) (join : A → B → C) (bytes : List ℕ) (z : C) : Type 0 where
   pub front : List ℕ
   pub behind : List ℕ

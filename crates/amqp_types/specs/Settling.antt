@@ -1,4 +1,4 @@
--- The entries of a table: each key once, in rising order. Of equal keys the last one counts.
+-- The entries of a table: each key once, in ascending order. Of duplicate keys the last one wins.
 use Rattle.std.specs.Prelude.{◌≡◌, ℕ, List, [], ◌∷◌, Option, Some, None, if◌then◌else◌}
 use Rattle.std.specs.Ordering.{nat_cmp}
 use Rattle.std.specs.Cmp.Lexicographic.{slice_cmp}

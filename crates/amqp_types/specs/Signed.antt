@@ -8,7 +8,7 @@ use Rattle.amqp_types.specs.Numbers.{NumberWidth, width_of, number_bytes, judge_
 abbrev pub signed_bytes : NumberWidth → ℤ → List ℕ
 signed_bytes width n = number_bytes width (cast_unsigned (width_of width) n)
 
--- A signed number has one spelling, at every level: its bits in two's complement.
+-- A signed number has one encoding, at every level: its bits in two's complement.
 pub record SpellsSigned (width : NumberWidth) (bytes : List ℕ) (n : ℤ) : Type 0 where
   pub bits : ℕ
   pub spelled : SpellsNumber width bytes bits

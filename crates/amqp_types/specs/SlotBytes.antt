@@ -1,4 +1,4 @@
--- The canonical bytes of slots, their one strict spelling.
+-- The canonical bytes of fields, their one strict encoding.
 use Rattle.std.specs.Prelude.{ℕ, List, [], ◌∷◌, ◌++◌, take, drop, Bool, false, ◌||◌, Result}
 use Rattle.amqp_types.specs.Numbers.{number_bytes}
 use Rattle.amqp_types.specs.Flags.{flags_bytes}
@@ -30,7 +30,7 @@ form_bytes long_string_form (bytes_item bytes ∷ items) = with_length bytes
 form_bytes table_form (entries_item es ∷ items) = table_bytes es
 form_bytes form items = []
 
--- the bytes of slots that give these items
+-- the bytes of fields that give these items
 unfoldable pub slots_bytes : List Slot → List Item → List ℕ
 slots_bytes [] items = []
 slots_bytes (kept_slot form ∷ slots) items = form_bytes form (take (item_count form) items) ++ slots_bytes slots (drop (item_count form) items)

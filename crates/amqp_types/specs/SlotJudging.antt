@@ -1,4 +1,4 @@
--- Reading slots from the left out of one container.
+-- Reading fields from the left out of one container.
 use Rattle.std.specs.Prelude.{◌≡◌, ℕ, ◌-◌, List, [], ◌∷◌, ◌++◌, length, drop, map, Result, Ok, Err}
 use Rattle.amqp_types.specs.Judging.{Judge, took}
 use Rattle.amqp_types.specs.Answers.{Refuses}
@@ -26,12 +26,12 @@ abbrev pub judge_slot : Slot → Judge (List Item)
 judge_slot (kept_slot form) = judge_form form
 judge_slot (reserved_slot form constant) = judge_dropped form
 
--- slots, one behind another
+-- fields, one after another
 unfoldable pub judge_slots : List Slot → Judge (List Item)
 judge_slots [] bytes = took [] 0
 judge_slots (slot ∷ slots) bytes = judge_both (judge_slot slot) (judge_slots slots) (λ xs ys. xs ++ ys) bytes
 
--- A step of a reader, whose bytes left were old and are new: what its answer stands for was taken, or it refused.
+-- A step of a reader, whose bytes left were old and are new: what its result stands for was taken, or it refused.
 abbrev pub Steps : {X Y : Type 0} → (X → Y) → Result X ParserError → List ℕ → List ℕ → Judge Y → Type 0
 Steps view (Ok x) old new judge = (judge old ≡ took (view x) (length old - length new)) × (new ≡ drop (length old - length new) old)
 Steps view (Err error) old new judge = Refuses error (judge old)

@@ -1,4 +1,4 @@
--- The laws of slots and of lists of slots.
+-- The laws of fields and of lists of fields.
 use Rattle.std.specs.Prelude.{◌≡◌, ◌≤◌, ◌<◌, ℕ, zero, suc, nat_lt, nat_le, List, [], ◌∷◌, ◌++◌, length, take, drop, Bool, true, false, ◌&&◌, Ok}
 use Rattle.std.specs.Str.{IsUtf8}
 use Rattle.amqp_types.specs.Levels.{Level}
@@ -38,7 +38,7 @@ FormsAreLawful = (form : Form) → IsLawful (judge_form form) (λ level. SpellsF
 abbrev pub SlotsAreLawful : Type 0
 SlotsAreLawful = (slots : List Slot) → are_least slots ≡ true → IsLawful (judge_slots slots) (λ level. SpellsSlots level slots) (slots_bytes slots)
 
--- what is spelled is neither long nor too deep
+-- what is encoded is neither long nor too deep
 abbrev pub SpelledSlotsAreBounded : Type 0
 SpelledSlotsAreBounded = (level : Level) (slots : List Slot) (bytes : List ℕ) (items : List Item) → SpellsSlots level slots bytes items → (any_deep items ≡ false) × (any_long items ≡ false)
 

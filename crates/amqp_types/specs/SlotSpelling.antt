@@ -1,4 +1,4 @@
--- How slots are spelled, at each level.
+-- How fields are encoded, at each level.
 use Rattle.std.specs.Prelude.{◌≡◌, ℕ, List, [], ◌∷◌, ◌++◌, map}
 use Rattle.amqp_types.specs.Levels.{Level}
 use Rattle.amqp_types.specs.Sequences.{SpellsMade, SpellsBoth}
@@ -15,7 +15,7 @@ SpellsForm level short_string_form = SpellsMade SpellsShortString (λ text. text
 SpellsForm level long_string_form = SpellsMade SpellsLongString (λ bytes. bytes_item bytes ∷ [])
 SpellsForm level table_form = SpellsMade (SpellsFieldTable level) (λ es. entries_item es ∷ [])
 
--- A reserved slot gives nothing. From level tidy on it is spelled as its constant.
+-- A reserved field gives nothing. From level tidy on it is encoded as its constant.
 pub record SpellsReserved (level : Level) (form : Form) (constant : List Item) (bytes : List ℕ) (items : List Item) : Type 0 where
   pub dropped : List Item
   pub spelled : SpellsForm level form bytes dropped
@@ -26,7 +26,7 @@ abbrev pub SpellsSlot : Level → Slot → List ℕ → List Item → Type 0
 SpellsSlot level (kept_slot form) = SpellsForm level form
 SpellsSlot level (reserved_slot form constant) = SpellsReserved level form constant
 
--- slots, one behind another
+-- fields, one after another
 abbrev pub SpellsSlots : Level → List Slot → List ℕ → List Item → Type 0
 SpellsSlots level [] bytes items = (bytes ≡ []) × (items ≡ [])
 SpellsSlots level (slot ∷ slots) bytes items = SpellsBoth (SpellsSlot level slot) (SpellsSlots level slots) (λ xs ys. xs ++ ys) bytes items

@@ -12,7 +12,7 @@ use Rattle.amqp_types.specs.declared.errors.GenError.{GenError}
 abbrev pub short_string_bytes : List ℕ → List ℕ
 short_string_bytes text = length text ∷ text
 
--- A short string has one spelling, at every level.
+-- A short string has one encoding, at every level.
 pub record SpellsShortString (bytes text : List ℕ) : Type 0 where
   pub fits : length text < 256
   pub utf8 : IsUtf8 text
@@ -38,7 +38,7 @@ is_too_long content = nat_le (2 ^ 32) (length content)
 abbrev pub long_string_size : List ℕ → Result ℕ GenError
 long_string_size content = measured false (is_too_long content) (with_length content)
 
--- A long string has one spelling, at every level.
+-- A long string has one encoding, at every level.
 pub record SpellsLongString (bytes content : List ℕ) : Type 0 where
   pub fits : length content < 2 ^ 32
   pub bytes_are : bytes ≡ with_length content

@@ -1,4 +1,4 @@
--- Whether what is judged stands as it is written, but for the values in it: no unused bit is set, and what is read and dropped holds its constant.
+-- Whether what is decoded stands as it is written, but for the values in it: no unused bit is set, and what is read and dropped holds its constant.
 use Rattle.std.specs.Prelude.{◌≡◌, ℕ, ◌^◌, ◌==◌, ◌&&◌, Bool, true, false, List, [], ◌∷◌, ◌++◌, take, drop, nat_lt, Option, Some, None, not}
 use Rattle.std.specs.Int.{w16, from_be_bytes}
 use Rattle.amqp_types.specs.Levels.{tidy}
@@ -16,7 +16,7 @@ use Rattle.amqp_types.specs.PropertyJudging.{judge_properties}
 use Rattle.amqp_types.specs.PropertySpelling.{SpellsProperties}
 use Rattle.amqp_types.specs.ContentHeaders.{header_slots, judge_content_header, SpellsContentHeader}
 
--- ---- tests of bytes that are judged
+-- ---- tests of bytes that are decoded
 
 -- how many bytes were taken
 abbrev pub used_by : {A : Type 0} → Judged A → ℕ
@@ -24,13 +24,13 @@ used_by (took x n) = n
 used_by past = 0
 used_by (fault bad) = 0
 
--- the bytes begin with the wanted ones
+-- the bytes begin with these
 abbrev pub begins_with : List ℕ → List ℕ → Bool
 begins_with [] bytes = true
 begins_with (want ∷ wanted) [] = false
 begins_with (want ∷ wanted) (byte ∷ bytes) = (byte == want) && begins_with wanted bytes
 
--- a test of a first thing, and one of what stands behind it
+-- a test of a first thing, and one of what stands after it
 abbrev pub test_both : {A : Type 0} → Judge A → (List ℕ → Bool) → (List ℕ → Bool) → List ℕ → Bool
 test_both first one two bytes = one bytes && two (drop (used_by (first bytes)) bytes)
 
@@ -39,7 +39,7 @@ abbrev pub is_tidy_form : Form → List ℕ → Bool
 is_tidy_form (flags_form count) (byte ∷ bytes) = nat_lt byte (2 ^ count)
 is_tidy_form form bytes = true
 
--- a reserved slot stands as its constant is written
+-- a reserved field stands as its constant is written
 abbrev pub is_tidy_slot : Slot → List ℕ → Bool
 is_tidy_slot (kept_slot form) bytes = is_tidy_form form bytes
 is_tidy_slot (reserved_slot form constant) bytes = begins_with (form_bytes form constant) bytes
@@ -48,7 +48,7 @@ unfoldable pub are_tidy_slots : List Slot → List ℕ → Bool
 are_tidy_slots [] bytes = true
 are_tidy_slots (slot ∷ slots) bytes = test_both (judge_slot slot) (is_tidy_slot slot) (are_tidy_slots slots) bytes
 
--- the slots of a method, where it is in the table
+-- the fields of a method, where it is in the table
 abbrev pub are_tidy_known : Option (List Slot) → List ℕ → Bool
 are_tidy_known (Some slots) bytes = are_tidy_slots slots bytes
 are_tidy_known None bytes = true
@@ -56,7 +56,7 @@ are_tidy_known None bytes = true
 abbrev pub short_at : ℕ → List ℕ → ℕ
 short_at place bytes = from_be_bytes w16 (take 2 (drop place bytes))
 
--- behind a class id and a method id, of two bytes each, the slots of that method
+-- after a class id and a method id, of two bytes each, the fields of that method
 unfoldable pub is_tidy_payload : List ℕ → Bool
 is_tidy_payload bytes = are_tidy_known (slots_at (short_at 0 bytes) (short_at 2 bytes)) (drop 4 bytes)
 
@@ -70,7 +70,7 @@ is_tidy_content_header = test_both (judge_slots header_slots) (are_tidy_slots he
 
 -- ---- laws
 
--- A test tells of bytes that are judged whether they spell what is judged.
+-- A test says of bytes that are decoded whether they encode what is decoded.
 pub record IsToldBy {A : Type 0} (judge : Judge A) (Spells : List ℕ → A → Type 0) (test : List ℕ → Bool) : Type 0 where
   pub spelled : (bytes : List ℕ) (x : A) (n : ℕ) → IsBytes bytes → judge bytes ≡ took x n → test bytes ≡ true → Spells (take n bytes) x
   pub tested : (bytes rest : List ℕ) (x : A) → Spells bytes x → test (bytes ++ rest) ≡ true

@@ -1,4 +1,4 @@
--- The canonical bytes of values, their one strict spelling.
+-- The canonical bytes of values, their one strict encoding.
 use Rattle.std.specs.Prelude.{ℕ, nat_lt, ◌||◌, List, [], ◌∷◌, ◌++◌, Bool, false, Result}
 use Rattle.amqp_types.specs.Numbers.{NumberWidth, bytes1, bytes2, bytes4, bytes8, number_bytes}
 use Rattle.amqp_types.specs.Signed.{signed_bytes}
@@ -38,17 +38,17 @@ abbrev mutual
   value_bytes (table_value es) = with_length (entries_bytes es)
   value_bytes void_value = []
 
-  -- each value behind its tag
+  -- each value after its tag
   pub values_bytes : FieldValues → List ℕ
   values_bytes no_values = []
   values_bytes (next_value v vs) = (tag_byte (tag_of v) ∷ value_bytes v) ++ values_bytes vs
 
-  -- each key, and behind it the tag and the value
+  -- each key, and after it the tag and the value
   pub entries_bytes : FieldEntries → List ℕ
   entries_bytes no_entries = []
   entries_bytes (next_entry k v es) = (short_string_bytes k ++ tag_byte (tag_of v) ∷ value_bytes v) ++ entries_bytes es
 
--- a value behind its tag
+-- a value after its tag
 abbrev pub tagged_bytes : FieldValue → List ℕ
 tagged_bytes v = tag_byte (tag_of v) ∷ value_bytes v
 
@@ -76,7 +76,7 @@ abbrev mutual
 abbrev pub is_deep : FieldValue → Bool
 is_deep v = nat_lt 64 (depth v)
 
--- the size of a value behind its tag, of an array and of a table
+-- the size of a value after its tag, of an array and of a table
 abbrev pub tagged_size : FieldValue → Result ℕ GenError
 tagged_size v = measured (is_deep v) (is_long v) (tagged_bytes v)
 

@@ -38,11 +38,11 @@ abbrev pub whole : {A : Type 0} → ℕ → Result A Fault → Judged A
 whole n (Ok x) = took x n
 whole n (Err bad) = fault bad
 
--- a key, and behind it its value
+-- a key, and after it its value
 unfoldable pub judge_entry : Judge FieldValue → Judge Entry
 judge_entry value = judge_both judge_short_string value (λ k v. (k, v))
 
--- what an array and a table hold, where `value` judges a value in them
+-- what an array and a table hold, where `value` decodes a value in them
 unfoldable pub judge_array : Judge FieldValue → Judge (List FieldValue)
 judge_array value bytes = do
   content ← judge_long_string bytes
@@ -68,7 +68,7 @@ judge_unsigned_kind kind = judge_map (unsigned_value kind) (judge_number (unsign
 abbrev pub judge_bytes_kind : BytesKind → Judge FieldValue
 judge_bytes_kind kind = judge_map (bytes_value kind) judge_long_string
 
--- the value behind a known tag; `nested` judges a value one level deeper, where there is room for one
+-- the value after a known tag; `nested` decodes a value one level deeper, where there is room for one
 unfoldable pub judge_behind : Option (Judge FieldValue) → FieldTag → Judge FieldValue
 judge_behind nested tag.Boolean bytes = judge_map boolean_value judge_boolean bytes
 judge_behind nested tag.ShortShortInt bytes = judge_signed_kind short_short_int bytes
@@ -90,7 +90,7 @@ judge_behind (Some value) tag.FieldTable bytes = judge_map (λ es. table_value (
 judge_behind nested tag.ByteArray bytes = judge_bytes_kind byte_array bytes
 judge_behind nested tag.Void bytes = took void_value 0
 
--- behind a tag byte, where it is a known one
+-- after a tag byte, where it is a known one
 abbrev pub behind_tag : Option (Judge FieldValue) → Option FieldTag → Judge FieldValue
 behind_tag nested None bytes = fault unknown_tag
 behind_tag nested (Some t) bytes = judge_behind nested t bytes >>= λ v. took v.0 (1 + v.1)
@@ -99,7 +99,7 @@ unfoldable pub judge_tagged : Option (Judge FieldValue) → Judge FieldValue
 judge_tagged nested [] = past
 judge_tagged nested (byte ∷ bytes) = behind_tag nested (tag_at byte) bytes
 
--- how a value one level deeper is judged, where there is room for so many more levels
+-- how a value one level deeper is decoded, where there is room for so many more levels
 unfoldable pub nested : ℕ → Option (Judge FieldValue)
 nested zero = None
 nested (suc room) = Some (judge_tagged (nested room))

@@ -24,11 +24,11 @@ ArraysAreLawful = IsLawful judge_field_array SpellsFieldArray array_bytes
 abbrev pub TablesAreLawful : Type 0
 TablesAreLawful = IsLawful judge_field_table SpellsFieldTable table_bytes
 
--- what is spelled with so much room is neither long nor deeper
+-- what is encoded with so much room is neither long nor deeper
 abbrev pub SpelledIsBounded : Type 0
 SpelledIsBounded = (level : Level) (room : ℕ) (bytes : List ℕ) (v : FieldValue) → SpellsValue level room bytes v → (is_long v ≡ false) × (depth v ≤ room)
 
--- of equal keys the last one counts: putting the entries into a table one after another does just that
+-- of duplicate keys the last one wins: putting the entries into a table one after another does just that
 abbrev pub SettledIsSettling : Type 0
 SettledIsSettling = (entries table : List Entry) → IsSettled table entries ↔ (table ≡ settled entries)
 

@@ -1,4 +1,4 @@
--- How values are spelled, at each level.
+-- How values are encoded, at each level.
 use Rattle.std.specs.Prelude.{◌≡◌, ℕ, zero, suc, ◌<◌, List, [], ◌∷◌, ◌++◌}
 use Rattle.amqp_types.specs.Levels.{Level, plain, tidy, strict}
 use Rattle.amqp_types.specs.Sequences.{SpellsBoth}
@@ -11,20 +11,20 @@ use Rattle.amqp_types.specs.ValueBytes.{signed_width, unsigned_width}
 use Rattle.amqp_types.specs.Tags.{SpellsTag, tag_of}
 use Rattle.amqp_types.specs.Settling.{IsSettled}
 
--- a list of things, one behind another
+-- a list of things, one after another
 abbrev pub SpellsEach : {A : Type 0} → (List ℕ → A → Type 0) → List ℕ → List A → Type 0
 SpellsEach Spells bytes [] = bytes ≡ []
 SpellsEach Spells bytes (x ∷ xs) = (here : List ℕ) × (behind : List ℕ) × (bytes ≡ here ++ behind) × Spells here x × SpellsEach Spells behind xs
 
--- a key, and behind it its value
+-- a key, and after it its value
 abbrev pub SpellsEntry : (List ℕ → FieldValue → Type 0) → List ℕ → Entry → Type 0
 SpellsEntry Spells = SpellsBoth SpellsShortString Spells (λ k v. (k, v))
 
--- a scale, and behind it a number
+-- a scale, and after it a number
 abbrev pub SpellsDecimal : List ℕ → ℕ × ℕ → Type 0
 SpellsDecimal = SpellsBoth (SpellsNumber bytes1) (SpellsNumber bytes4) (λ scale n. (scale, n))
 
--- An array, where `Spells` says how values in it are spelled: the length of what fills it, and the values one behind another.
+-- An array, where `Spells` says how values in it are encoded: the length of what fills it, and the values one after another.
 pub record SpellsArray (Spells : List ℕ → FieldValue → Type 0) (bytes : List ℕ) (vs : List FieldValue) : Type 0 where
   pub inner : List ℕ
   pub framed : SpellsLongString bytes inner
@@ -36,8 +36,8 @@ IfStrict plain Rule = Unit {0}
 IfStrict tidy Rule = Unit {0}
 IfStrict strict Rule = Rule
 
--- A table: the length of what fills it, and entries one behind another, of which the last one of each key counts. At level strict
--- the entries are the table: each key stands once, in rising order.
+-- A table: the length of what fills it, and entries one after another, of which the last one of each key counts. At level strict
+-- the entries are the table: each key stands once, in ascending order.
 pub record SpellsTable (level : Level) (Spells : List ℕ → FieldValue → Type 0) (bytes : List ℕ) (table : List Entry) : Type 0 where
   pub inner : List ℕ
   pub entries : List Entry
@@ -46,7 +46,7 @@ pub record SpellsTable (level : Level) (Spells : List ℕ → FieldValue → Typ
   pub counts : IsSettled table entries
   pub once : IfStrict level (entries ≡ table)
 
--- A value without its tag, with room for so many nested tables and arrays. `Spells` says how values one level deeper are spelled.
+-- A value without its tag, with room for so many nested tables and arrays. `Spells` says how values one level deeper are encoded.
 abbrev pub SpellsBehind : Level → ℕ → (List ℕ → FieldValue → Type 0) → List ℕ → FieldValue → Type 0
 SpellsBehind level room Spells bytes (boolean_value b) = SpellsBoolean level bytes b
 SpellsBehind level room Spells bytes (signed_value kind n) = SpellsSigned (signed_width kind) bytes n
@@ -57,7 +57,7 @@ SpellsBehind level room Spells bytes (array_value vs) = (0 < room) × SpellsArra
 SpellsBehind level room Spells bytes (table_value es) = (0 < room) × SpellsTable level Spells bytes (pairs es)
 SpellsBehind level room Spells bytes void_value = bytes ≡ []
 
--- a tag byte, and behind it the value
+-- a tag byte, and after it the value
 pub record SpellsTagged (level : Level) (Spells : List ℕ → FieldValue → Type 0) (bytes : List ℕ) (v : FieldValue) : Type 0 where
   pub byte : ℕ
   pub behind : List ℕ

@@ -1,3 +1,5 @@
+//! Byte arrays.
+
 ghost use Rattle.std.specs.Prelude.{◌≡◌, ◌↔◌, [], length, nat_eq, IfOk, IsTrue};
 ghost use Rattle.std.specs.Cmp.Lexicographic.{pointwise, nat_list_eq_equiv};
 ghost use Rattle.std.specs.Cmp.{partial_equiv_from_equiv};
@@ -46,7 +48,7 @@ impl ByteArray {
         ByteArray { bytes }
     }
 
-    /// An equal list of its own.
+    /// A deep copy.
     pub fn copy(&self, alloc: Global) -> Result<ByteArray, NoMemory>
         ensures { IfOk result (λ copied. copied ≡ self.now) }
     {

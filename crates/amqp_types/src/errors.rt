@@ -1,10 +1,10 @@
-//! Why a value was not made, read or written.
+//! Why a value was not made, decoded or encoded.
 
 use std::alloc::{AllocError, AllocFailed};
 use std::error::Error;
 use std::fmt;
 
-/// Want of memory.
+/// Out of memory.
 #[derive(Clone, Copy, Debug, PartialEq, Eq)]
 pub struct NoMemory;
 
@@ -32,10 +32,10 @@ impl<T: Drop> From<AllocFailed<T>> for NoMemory {
     }
 }
 
-/// Why bytes were not read.
+/// Why bytes were not decoded.
 #[derive(Clone, Copy, Debug, PartialEq, Eq)]
 pub enum ParserError {
-    /// More bytes are wanted than are there.
+    /// The input ends inside what is decoded.
     Incomplete,
 
     /// The first byte of a frame names no frame type.
@@ -44,7 +44,7 @@ pub enum ParserError {
     /// A protocol header that does not begin with `AMQP` and 0.
     BadProtocolHeader,
 
-    /// The byte behind a payload is not 206.
+    /// The byte after a payload is not 206.
     BadFrameEnd,
 
     /// A class id that names no class.
@@ -53,10 +53,10 @@ pub enum ParserError {
     /// A method id that names no method of its class.
     UnknownMethod,
 
-    /// Something passes the end of a container whose bytes are all there.
+    /// Something passes the end of what it stands in, whose bytes are all there.
     ShortPayload,
 
-    /// Bytes are left behind the last field of a payload.
+    /// Bytes are left after the last field of a payload.
     TrailingBytes,
 
     /// A short string that is not UTF-8.
@@ -68,7 +68,7 @@ pub enum ParserError {
     /// Tables or arrays nested more than 64 deep.
     TooDeep,
 
-    /// Want of memory.
+    /// Out of memory.
     NoMemory,
 }
 
@@ -141,7 +141,7 @@ impl From<NoMemory> for ParserError {
     }
 }
 
-/// Why a value was not written.
+/// Why a value was not encoded.
 #[derive(Clone, Copy, Debug, PartialEq, Eq)]
 pub enum GenError {
     /// Tables or arrays nested more than 64 deep.
@@ -153,7 +153,7 @@ pub enum GenError {
     /// The slice is shorter than the bytes.
     BufferTooSmall,
 
-    /// Want of memory.
+    /// Out of memory.
     NoMemory,
 }
 

@@ -1,3 +1,5 @@
+//! Flags: up to eight truth values in one byte.
+
 ghost use Rattle.std.specs.Prelude.{◌↔◌, IsTrue, ◌≡◌, ◌≢◌, ◌++◌, ◌∷◌, [], ◌≤◌, ◌<◌, ◌+◌, ◌^◌, length, slice_get, Ok, IfOk};
 ghost use Rattle.amqp_types.specs.Answers.{AnswersFully};
 ghost use Rattle.amqp_types.specs.Flags.{flag_at, flags_from, flags_byte, flags_bytes, judge_flags};
@@ -138,7 +140,7 @@ pub fn flag_of_byte(byte: u8, k: u8) -> bool
     (byte >> k) & 1 == 1
 }
 
-/// Reads a byte of `n` flags, whose other bits may be any.
+/// Decodes a byte of `n` flags, whose other bits may be any.
 #[tactic(auto, unfolding(crate::specs::Flags::judge_flags))]
 pub fn parse_flags(i: &[u8], n: usize) -> Result<(usize, AMQPFlags), ParserError>
     requires some { 1 ≤ n }
@@ -161,7 +163,7 @@ pub fn size_flags(value: &AMQPFlags) -> Result<u64, GenError>
     Ok(1)
 }
 
-/// Puts a byte of flags at a place of a slice, and answers the place behind it.
+/// Puts a byte of flags at a place of a slice, and returns the place after it.
 pub fn put_flags(buf: &mut [u8], at: usize, value: &AMQPFlags) -> usize
     requires some { value.now ≢ [] }
     requires room { at + length (flags_bytes value.now) ≤ length buf.old }

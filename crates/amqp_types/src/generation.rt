@@ -1,4 +1,4 @@
-//! Writing numbers and booleans: their size, their bytes at a place of a slice, and behind a vector.
+//! Encoding numbers and booleans: their size, their bytes at a place of a slice, and at the end of a vector.
 
 ghost use Rattle.std.specs.Prelude.{◌≡◌, ◌+◌, ◌≤◌, length, Ok};
 ghost use Rattle.amqp_types.specs.Writing.{written, Puts, Appends};
@@ -9,7 +9,7 @@ use crate::aliases::{Boolean, Identifier, LongLongUInt, LongUInt, ShortShortUInt
 use crate::errors::GenError;
 use std::alloc::Global;
 
-/// Puts bytes at a place of a slice, and answers the place behind them.
+/// Puts bytes at a place of a slice, and returns the place after them.
 #[tactic(auto, unfolding(crate::specs::Writing::written))]
 pub fn put_bytes(buf: &mut [u8], at: usize, bytes: &[u8]) -> usize
     requires room { at + length bytes.now ≤ length buf.old }
@@ -36,7 +36,7 @@ pub fn size_short_short_uint(value: &ShortShortUInt) -> Result<u64, GenError>
     Ok(1)
 }
 
-/// Puts a number of 1 byte at a place of a slice, and answers the place behind it.
+/// Puts a number of 1 byte at a place of a slice, and returns the place after it.
 pub fn put_short_short_uint(buf: &mut [u8], at: usize, value: &ShortShortUInt) -> usize
     requires room { at + length (number_bytes bytes1 value.now) ≤ length buf.old }
     ensures { Puts buf.old buf.new at (number_bytes bytes1 value.now) result }
@@ -63,7 +63,7 @@ pub fn size_short_uint(value: &ShortUInt) -> Result<u64, GenError>
     Ok(2)
 }
 
-/// Puts a number of 2 bytes at a place of a slice, and answers the place behind it.
+/// Puts a number of 2 bytes at a place of a slice, and returns the place after it.
 pub fn put_short_uint(buf: &mut [u8], at: usize, value: &ShortUInt) -> usize
     requires room { at + length (number_bytes bytes2 value.now) ≤ length buf.old }
     ensures { Puts buf.old buf.new at (number_bytes bytes2 value.now) result }
@@ -86,7 +86,7 @@ pub fn size_long_uint(value: &LongUInt) -> Result<u64, GenError>
     Ok(4)
 }
 
-/// Puts a number of 4 bytes at a place of a slice, and answers the place behind it.
+/// Puts a number of 4 bytes at a place of a slice, and returns the place after it.
 pub fn put_long_uint(buf: &mut [u8], at: usize, value: &LongUInt) -> usize
     requires room { at + length (number_bytes bytes4 value.now) ≤ length buf.old }
     ensures { Puts buf.old buf.new at (number_bytes bytes4 value.now) result }
@@ -109,7 +109,7 @@ pub fn size_long_long_uint(value: &LongLongUInt) -> Result<u64, GenError>
     Ok(8)
 }
 
-/// Puts a number of 8 bytes at a place of a slice, and answers the place behind it.
+/// Puts a number of 8 bytes at a place of a slice, and returns the place after it.
 pub fn put_long_long_uint(buf: &mut [u8], at: usize, value: &LongLongUInt) -> usize
     requires room { at + length (number_bytes bytes8 value.now) ≤ length buf.old }
     ensures { Puts buf.old buf.new at (number_bytes bytes8 value.now) result }
@@ -136,7 +136,7 @@ pub fn size_id(value: &Identifier) -> Result<u64, GenError>
     Ok(2)
 }
 
-/// Puts an id, 2 bytes at a place of a slice, and answers the place behind it.
+/// Puts an id, 2 bytes at a place of a slice, and returns the place after it.
 pub fn put_id(buf: &mut [u8], at: usize, value: &Identifier) -> usize
     requires room { at + length (number_bytes bytes2 value.now) ≤ length buf.old }
     ensures { Puts buf.old buf.new at (number_bytes bytes2 value.now) result }
@@ -159,7 +159,7 @@ pub fn size_boolean(value: &Boolean) -> Result<u64, GenError>
     Ok(1)
 }
 
-/// Puts a truth value at a place of a slice, and answers the place behind it.
+/// Puts a truth value at a place of a slice, and returns the place after it.
 pub fn put_boolean(buf: &mut [u8], at: usize, value: &Boolean) -> usize
     requires room { at + length (boolean_bytes value.now) ≤ length buf.old }
     ensures { Puts buf.old buf.new at (boolean_bytes value.now) result }

@@ -1,11 +1,11 @@
-//! Making room behind a vector.
+//! Making room at the end of a vector.
 
 ghost use Rattle.std.specs.Prelude.{◌≡◌, ◌++◌, ◌≤◌, ◌+◌, replicate, vec_len, IfOk, IfErr};
 ghost use Rattle.amqp_types.specs.declared.errors.GenError.TheVariants as gen_errors;
 
 use crate::errors::GenError;
 
-/// Makes room for `size` more bytes, which are zero, and answers where they begin.
+/// Makes room for `size` more bytes, which are zero, and returns where they begin.
 pub fn grow(out: &mut Vec<u8>, size: u64) -> Result<usize, GenError>
     ensures place { IfOk result (λ at. at ≡ vec_len out.old) }
     ensures grown { IfOk result (λ _. out.new.items ≡ out.old.items ++ replicate size 0) }

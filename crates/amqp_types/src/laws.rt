@@ -2,7 +2,7 @@
 
 ghost use Rattle.amqp_types.specs.Laws.{BooleansSpell};
 
-/// Judging a truth value takes exactly what is spelled, its strict spelling is its canonical byte,
+/// Decoding a truth value takes exactly what is encoded, its strict encoding is its canonical byte,
 /// and what is strict is tidy, and what is tidy is plain.
 pub fn booleans_spell()
     ensures { BooleansSpell }

@@ -1,9 +1,11 @@
-//! The types that AMQP 0-9-1 frames are made of: numbers, booleans and byte arrays, how they are
-//! read and written, and the errors of reading and writing.
+//! The types that AMQP 0-9-1 frames are made of: numbers, booleans, strings, flags and byte arrays, how they are
+//! decoded and encoded, and the errors of both.
 #![tactic(auto)]
 
 mod aliases;
 mod byte_array;
+mod constants;
+mod equality;
 mod errors;
 mod flags;
 mod form_laws;
@@ -37,6 +39,22 @@ pub use aliases::ShortShortUInt;
 pub use aliases::ShortUInt;
 pub use aliases::Timestamp;
 pub use byte_array::ByteArray;
+pub use constants::FRAME_BODY;
+pub use constants::FRAME_END;
+pub use constants::FRAME_HEADER;
+pub use constants::FRAME_HEARTBEAT;
+pub use constants::FRAME_METHOD;
+pub use constants::MAX_DEPTH;
+pub use equality::equal_byte_arrays;
+pub use equality::equal_flags;
+pub use equality::equal_gen_errors;
+pub use equality::equal_long_strings;
+pub use equality::equal_make_errors;
+pub use equality::equal_no_memory;
+pub use equality::equal_parser_errors;
+pub use equality::equal_profiles;
+pub use equality::equal_short_strings;
+pub use equality::equal_tags;
 pub use errors::GenError;
 pub use errors::NoMemory;
 pub use errors::ParserError;

@@ -1,3 +1,5 @@
+//! Long strings: lists of bytes.
+
 ghost use Rattle.std.specs.Prelude.{◌≡◌, ◌↔◌, [], length, nat_eq, IfOk, IsTrue};
 ghost use Rattle.std.specs.Cmp.Lexicographic.{pointwise, nat_list_eq_equiv};
 ghost use Rattle.std.specs.Cmp.{partial_equiv_from_equiv};
@@ -39,7 +41,7 @@ impl LongString {
         }
     }
 
-    /// An equal string of its own.
+    /// A deep copy.
     pub fn copy(&self, alloc: Global) -> Result<LongString, NoMemory>
         ensures { IfOk result (λ copied. copied ≡ self.now) }
     {

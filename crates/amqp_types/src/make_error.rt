@@ -1,3 +1,5 @@
+//! The error of making a value.
+
 use std::alloc::AllocError;
 use thiserror::Error;
 
@@ -8,7 +10,7 @@ pub enum MakeError {
     #[error("TooLong")]
     TooLong,
 
-    /// Want of memory.
+    /// Out of memory.
     #[error("NoMemory")]
     NoMemory,
 }

@@ -1,4 +1,4 @@
-//! Reading numbers and booleans from the front of a slice.
+//! Decoding numbers and booleans from the front of a slice.
 
 ghost use Rattle.std.specs.Prelude.{◌≤◌, length, IfOk};
 ghost use Rattle.amqp_types.specs.Answers.{AnswersFully};
@@ -8,7 +8,7 @@ ghost use Rattle.amqp_types.specs.Booleans.{judge_boolean};
 use crate::aliases::{Boolean, Identifier, LongLongUInt, LongUInt, ShortShortUInt, ShortUInt};
 use crate::errors::ParserError;
 
-/// Reads an unsigned number of 1 byte.
+/// Decodes an unsigned number of 1 byte.
 pub fn parse_short_short_uint(i: &[u8]) -> Result<(usize, ShortShortUInt), ParserError>
     ensures judged { AnswersFully (λ n. n) result (judge_number bytes1 i.now) }
     ensures used { IfOk result (λ found. found.0 ≤ length i.now) }
@@ -19,7 +19,7 @@ pub fn parse_short_short_uint(i: &[u8]) -> Result<(usize, ShortShortUInt), Parse
     }
 }
 
-/// Reads an unsigned number of 2 bytes, the most significant first.
+/// Decodes an unsigned number of 2 bytes, the most significant first.
 pub fn parse_short_uint(i: &[u8]) -> Result<(usize, ShortUInt), ParserError>
     ensures judged { AnswersFully (λ n. n) result (judge_number bytes2 i.now) }
     ensures used { IfOk result (λ found. found.0 ≤ length i.now) }
@@ -30,7 +30,7 @@ pub fn parse_short_uint(i: &[u8]) -> Result<(usize, ShortUInt), ParserError>
     }
 }
 
-/// Reads an unsigned number of 4 bytes, the most significant first.
+/// Decodes an unsigned number of 4 bytes, the most significant first.
 pub fn parse_long_uint(i: &[u8]) -> Result<(usize, LongUInt), ParserError>
     ensures judged { AnswersFully (λ n. n) result (judge_number bytes4 i.now) }
     ensures used { IfOk result (λ found. found.0 ≤ length i.now) }
@@ -41,7 +41,7 @@ pub fn parse_long_uint(i: &[u8]) -> Result<(usize, LongUInt), ParserError>
     }
 }
 
-/// Reads an unsigned number of 8 bytes, the most significant first.
+/// Decodes an unsigned number of 8 bytes, the most significant first.
 pub fn parse_long_long_uint(i: &[u8]) -> Result<(usize, LongLongUInt), ParserError>
     ensures judged { AnswersFully (λ n. n) result (judge_number bytes8 i.now) }
     ensures used { IfOk result (λ found. found.0 ≤ length i.now) }
@@ -54,7 +54,7 @@ pub fn parse_long_long_uint(i: &[u8]) -> Result<(usize, LongLongUInt), ParserErr
     }
 }
 
-/// Reads the id of a class or of a method, 2 bytes.
+/// Decodes the id of a class or of a method, 2 bytes.
 pub fn parse_id(i: &[u8]) -> Result<(usize, Identifier), ParserError>
     ensures judged { AnswersFully (λ n. n) result (judge_number bytes2 i.now) }
     ensures used { IfOk result (λ found. found.0 ≤ length i.now) }
@@ -62,7 +62,7 @@ pub fn parse_id(i: &[u8]) -> Result<(usize, Identifier), ParserError>
     parse_short_uint(i)
 }
 
-/// Reads a truth value, 1 byte: 0 is false, any other byte is true.
+/// Decodes a truth value, 1 byte: 0 is false, any other byte is true.
 pub fn parse_boolean(i: &[u8]) -> Result<(usize, Boolean), ParserError>
     ensures judged { AnswersFully (λ b. b) result (judge_boolean i.now) }
     ensures used { IfOk result (λ found. found.0 ≤ length i.now) }

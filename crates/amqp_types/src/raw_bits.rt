@@ -1,4 +1,4 @@
-//! Reading and writing what stands as the bits of an unsigned number: numbers with a fraction, and
+//! Decoding and encoding what stands as the bits of an unsigned number: numbers with a fraction, and
 //! times.
 
 ghost use Rattle.std.specs.Prelude.{◌≡◌, ◌+◌, ◌≤◌, length, Ok, IfOk};
@@ -15,7 +15,7 @@ use crate::generation::{
 use crate::parsing::{parse_long_long_uint, parse_long_uint};
 use std::alloc::Global;
 
-/// Reads the bits of a number of 4 bytes with a fraction.
+/// Decodes the bits of a number of 4 bytes with a fraction.
 pub fn parse_float(i: &[u8]) -> Result<(usize, Float), ParserError>
     ensures judged { AnswersFully (λ n. n) result (judge_number bytes4 i.now) }
     ensures used { IfOk result (λ found. found.0 ≤ length i.now) }
@@ -30,7 +30,7 @@ pub fn size_float(value: &Float) -> Result<u64, GenError>
     size_long_uint(value)
 }
 
-/// Puts the bits of a number of 4 bytes with a fraction at a place of a slice, and answers the place behind.
+/// Puts the bits of a number of 4 bytes with a fraction at a place of a slice, and returns the place after it.
 pub fn put_float(buf: &mut [u8], at: usize, value: &Float) -> usize
     requires room { at + length (number_bytes bytes4 value.now) ≤ length buf.old }
     ensures { Puts buf.old buf.new at (number_bytes bytes4 value.now) result }
@@ -45,7 +45,7 @@ pub fn gen_float(alloc: Global, out: &mut Vec<u8>, value: Float) -> Result<(), G
     gen_long_uint(alloc, out, value)
 }
 
-/// Reads the bits of a number of 8 bytes with a fraction.
+/// Decodes the bits of a number of 8 bytes with a fraction.
 pub fn parse_double(i: &[u8]) -> Result<(usize, Double), ParserError>
     ensures judged { AnswersFully (λ n. n) result (judge_number bytes8 i.now) }
     ensures used { IfOk result (λ found. found.0 ≤ length i.now) }
@@ -60,7 +60,7 @@ pub fn size_double(value: &Double) -> Result<u64, GenError>
     size_long_long_uint(value)
 }
 
-/// Puts the bits of a number of 8 bytes with a fraction at a place of a slice, and answers the place behind.
+/// Puts the bits of a number of 8 bytes with a fraction at a place of a slice, and returns the place after it.
 pub fn put_double(buf: &mut [u8], at: usize, value: &Double) -> usize
     requires room { at + length (number_bytes bytes8 value.now) ≤ length buf.old }
     ensures { Puts buf.old buf.new at (number_bytes bytes8 value.now) result }
@@ -75,7 +75,7 @@ pub fn gen_double(alloc: Global, out: &mut Vec<u8>, value: Double) -> Result<(),
     gen_long_long_uint(alloc, out, value)
 }
 
-/// Reads a time, 8 bytes.
+/// Decodes a time, 8 bytes.
 pub fn parse_timestamp(i: &[u8]) -> Result<(usize, Timestamp), ParserError>
     ensures judged { AnswersFully (λ n. n) result (judge_number bytes8 i.now) }
     ensures used { IfOk result (λ found. found.0 ≤ length i.now) }
@@ -90,7 +90,7 @@ pub fn size_timestamp(value: &Timestamp) -> Result<u64, GenError>
     size_long_long_uint(value)
 }
 
-/// Puts a time, 8 bytes at a place of a slice, and answers the place behind.
+/// Puts a time, 8 bytes at a place of a slice, and returns the place after it.
 pub fn put_timestamp(buf: &mut [u8], at: usize, value: &Timestamp) -> usize
     requires room { at + length (number_bytes bytes8 value.now) ≤ length buf.old }
     ensures { Puts buf.old buf.new at (number_bytes bytes8 value.now) result }

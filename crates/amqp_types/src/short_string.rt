@@ -1,3 +1,5 @@
+//! Short strings: texts of at most 255 bytes.
+
 ghost use Rattle.std.specs.Prelude.{◌≡◌, ◌≤◌, ◌<◌, ◌↔◌, [], length, nat_eq, Some, refl, Err, IfOk, OnOk, IsTrue};
 ghost use Rattle.std.specs.Ordering.{nat_cmp};
 ghost use Rattle.std.specs.Str.{IsUtf8};
@@ -56,7 +58,7 @@ impl ShortString {
         }
     }
 
-    /// An equal string of its own.
+    /// A deep copy.
     pub fn copy(&self, alloc: Global) -> Result<ShortString, NoMemory>
         ensures { IfOk result (λ copied. copied ≡ self.now) }
     {

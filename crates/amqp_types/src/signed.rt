@@ -1,5 +1,5 @@
-//! Reading and writing signed numbers: from the front of a slice, at a place of a slice, and behind
-//! a vector.
+//! Decoding and encoding signed numbers: from the front of a slice, at a place of a slice, and at the end
+//! of a vector.
 
 ghost use Rattle.std.specs.Prelude.{◌≡◌, ◌+◌, ◌≤◌, length, Ok, IfOk};
 ghost use Rattle.amqp_types.specs.Answers.{AnswersFully};
@@ -12,7 +12,7 @@ use crate::errors::{GenError, ParserError};
 use crate::generation::{append_bytes, put_bytes};
 use std::alloc::Global;
 
-/// Reads a signed number of 1 byte.
+/// Decodes a signed number of 1 byte.
 pub fn parse_short_short_int(i: &[u8]) -> Result<(usize, ShortShortInt), ParserError>
     ensures judged { AnswersFully (λ n. n) result (judge_signed bytes1 i.now) }
     ensures used { IfOk result (λ found. found.0 ≤ length i.now) }
@@ -31,7 +31,7 @@ pub fn size_short_short_int(value: &ShortShortInt) -> Result<u64, GenError>
     Ok(1)
 }
 
-/// Puts a signed number of 1 byte at a place of a slice, and answers the place behind it.
+/// Puts a signed number of 1 byte at a place of a slice, and returns the place after it.
 pub fn put_short_short_int(buf: &mut [u8], at: usize, value: &ShortShortInt) -> usize
     requires room { at + length (signed_bytes bytes1 value.now) ≤ length buf.old }
     ensures { Puts buf.old buf.new at (signed_bytes bytes1 value.now) result }
@@ -50,7 +50,7 @@ pub fn gen_short_short_int(
     append_bytes(out, &value.to_be_bytes())
 }
 
-/// Reads a signed number of 2 bytes.
+/// Decodes a signed number of 2 bytes.
 pub fn parse_short_int(i: &[u8]) -> Result<(usize, ShortInt), ParserError>
     ensures judged { AnswersFully (λ n. n) result (judge_signed bytes2 i.now) }
     ensures used { IfOk result (λ found. found.0 ≤ length i.now) }
@@ -69,7 +69,7 @@ pub fn size_short_int(value: &ShortInt) -> Result<u64, GenError>
     Ok(2)
 }
 
-/// Puts a signed number of 2 bytes at a place of a slice, and answers the place behind it.
+/// Puts a signed number of 2 bytes at a place of a slice, and returns the place after it.
 pub fn put_short_int(buf: &mut [u8], at: usize, value: &ShortInt) -> usize
     requires room { at + length (signed_bytes bytes2 value.now) ≤ length buf.old }
     ensures { Puts buf.old buf.new at (signed_bytes bytes2 value.now) result }
@@ -84,7 +84,7 @@ pub fn gen_short_int(_alloc: Global, out: &mut Vec<u8>, value: ShortInt) -> Resu
     append_bytes(out, &value.to_be_bytes())
 }
 
-/// Reads a signed number of 4 bytes.
+/// Decodes a signed number of 4 bytes.
 pub fn parse_long_int(i: &[u8]) -> Result<(usize, LongInt), ParserError>
     ensures judged { AnswersFully (λ n. n) result (judge_signed bytes4 i.now) }
     ensures used { IfOk result (λ found. found.0 ≤ length i.now) }
@@ -103,7 +103,7 @@ pub fn size_long_int(value: &LongInt) -> Result<u64, GenError>
     Ok(4)
 }
 
-/// Puts a signed number of 4 bytes at a place of a slice, and answers the place behind it.
+/// Puts a signed number of 4 bytes at a place of a slice, and returns the place after it.
 pub fn put_long_int(buf: &mut [u8], at: usize, value: &LongInt) -> usize
     requires room { at + length (signed_bytes bytes4 value.now) ≤ length buf.old }
     ensures { Puts buf.old buf.new at (signed_bytes bytes4 value.now) result }
@@ -118,7 +118,7 @@ pub fn gen_long_int(_alloc: Global, out: &mut Vec<u8>, value: LongInt) -> Result
     append_bytes(out, &value.to_be_bytes())
 }
 
-/// Reads a signed number of 8 bytes.
+/// Decodes a signed number of 8 bytes.
 pub fn parse_long_long_int(i: &[u8]) -> Result<(usize, LongLongInt), ParserError>
     ensures judged { AnswersFully (λ n. n) result (judge_signed bytes8 i.now) }
     ensures used { IfOk result (λ found. found.0 ≤ length i.now) }
@@ -140,7 +140,7 @@ pub fn size_long_long_int(value: &LongLongInt) -> Result<u64, GenError>
     Ok(8)
 }
 
-/// Puts a signed number of 8 bytes at a place of a slice, and answers the place behind it.
+/// Puts a signed number of 8 bytes at a place of a slice, and returns the place after it.
 pub fn put_long_long_int(buf: &mut [u8], at: usize, value: &LongLongInt) -> usize
     requires room { at + length (signed_bytes bytes8 value.now) ≤ length buf.old }
     ensures { Puts buf.old buf.new at (signed_bytes bytes8 value.now) result }

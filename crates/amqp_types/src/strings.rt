@@ -1,5 +1,5 @@
-//! Reading and writing strings and byte arrays: from the front of a slice, at a place of a slice, and
-//! behind a vector.
+//! Decoding and encoding strings and byte arrays: from the front of a slice, at a place of a slice, and
+//! at the end of a vector.
 
 ghost use Rattle.std.specs.Prelude.{◌≡◌, ◌+◌, ◌^◌, ◌≤◌, ◌<◌, false, true, length, Ok, IfOk, IsOk, MatchOption};
 ghost use Rattle.std.specs.Str.{is_utf8};
@@ -27,7 +27,7 @@ fn text_of(bytes: &[u8]) -> Option<&str>
     }
 }
 
-/// Reads a short string and lends its text.
+/// Decodes a short string and borrows its text.
 #[tactic(auto, unfolding(crate::specs::Strings::judge_short_string))]
 pub fn parse_short_str(i: &[u8]) -> Result<(usize, &str), ParserError>
     ensures judged { AnswersFully (λ text. text.now) result (judge_short_string i.now) }
@@ -48,7 +48,7 @@ pub fn parse_short_str(i: &[u8]) -> Result<(usize, &str), ParserError>
     }
 }
 
-/// Reads a length of four bytes and lends that many bytes.
+/// Decodes a length of four bytes and borrows that many bytes.
 #[tactic(auto, unfolding(crate::specs::Strings::judge_long_string))]
 pub fn parse_long_bytes(i: &[u8]) -> Result<(usize, &[u8]), ParserError>
     ensures judged { AnswersFully (λ bytes. bytes.now) result (judge_long_string i.now) }
@@ -62,7 +62,7 @@ pub fn parse_long_bytes(i: &[u8]) -> Result<(usize, &[u8]), ParserError>
     Ok((at + n, &i[at..at + n]))
 }
 
-/// Reads the length of a table and lends the bytes of its entries, which it does not look into.
+/// Decodes the length of a table and borrows the bytes of its entries, which it does not look into.
 pub fn parse_table_bytes(i: &[u8]) -> Result<(usize, &[u8]), ParserError>
     ensures judged { AnswersFully (λ bytes. bytes.now) result (judge_long_string i.now) }
     ensures used { IfOk result (λ found. found.0 ≤ length i.now) }
@@ -70,7 +70,7 @@ pub fn parse_table_bytes(i: &[u8]) -> Result<(usize, &[u8]), ParserError>
     parse_long_bytes(i)
 }
 
-/// Reads a short string.
+/// Decodes a short string.
 #[tactic(auto, unfolding(crate::specs::Strings::judge_short_string))]
 pub fn parse_short_string(alloc: Global, i: &[u8]) -> Result<(usize, ShortString), ParserError>
     ensures judged { Answers (λ text. text) result (judge_short_string i.now) }
@@ -83,7 +83,7 @@ pub fn parse_short_string(alloc: Global, i: &[u8]) -> Result<(usize, ShortString
     }
 }
 
-/// Reads a long string.
+/// Decodes a long string.
 pub fn parse_long_string(alloc: Global, i: &[u8]) -> Result<(usize, LongString), ParserError>
     ensures judged { Answers (λ bytes. bytes) result (judge_long_string i.now) }
     ensures used { IfOk result (λ found. found.0 ≤ length i.now) }
@@ -92,7 +92,7 @@ pub fn parse_long_string(alloc: Global, i: &[u8]) -> Result<(usize, LongString),
     Ok((n, LongString::new(alloc, bytes)?))
 }
 
-/// Reads a byte array, which stands as a long string does.
+/// Decodes a byte array, which is encoded as a long string is.
 pub fn parse_byte_array(alloc: Global, i: &[u8]) -> Result<(usize, ByteArray), ParserError>
     ensures judged { Answers (λ bytes. bytes) result (judge_long_string i.now) }
     ensures used { IfOk result (λ found. found.0 ≤ length i.now) }
@@ -109,7 +109,7 @@ pub fn size_short_string(value: &ShortString) -> Result<u64, GenError>
     Ok(1 + value.len() as u64)
 }
 
-/// Puts a short string at a place of a slice, and answers the place behind it.
+/// Puts a short string at a place of a slice, and returns the place after it.
 pub fn put_short_string(buf: &mut [u8], at: usize, value: &ShortString) -> usize
     requires room { at + length (short_string_bytes value.now) ≤ length buf.old }
     ensures { Puts buf.old buf.new at (short_string_bytes value.now) result }
@@ -142,7 +142,7 @@ pub fn size_long_string(value: &[u8]) -> Result<u64, GenError>
     Ok(4 + value.len() as u64)
 }
 
-/// Puts a long string at a place of a slice, and answers the place behind it.
+/// Puts a long string at a place of a slice, and returns the place after it.
 pub fn put_long_string(buf: &mut [u8], at: usize, value: &[u8]) -> usize
     requires fits { IsOk (long_string_size value.now) }
     requires room { at + length (with_length value.now) ≤ length buf.old }
@@ -170,7 +170,7 @@ pub fn size_byte_array(value: &ByteArray) -> Result<u64, GenError>
     size_long_string(value.as_slice())
 }
 
-/// Puts a byte array at a place of a slice, and answers the place behind it.
+/// Puts a byte array at a place of a slice, and returns the place after it.
 pub fn put_byte_array(buf: &mut [u8], at: usize, value: &ByteArray) -> usize
     requires fits { IsOk (long_string_size value.now) }
     requires room { at + length (with_length value.now) ≤ length buf.old }

@@ -1,3 +1,5 @@
+//! The kinds of values that tables and arrays hold, and the bytes of their tags.
+
 ghost use Rattle.std.specs.Prelude.{◌≡◌};
 ghost use Rattle.amqp_types.specs.Tags.{tag_at, tag_byte};
 

@@ -1,3 +1,5 @@
+//! Each public call once, with ample memory.
+
 use super::*;
 use std::test::Fail;
 
