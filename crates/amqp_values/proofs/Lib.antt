@@ -22,3 +22,4 @@ pub mod MethodLaws
 pub mod PlainValues
 pub mod Tidiness
 pub mod PayloadFaults
+pub mod Holding

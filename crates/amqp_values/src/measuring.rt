@@ -7,10 +7,7 @@ ghost use Rattle.amqp_types.specs.ValueBytes.{value_bytes, values_bytes, entries
 ghost use Rattle.amqp_values.specs.Views.{value_of};
 
 use crate::value::{AMQPValue, DecimalValue, FieldArray, FieldTable};
-use amqp_types::GenError;
-
-/// The greatest depth of what is read or written.
-const DEEPEST: usize = 64;
+use amqp_types::{GenError, MAX_DEPTH};
 
 /// The first length that four bytes do not hold.
 const LENGTH_LIMIT: u64 = 1 << 32;
@@ -136,7 +133,7 @@ pub fn size_value(value: &AMQPValue) -> Result<u64, GenError>
     ensures size { result ≡ tagged_size (value_of value.now) }
     ensures bound { IfOk result (λ n. n < 2 ^ 33) }
 {
-    if !has_room(value, DEEPEST) {
+    if !has_room(value, MAX_DEPTH) {
         return Err(GenError::TooDeep);
     }
     match value_length(value) {
@@ -150,7 +147,7 @@ pub fn size_field_array(value: &FieldArray) -> Result<u64, GenError>
     ensures size { result ≡ array_size value.now }
     ensures bound { IfOk result (λ n. n < 2 ^ 33) }
 {
-    if !array_has_room(value, DEEPEST - 1) {
+    if !array_has_room(value, MAX_DEPTH - 1) {
         return Err(GenError::TooDeep);
     }
     match values_length(value) {
@@ -165,7 +162,7 @@ pub fn size_field_table(value: &FieldTable) -> Result<u64, GenError>
     ensures size { result ≡ table_size value.now }
     ensures bound { IfOk result (λ n. n < 2 ^ 33) }
 {
-    if !table_has_room(value, DEEPEST - 1) {
+    if !table_has_room(value, MAX_DEPTH - 1) {
         return Err(GenError::TooDeep);
     }
     match entries_length(value) {

@@ -10,10 +10,10 @@ ghost use Rattle.amqp_values.specs.Views.{value_of, entry_of};
 
 use crate::value::{AMQPValue, DecimalValue, FieldArray, FieldTable};
 use amqp_types::{
-    FieldTag, ParserError, ShortString, parse_boolean, parse_byte_array, parse_double, parse_float,
-    parse_long_bytes, parse_long_int, parse_long_long_int, parse_long_string, parse_long_uint,
-    parse_short_int, parse_short_short_int, parse_short_short_uint, parse_short_string,
-    parse_short_uint, parse_timestamp,
+    FieldTag, MAX_DEPTH, ParserError, ShortString, parse_boolean, parse_byte_array, parse_double,
+    parse_float, parse_long_bytes, parse_long_int, parse_long_long_int, parse_long_string,
+    parse_long_uint, parse_short_int, parse_short_short_int, parse_short_short_uint,
+    parse_short_string, parse_short_uint, parse_timestamp,
 };
 use std::alloc::Global;
 
@@ -224,7 +224,7 @@ pub fn parse_value(alloc: Global, i: &[u8]) -> Result<(usize, AMQPValue), Parser
     ensures within { IfOk result (λ found. IsWithin (tagged_size (value_of found.1)) (tagged_bytes (value_of found.1)) found.0) }
     ensures used { IfOk result (λ found. found.0 ≤ length i.now) }
 {
-    value_within(alloc, i, 64)
+    value_within(alloc, i, MAX_DEPTH)
 }
 
 /// Reads an array: a length of four bytes, and the values that fill as many.
@@ -233,7 +233,7 @@ pub fn parse_field_array(alloc: Global, i: &[u8]) -> Result<(usize, FieldArray),
     ensures within { IfOk result (λ found. IsWithin (array_size found.1) (array_bytes found.1) found.0) }
     ensures used { IfOk result (λ found. found.0 ≤ length i.now) }
 {
-    array_within(alloc, i, 63)
+    array_within(alloc, i, MAX_DEPTH - 1)
 }
 
 /// Reads a table: a length of four bytes, and the entries that fill as many.
@@ -242,5 +242,5 @@ pub fn parse_field_table(alloc: Global, i: &[u8]) -> Result<(usize, FieldTable),
     ensures within { IfOk result (λ found. IsWithin (table_size found.1) (table_bytes found.1) found.0) }
     ensures used { IfOk result (λ found. found.0 ≤ length i.now) }
 {
-    table_within(alloc, i, 63)
+    table_within(alloc, i, MAX_DEPTH - 1)
 }

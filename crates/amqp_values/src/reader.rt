@@ -1,6 +1,6 @@
 //! Reading slots one behind another.
 
-ghost use Rattle.std.specs.Prelude.{◌≡◌, ◌≤◌, [], ◌∷◌, length, map};
+ghost use Rattle.std.specs.Prelude.{◌≡◌, ◌≤◌, ◌-◌, [], ◌∷◌, length, map};
 ghost use Rattle.amqp_types.specs.Numbers.{bytes1, bytes2, bytes4, bytes8};
 ghost use Rattle.amqp_types.specs.Flags.{flags_from};
 ghost use Rattle.amqp_types.specs.Slots.{number_item, flag_item, text_item, bytes_item, entries_item, number_form, flags_form, short_string_form, long_string_form, table_form};
@@ -29,6 +29,14 @@ impl<'a> SlotReader<'a> {
         ensures { result.rest.now ≡ bytes.now }
     {
         SlotReader { rest: bytes }
+    }
+
+    /// How many bytes of `whole` are decoded, where what is left is its end.
+    pub fn used(&self, whole: &[u8]) -> usize
+        requires within { length self.now.rest.now ≤ length whole.now }
+        ensures { result ≡ length whole.now - length self.now.rest.now }
+    {
+        whole.len() - self.rest.len()
     }
 
     /// Reads a number of 1 byte.
