@@ -1,4 +1,4 @@
--- What is spelled has canonical bytes that are no longer, is not long, and nests no deeper than its room.
+-- What is encoded has canonical bytes that are no longer, is not long, and nests no deeper than its room.
 use Rattle.std.proofs.Common.{◌≡◌, ℕ, zero, suc, ◌+◌, ◌<◌, ◌≤◌, ◌^◌, nat_le, ◌||◌, List, [], ◌∷◌, length, Bool, true, false, refl, ap, ◌∙◌, subst, arith}
 use Rattle.std.proofs.lemmas.Bool.Decides.{nat_tests}
 use Rattle.std.proofs.lemmas.List.{length-append}
@@ -16,7 +16,7 @@ use Rattle.amqp_values.proofs.Conversions.{values_of-items, entries_of-pairs}
 use Rattle.amqp_values.proofs.Entries.{EachEntry, each-settled_on, each-nil, entry_length, total_length, length-entries_bytes, settled_length}
 use Rattle.amqp_values.proofs.Settling.{settled_is}
 
--- a value whose canonical bytes behind its tag are at most n, which is not long, and no deeper
+-- a value whose canonical bytes after its tag are at most n, which is not long, and no deeper
 pub record Fits (n deep : ℕ) (v : FieldValue) : Type 0 where
   pub shorter : length (value_bytes v) ≤ n
   pub not_long : is_long v ≡ false

@@ -1,4 +1,4 @@
--- Judging values takes exactly what is spelled.
+-- Decoding values takes exactly what is encoded.
 use Rattle.std.proofs.Common.{◌≡◌, ℕ, zero, suc, ◌+◌, ◌<◌, ◌≤◌, List, [], ◌∷◌, ◌++◌, length, take, Option, Some, None, refl, sym, ap, subst, ◌∙◌, arith}
 use Rattle.std.specs.Option.{ForSome}
 use Rattle.amqp_types.specs.Levels.{Level, plain}
@@ -28,7 +28,7 @@ decimal_exact : IsExact judge_decimal SpellsDecimal
 unfolding judge_decimal
 decimal_exact = both_exact (judge_number bytes1) (judge_number bytes4) (λ scale n. (scale, n)) (SpellsNumber bytes1) (SpellsNumber bytes4) (number_exact bytes1) (number_exact bytes4)
 
--- ---- which tag a value has that was read behind a tag
+-- ---- which tag a value has that was read after a tag
 
 mapped_tag : {A : Type 0} (make : A → FieldValue) (judge : Judge A) (t : FieldTag) → ((x : A) → tag_of (make x) ≡ t) → (bytes : List ℕ) (v : FieldValue) (n : ℕ) → judge_map make judge bytes ≡ took v n → tag_of v ≡ t
 mapped_tag make judge t same bytes v n h =
@@ -57,13 +57,13 @@ tag_behind (Some value) tag.FieldTable bytes v n h = mapped_tag (λ es. table_va
 tag_behind nest tag.ByteArray bytes v n h = mapped_tag (bytes_value byte_array) judge_long_string _ (λ x. refl) bytes v n h
 tag_behind nest tag.Void bytes v n h = ap tag_of (sym (value_took void_value v 0 n h))
 
--- ---- behind a tag
+-- ---- after a tag
 
--- where there is room, what is nested is judged exactly
+-- where there is room, what is nested is decoded exactly
 IsNested : ℕ → Option (Judge FieldValue) → (List ℕ → FieldValue → Type 0) → Type 0
 IsNested room nest Spells = ForSome nest (λ value. (0 < room) × IsExact value Spells)
 
--- what is taken is spelled by the bytes that it uses
+-- what is taken is encoded by the bytes that it uses
 IsSound : Judge FieldValue → (List ℕ → FieldValue → Type 0) → Type 0
 IsSound judge Spells = (bytes : List ℕ) (v : FieldValue) (n : ℕ) → IsBytes bytes → judge bytes ≡ took v n → Spells (take n bytes) v × (n ≤ length bytes)
 

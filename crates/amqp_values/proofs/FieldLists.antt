@@ -1,4 +1,4 @@
--- Fields, one behind another.
+-- Fields, one after another.
 use Rattle.std.proofs.Common.{◌≡◌, ℕ, ◌+◌, ◌≤◌, List, ◌∷◌, ◌++◌, length, sym, ap, subst, arith}
 use Rattle.std.proofs.lemmas.List.{length-append, nil_from_length}
 use Rattle.amqp_types.specs.Writing.{Puts}

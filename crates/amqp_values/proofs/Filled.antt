@@ -1,4 +1,4 @@
--- What fills a table or an array is read as it is spelled.
+-- What fills a table or an array is read as it is encoded.
 use Rattle.std.proofs.Common.{◌≡◌, ℕ, zero, suc, ◌-◌, ◌<◌, ◌≤◌, List, [], ◌∷◌, ◌++◌, length, get_or, take, drop, Result, Ok, Err, refl, sym, ap, subst, ◌∙◌, arith}
 use Rattle.std.proofs.lemmas.List.{length-append, length-take-le, drop_at, take-append-drop}
 use Rattle.amqp_types.specs.Levels.{plain}
@@ -29,7 +29,7 @@ next_ok (took x n) others ys h = (x, n, refl, h)
 next_ok past others ys h = cc
 next_ok (fault bad) others ys h = cc
 
--- each thing is spelled by one byte at least
+-- each thing is encoded by one byte at least
 abbrev pub HasBytes : {A : Type 0} → (List ℕ → A → Type 0) → Type 0
 HasBytes {A} Spells = (bytes : List ℕ) (x : A) → Spells bytes x → 0 < length bytes
 
@@ -62,7 +62,7 @@ module _ {A : Type 0} (item : Judge A) (Spells : List ℕ → A → Type 0) (exa
       ap (filled item 0) h.2 ∙ next ∙ ap (λ bs. read_map (λ ys. x ∷ ys) (filled item 0 bs)) (drop_at here behind (length here) refl)
       ∙ ap (read_map (λ ys. x ∷ ys)) (filled_taken behind xs h.4)
 
--- what stands behind a length is bytes too
+-- what stands after a length is bytes too
 inner_fits : (bytes inner : List ℕ) (n : ℕ) → IsBytes bytes → SpellsLongString (take n bytes) inner → IsBytes inner
 inner_fits bytes inner n fits long i =
     let P : ℕ → Type 0 = λ k. k < 256 in

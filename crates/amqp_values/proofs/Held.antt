@@ -1,4 +1,4 @@
--- The canonical bytes of what programs hold are its strict spelling.
+-- The canonical bytes of what programs hold are its strict encoding.
 use Rattle.std.proofs.Common.{◌≡◌, ℕ, ℤ, zero, suc, ◌<◌, ◌≤◌, ◌^◌, nat_le, ◌||◌, FitsSigned, List, length, true, false, refl, sym, subst, arith}
 use Rattle.std.proofs.Math.Facts.{Fits-of_z, Fits-lt-pow}
 use Rattle.std.proofs.lemmas.Int.{to_z-of_z}

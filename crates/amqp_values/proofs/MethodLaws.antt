@@ -87,7 +87,7 @@ in_table class id slots h =
 pub rows_lawful : RowsAreLawful
 rows_lawful class id slots h = slots_lawful slots (in_table class id slots h).least
 
--- ---- what is judged is spelled
+-- ---- what is decoded is encoded
 
 known_took : {A : Type 0} (unknown : Fault) (o : Option A) (x : A) (n : ℕ) → known unknown o ≡ took x n → o ≡ Some x
 known_took unknown None x n h = absurd cc
@@ -134,9 +134,9 @@ payload_spelled bytes m n fits h =
       omega (arith, first.1, second.1, third.1, length-drop class.1 bytes, length-drop id.1 behind, all),
     )
 
--- ---- what is spelled is judged
+-- ---- what is encoded is decoded
 
--- the bytes of both ids, and slots of which this is judged
+-- the bytes of both ids, and fields of which this is decoded
 judged : (m : Method) (slots : List Slot) (class_bytes id_bytes slot_bytes rest : List ℕ) → slots_at m.class m.id ≡ Some slots → SpellsNumber bytes2 class_bytes m.class → SpellsNumber bytes2 id_bytes m.id
     → judge_slots slots (slot_bytes ++ rest) ≡ took m.items (length slot_bytes) → judge_payload (class_bytes ++ (id_bytes ++ (slot_bytes ++ rest))) ≡ took m (length class_bytes + (length id_bytes + length slot_bytes))
 unfolding judge_payload judge_in_class judge_method
@@ -191,7 +191,7 @@ strict_is_tidy bytes m h = at_level strict tidy bytes m h ((rows_lawful m.class 
 tidy_is_plain : (bytes : List ℕ) (m : Method) → SpellsPayload tidy bytes m → SpellsPayload plain bytes m
 tidy_is_plain bytes m h = at_level tidy plain bytes m h ((rows_lawful m.class m.id h.slots h.known).tidy_is_plain h.slot_bytes m.items h.slots_are)
 
--- the canonical bytes of a method with these slots
+-- the canonical bytes of a method with these fields
 payload_of_slots : (m : Method) (slots : List Slot) → slots_at m.class m.id ≡ Some slots → payload_bytes m ≡ number_bytes bytes2 m.class ++ (number_bytes bytes2 m.id ++ slots_bytes slots m.items)
 unfolding payload_bytes method_bytes
 payload_of_slots m slots is_known = ap (λ o. number_bytes bytes2 m.class ++ (number_bytes bytes2 m.id ++ slots_bytes (unwrap_or o []) m.items)) is_known
@@ -235,11 +235,11 @@ payloads_lawful = record {
   shortest = shortest;
 }
 
--- what is spelled is neither long nor too deep
+-- what is encoded is neither long nor too deep
 pub payloads_bounded : SpelledPayloadsAreBounded
 payloads_bounded level bytes m h = slots_bounded level h.slots h.slot_bytes m.items h.slots_are
 
--- what programs hold is spelled strictly by its canonical bytes
+-- what programs hold is encoded strictly by its canonical bytes
 pub payload_held : (m : Method) (slots : List Slot) → slots_at m.class m.id ≡ Some slots → AreSlotsHeld slots m.items → any_deep m.items ≡ false → any_long m.items ≡ false → SpellsPayload strict (payload_bytes m) m
 payload_held m slots is_known held shallow short =
     let table = in_table m.class m.id slots is_known in

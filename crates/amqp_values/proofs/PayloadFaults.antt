@@ -1,4 +1,4 @@
--- Judging what stands inside a payload finds no faults but those of the inside.
+-- Decoding what stands inside a payload finds no faults but those of the inside.
 use Rattle.std.proofs.Common.{◌≡◌, ℕ, zero, suc, ◌+◌, ◌-◌, nat_lt, Bool, true, false, cond, List, [], ◌∷◌, ◌++◌, length, take, drop, Option, Some, None, Result, Ok, Err, ap, subst}
 use Rattle.std.specs.Str.{is_utf8}
 use Rattle.amqp_types.specs.Judging.{Fault, Judged, Judge, took, past, fault, unknown_class, unknown_method, short_payload, not_utf8, unknown_tag, too_deep, ◌>>=◌}
@@ -21,9 +21,9 @@ use Rattle.amqp_types.specs.Methods.{method, known, judge_method, judge_in_class
 use Rattle.amqp_types.specs.declared.tag.FieldTag.{FieldTag}
 use Rattle.amqp_types.specs.declared.tag.FieldTag.TheVariants as tag
 
--- ---- the steps of a judgement
+-- ---- the steps of a decoding function
 
--- what was judged shows no other fault
+-- what was decoded shows no other fault
 abbrev pub Inside : {A : Type 0} → Judged A → Type 0
 Inside j = (bad : Fault) → j ≡ fault bad → IsInside bad
 
@@ -130,7 +130,7 @@ unsigned_kind_inside kind = map_inside (unsigned_value kind) (judge_number (unsi
 bytes_kind_inside : (kind : BytesKind) → FailsInside (judge_bytes_kind kind)
 bytes_kind_inside kind = map_inside (bytes_value kind) judge_long_string long_string_inside
 
--- where there is room for one level more, judging it finds no other faults
+-- where there is room for one level more, decoding it finds no other faults
 abbrev NestedInside : Option (Judge FieldValue) → Type 0
 NestedInside None = Unit {0}
 NestedInside (Some value) = FailsInside value
@@ -176,7 +176,7 @@ value_inside : (room : ℕ) → FailsInside (judge_value room)
 unfolding judge_value
 value_inside room = tagged_inside (nested room) (nested_inside room)
 
--- ---- slots
+-- ---- fields
 
 pub form_inside : (form : Form) → FailsInside (judge_form form)
 unfolding judge_form

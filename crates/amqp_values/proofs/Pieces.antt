@@ -1,4 +1,4 @@
--- Pieces written one behind another, from a place of a buffer on.
+-- Pieces written one after another, from a place of a buffer on.
 use Rattle.std.proofs.Common.{◌≡◌, ℕ, ◌+◌, ◌≤◌, List, [], ◌++◌, length, sym, ap, ◌∙◌, append-nil, append_assoc, arith}
 use Rattle.std.proofs.lemmas.List.{length-append}
 use Rattle.amqp_types.specs.Writing.{written, Puts}

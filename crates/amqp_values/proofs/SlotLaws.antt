@@ -1,4 +1,4 @@
--- The laws of lists of slots.
+-- The laws of lists of fields.
 use Rattle.std.proofs.Common.{◌≡◌, ℕ, zero, suc, ◌<◌, ◌≤◌, ◌^◌, nat_lt, nat_le, ◌&&◌, ◌||◌, Bool, true, false, List, [], ◌∷◌, ◌++◌, length, take, map, refl, sym, ap, ap₂, subst, ◌∙◌, arith}
 use Rattle.std.proofs.lemmas.Bool.Decides.{nat_tests}
 use Rattle.std.proofs.Math.Nat.{pow-le-pow_right}
@@ -20,7 +20,7 @@ use Rattle.amqp_types.proofs.Numbers.{number_bytes-length}
 use Rattle.amqp_types.proofs.Sequences.{map_spelled, map_taken}
 use Rattle.amqp_values.proofs.SlotForms.{forms_lawful, form_gives, neither}
 
--- ---- constants of reserved slots
+-- ---- constants of reserved fields
 
 pub both_true : (a b : Bool) → (a && b) ≡ true → (a ≡ true) × (b ≡ true)
 both_true true b h = (refl, h)
@@ -76,7 +76,7 @@ constant_shortest short_string_form (text_item [] ∷ []) bytes items l h = omeg
 constant_shortest long_string_form (bytes_item [] ∷ []) bytes items l h = omega (arith, ap length h.spelled.bytes_are)
 constant_shortest form constant bytes items l h = absurd cc
 
--- ---- reserved slots
+-- ---- reserved fields
 
 module _ (form : Form) (constant : List Item) (least : is_least form constant ≡ true) where
   abbrev Reserved : Level → List ℕ → List Item → Type 0
@@ -114,7 +114,7 @@ module _ (form : Form) (constant : List Item) (least : is_least form constant �
     shortest = λ bytes items h. constant_shortest form constant bytes h.dropped least h.spelled;
   }
 
--- ---- lists of slots
+-- ---- lists of fields
 
 no_slots_lawful : IsLawful (judge_slots []) (λ level. SpellsSlots level []) (slots_bytes [])
 unfolding judge_slots slots_bytes
@@ -134,7 +134,7 @@ no_slots_lawful = record {
   shortest = λ bytes items h. omega arith;
 }
 
--- the bytes of a kept slot, and those of the slots behind it
+-- the bytes of a kept field, and those of the fields after it
 kept_bytes : (form : Form) (slots : List Slot) (xs ys : List Item) → length xs ≡ item_count form → slots_bytes (kept_slot form ∷ slots) (xs ++ ys) ≡ form_bytes form xs ++ slots_bytes slots ys
 unfolding slots_bytes
 kept_bytes form slots xs ys count = ap₂ (λ a b. form_bytes form a ++ slots_bytes slots b) (take_at xs ys (item_count form) count) (drop_at xs ys (item_count form) count)
@@ -150,7 +150,7 @@ slots_lawful (reserved_slot form constant ∷ slots) least =
     both_lawful (judge_dropped form) (judge_slots slots) (λ xs ys. xs ++ ys) (λ level. SpellsReserved level form constant) (λ level. SpellsSlots level slots) (λ items. form_bytes form constant) (slots_bytes slots) (slots_bytes (reserved_slot form constant ∷ slots))
     (reserved_lawful form constant b.0) (slots_lawful slots b.1) (λ bytes xs ys h. ap (λ zs. form_bytes form constant ++ slots_bytes slots (zs ++ ys)) h.none)
 
--- ---- what is spelled is neither long nor too deep
+-- ---- what is encoded is neither long nor too deep
 
 pub either : (a b : Bool) → (a || b) ≡ false → (a ≡ false) × (b ≡ false)
 either true b h = absurd cc

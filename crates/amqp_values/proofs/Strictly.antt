@@ -1,4 +1,4 @@
--- The canonical bytes of what is spelled are its one strict spelling, and what is strict is tidy, and what is tidy is plain.
+-- The canonical bytes of what is encoded are its one strict encoding, and what is strict is tidy, and what is tidy is plain.
 use Rattle.std.proofs.Common.{◌≡◌, ℕ, zero, suc, ◌<◌, ◌^◌, nat_le, ◌||◌, List, [], ◌∷◌, ◌++◌, length, Bool, true, false, inl, refl, sym, ap, ap₂, ◌∙◌, subst, append_assoc, arith}
 use Rattle.std.proofs.lemmas.Bool.Decides.{nat_tests}
 use Rattle.std.proofs.lemmas.List.{append-nil}
@@ -19,7 +19,7 @@ use Rattle.amqp_values.proofs.Settling.{settles, settled_is}
 use Rattle.amqp_values.proofs.Entries.{EachEntry, each-settled_on, each-nil}
 use Rattle.amqp_values.proofs.Bounded.{value_bounded}
 
--- ---- one strict spelling at most
+-- ---- one strict encoding at most
 
 abbrev pub OnlyCanonical : (List ℕ → FieldValue → Type 0) → Type 0
 OnlyCanonical Spells = (bytes : List ℕ) (v : FieldValue) → Spells bytes v → bytes ≡ tagged_bytes v
@@ -129,7 +129,7 @@ unfolding SpellsValue
 value_tidy_is_plain zero = tagged_tidy_is_plain _ _ (behind_tidy_is_plain 0 (λ _ _. ⊥) (λ _ _. ⊥) (λ bytes v h. h))
 value_tidy_is_plain (suc room) = tagged_tidy_is_plain _ _ (behind_tidy_is_plain (suc room) (SpellsValue tidy room) (SpellsValue plain room) (value_tidy_is_plain room))
 
--- ---- what is plain has a strict spelling, its canonical bytes
+-- ---- what is plain has a strict encoding, its canonical bytes
 
 in_order : (found es : List Entry) → IsRising (found ++ es) → settled_on found es ≡ found ++ es
 in_order found [] s = sym (append-nil found)
@@ -148,7 +148,7 @@ IsKey k = SpellsShortString (short_string_bytes k) k
 pub fits_four : (a : Bool) (n : ℕ) → (a || nat_le (2 ^ 32) n) ≡ false → n < 2 ^ 32
 fits_four a n h = let e = or_right a (nat_le (2 ^ 32) n) h in grind (arith, nat_tests)
 
--- the strict spelling of an array and of a table whose parts have one
+-- the strict encoding of an array and of a table whose parts have one
 module _ (Strict : List ℕ → FieldValue → Type 0) where
   entries_spelled : (es : List Entry) → EachEntry IsKey (λ v. Strict (tagged_bytes v) v) es → SpellsEach (SpellsEntry Strict) (entries_bytes (entries_of es)) es
   unfolding EachEntry IsKey

@@ -1,4 +1,4 @@
--- Tags are read as they are spelled.
+-- Tags are read as they are encoded.
 use Rattle.std.proofs.Common.{◌≡◌, ℕ, Bool, true, false, eqb, cond, List, [], ◌∷◌, Option, Some, inl, inr, refl, subst, arith}
 use Rattle.std.proofs.lemmas.Bool.Decides.{nat_tests}
 use Rattle.amqp_types.specs.Levels.{plain}

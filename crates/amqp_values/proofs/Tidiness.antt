@@ -1,4 +1,4 @@
--- Which slots, and which payloads of methods, are tidy.
+-- Which fields, and which payloads of methods, are tidy.
 use Rattle.std.proofs.Common.{◌≡◌, ℕ, ◌<◌, ◌^◌, ◌==◌, true, List, [], ◌∷◌, ◌++◌, length, take, drop, refl, sym, ap, ap₂, subst, ◌∙◌, append_assoc, arith}
 use Rattle.std.specs.Int.{w16, from_be_bytes}
 use Rattle.std.proofs.lemmas.Bool.{and_from, and_parts, eq-eqb, eqb-true, lt-ltb, ltb-true}
@@ -48,7 +48,7 @@ forms_test table_form = record {
   tested = λ bytes rest items h. refl;
 }
 
--- ---- reserved slots
+-- ---- reserved fields
 
 begun : (wanted bytes : List ℕ) → begins_with wanted bytes ≡ true → (rest : List ℕ) × (bytes ≡ wanted ++ rest)
 begun [] bytes h = (bytes, refl)
@@ -62,7 +62,7 @@ begins : (wanted rest : List ℕ) → begins_with wanted (wanted ++ rest) ≡ tr
 begins [] rest = refl
 begins (want ∷ wanted) rest = and_from (want == want) (begins_with wanted (wanted ++ rest)) (eq-eqb want want refl) (begins wanted rest)
 
--- a form that has a least constant has no tidy spelling but its strict ones
+-- a form that has a least constant has no tidy encoding but its strict ones
 least_strict : (form : Form) (constant : List Item) (bytes : List ℕ) (items : List Item) → is_least form constant ≡ true → SpellsForm tidy form bytes items → SpellsForm strict form bytes items
 least_strict (number_form width) constant bytes items least h = h
 least_strict (flags_form count) constant bytes items least h =
@@ -99,7 +99,7 @@ module _ (form : Form) (constant : List Item) (least : is_least form constant �
   reserved_test : IsTest (λ level. SpellsReserved level form constant) (begins_with (form_bytes form constant))
   reserved_test = record { tidied = reserved_tidied; tested = reserved_tested }
 
--- ---- lists of slots
+-- ---- lists of fields
 
 pub slots_test : (slots : List Slot) → are_least slots ≡ true → IsTest (λ level. SpellsSlots level slots) (are_tidy_slots slots)
 unfolding are_tidy_slots
@@ -123,7 +123,7 @@ short_length bytes n h = ap length h.bytes_are ∙ number_bytes-length bytes2 n
 pub short_at_front : (bytes rest : List ℕ) (n : ℕ) → SpellsNumber bytes2 bytes n → from_be_bytes w16 (take 2 (bytes ++ rest)) ≡ n
 short_at_front bytes rest n h = ap (from_be_bytes w16) (take_at bytes rest 2 (short_length bytes n h) ∙ h.bytes_are) ∙ from_be_bytes-to_be_bytes_2 n h.fits
 
--- behind both ids the slots of the method are tested
+-- after both ids the fields of the method are tested
 payload_slots : (level : Level) (bytes rest : List ℕ) (m : Method) (h : SpellsPayload level bytes m) → is_tidy_payload (bytes ++ rest) ≡ are_tidy_slots h.slots (h.slot_bytes ++ rest)
 unfolding is_tidy_payload
 payload_slots level bytes rest m h =

@@ -8,7 +8,7 @@ use Rattle.amqp_types.specs.Sizes.{measured}
 use Rattle.amqp_values.specs.Views.{value_of}
 use Rattle.amqp_values.specs.declared.value.AMQPValue.{AMQPValue}
 
--- the value at a place, and those behind it
+-- the value at a place, and those after it
 pub at_place : {Y : Type 0} (F : List FieldValue → Y) (xs : List AMQPValue) (i : ℕ) (x : AMQPValue) → i < length xs → x ≡ get_or xs i x → F (map value_of (drop i xs)) ≡ F (value_of x ∷ map value_of (drop (i + 1) xs))
 at_place F xs i x h is = at_drop_more (λ ys. F (map value_of ys)) xs i x h ∙ ap (λ y. F (value_of y ∷ map value_of (drop (i + 1) xs))) (sym is)
 

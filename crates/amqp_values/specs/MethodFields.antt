@@ -4,7 +4,7 @@ use Rattle.amqp_types.specs.Methods.{Method, method_bytes, method_size, payload_
 use Rattle.amqp_values.specs.declared.fields.Field.{Field}
 use Rattle.amqp_values.specs.Fields.{fields_bytes, fields_size}
 
--- The fields are written as a class id, a method id and slots; without the first of them, as the method id and the slots.
+-- The fields are written as a class id, a method id and fields; without the first of them, as the method id and the fields.
 pub record ListsMethod (fields : List Field) (m : Method) : Type 0 where
   pub few : length fields ≤ 64
   pub payload : fields_bytes fields ≡ payload_bytes m

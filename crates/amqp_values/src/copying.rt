@@ -1,4 +1,4 @@
-//! Equal values of their own.
+//! Deep copies of values.
 
 ghost use Rattle.std.specs.Prelude.{◌≡◌, IfOk};
 ghost use Rattle.amqp_values.specs.Views.{value_of};
@@ -8,7 +8,7 @@ use amqp_types::NoMemory;
 use std::alloc::Global;
 
 impl AMQPValue {
-    /// An equal value of its own.
+    /// A deep copy.
     #[cycle(copy)]
     pub fn copy(&self, alloc: Global) -> Result<AMQPValue, NoMemory>
         ensures { IfOk result (λ copied. value_of copied ≡ value_of self.now) }
@@ -36,7 +36,7 @@ impl AMQPValue {
 }
 
 impl FieldArray {
-    /// An equal array of its own.
+    /// A deep copy.
     #[cycle(copy)]
     pub fn copy(&self, alloc: Global) -> Result<FieldArray, NoMemory>
         ensures { IfOk result (λ copied. copied ≡ self.now) }
@@ -50,7 +50,7 @@ impl FieldArray {
 }
 
 impl FieldTable {
-    /// An equal table of its own.
+    /// A deep copy.
     #[cycle(copy)]
     pub fn copy(&self, alloc: Global) -> Result<FieldTable, NoMemory>
         ensures { IfOk result (λ copied. copied ≡ self.now) }

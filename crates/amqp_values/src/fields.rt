@@ -1,4 +1,4 @@
-//! Fields that are written one behind another: measured, put into a slice, or appended to a vector.
+//! Fields that are written one after another: measured, put into a slice, or appended to a vector.
 
 ghost use Rattle.std.specs.Prelude.{◌≡◌, ◌≤◌, ◌<◌, ◌+◌, ◌*◌, ◌^◌, ◌++◌, ◌||◌, ℕ, List, Bool, false, length, IfOk, IsOk};
 ghost use Rattle.amqp_types.specs.Sizes.{measured};
@@ -84,7 +84,7 @@ fn size_both(first: Result<u64, GenError>, second: Result<u64, GenError>) -> Res
     }
 }
 
-/// The size of fields, one behind another.
+/// The size of fields, one after another.
 #[tactic(auto, unfolding(crate::specs::Fields::fields_size, crate::specs::Fields::fields_bytes, crate::specs::Fields::any_deep_field, crate::specs::Fields::any_long_field))]
 pub fn size_fields(fields: &[Field<'_>]) -> Result<u64, GenError>
     requires few { length fields.now ≤ 64 }
@@ -97,7 +97,7 @@ pub fn size_fields(fields: &[Field<'_>]) -> Result<u64, GenError>
     }
 }
 
-/// Puts a field at a place of a slice, and answers the place behind it.
+/// Puts a field at a place of a slice, and returns the place after it.
 #[tactic(auto, using(amqp_types::proofs::Puts::puts_none), unfolding(crate::specs::Fields::field_bytes, crate::specs::Fields::is_deep_field, crate::specs::Fields::is_long_field, amqp_types::specs::SlotBytes::form_bytes))]
 fn put_field(buf: &mut [u8], at: usize, field: &Field<'_>) -> usize
     requires shallow { is_deep_field field.now ≡ false }
@@ -118,7 +118,7 @@ fn put_field(buf: &mut [u8], at: usize, field: &Field<'_>) -> usize
     }
 }
 
-/// Puts fields one behind another.
+/// Puts fields one after another.
 #[tactic(auto, unfolding(crate::specs::Fields::fields_bytes, crate::specs::Fields::any_deep_field, crate::specs::Fields::any_long_field))]
 fn put_each(buf: &mut [u8], at: usize, fields: &[Field<'_>]) -> usize
     requires shallow { any_deep_field fields.now ≡ false }
@@ -135,7 +135,7 @@ fn put_each(buf: &mut [u8], at: usize, fields: &[Field<'_>]) -> usize
     }
 }
 
-/// Puts fields one behind another at a place of a slice, and answers the place behind them.
+/// Puts fields one after another at a place of a slice, and returns the place after them.
 #[tactic(auto, unfolding(crate::specs::Fields::fields_size))]
 pub fn put_fields(buf: &mut [u8], at: usize, fields: &[Field<'_>]) -> usize
     requires fits { IsOk (fields_size fields.now) }
@@ -145,7 +145,7 @@ pub fn put_fields(buf: &mut [u8], at: usize, fields: &[Field<'_>]) -> usize
     put_each(buf, at, fields)
 }
 
-/// Appends fields to a vector, one behind another.
+/// Appends fields to a vector, one after another.
 #[tactic(auto, unfolding(crate::specs::Fields::fields_size))]
 pub fn gen_fields(out: &mut Vec<u8>, fields: &[Field<'_>]) -> Result<(), GenError>
     requires few { length fields.now ≤ 64 }

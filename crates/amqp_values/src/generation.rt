@@ -1,4 +1,4 @@
-//! Writing values, arrays and tables at a place of a slice, and behind a vector.
+//! Encoding values, arrays and tables at a place of a slice, and at the end of a vector.
 
 ghost use Rattle.std.specs.Prelude.{◌≡◌, ◌+◌, ◌≤◌, length, false, Ok, IsOk};
 ghost use Rattle.amqp_types.specs.Values.{array_value, table_value, values_of, entries_of};
@@ -115,7 +115,7 @@ fn put_table(buf: &mut [u8], at: usize, table: &FieldTable) -> usize
     place
 }
 
-/// Puts a scale and a number at a place of a slice, and answers the place behind them.
+/// Puts a scale and a number at a place of a slice, and returns the place after them.
 pub fn put_decimal_value(buf: &mut [u8], at: usize, value: &DecimalValue) -> usize
     requires room { at + length (decimal_bytes value.now.scale value.now.value) ≤ length buf.old }
     ensures { Puts buf.old buf.new at (decimal_bytes value.now.scale value.now.value) result }
@@ -137,7 +137,7 @@ pub fn gen_decimal_value(
     Ok(())
 }
 
-/// Puts a tag and its value at a place of a slice, and answers the place behind them.
+/// Puts a tag and its value at a place of a slice, and returns the place after them.
 #[tactic(auto, using(crate::proofs::Walk::is_short))]
 pub fn put_value(buf: &mut [u8], at: usize, value: &AMQPValue) -> usize
     requires fits { IsOk (tagged_size (value_of value.now)) }
@@ -157,7 +157,7 @@ pub fn gen_value(_alloc: Global, out: &mut Vec<u8>, value: &AMQPValue) -> Result
     Ok(())
 }
 
-/// Puts an array at a place of a slice, and answers the place behind it.
+/// Puts an array at a place of a slice, and returns the place after it.
 #[tactic(auto, using(crate::proofs::Walk::is_short))]
 pub fn put_field_array(buf: &mut [u8], at: usize, value: &FieldArray) -> usize
     requires fits { IsOk (array_size value.now) }
@@ -181,7 +181,7 @@ pub fn gen_field_array(
     Ok(())
 }
 
-/// Puts a table at a place of a slice, and answers the place behind it.
+/// Puts a table at a place of a slice, and returns the place after it.
 #[tactic(auto, using(crate::proofs::Walk::is_short), unfolding(amqp_types::specs::ValueBytes::table_bytes, amqp_types::specs::ValueBytes::is_deep_table, amqp_types::specs::ValueBytes::is_long_table))]
 pub fn put_field_table(buf: &mut [u8], at: usize, value: &FieldTable) -> usize
     requires fits { IsOk (table_size value.now) }

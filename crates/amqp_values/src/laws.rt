@@ -1,4 +1,4 @@
-//! Laws of values, arrays, tables and slots, each the contract of a function that does nothing.
+//! Laws of values, arrays, tables and fields, each the contract of a function that does nothing.
 
 ghost use Rattle.std.specs.Prelude.{◌≡◌};
 ghost use Rattle.std.specs.Bool.{Decides};
@@ -8,7 +8,7 @@ ghost use Rattle.amqp_types.specs.SlotLaws.{FormsAreLawful, SlotsAreLawful, Spel
 ghost use Rattle.amqp_types.specs.Tidiness.{TidySlotsAreTold};
 ghost use Rattle.amqp_values.specs.Sameness.{same_value, same_items, same_entries};
 
-/// The laws of values behind their tags, for each number of levels that may nest.
+/// The laws of values after their tags, for each number of levels that may nest.
 pub fn values_are_lawful()
     ensures { ValuesAreLawful }
 {}
@@ -23,7 +23,7 @@ pub fn tables_are_lawful()
     ensures { TablesAreLawful }
 {}
 
-/// What is spelled is neither long nor deeper than its room.
+/// What is encoded is neither long nor deeper than its room for nesting.
 pub fn spelled_is_bounded()
     ensures { SpelledIsBounded }
 {}
@@ -38,7 +38,7 @@ pub fn insert_changes_one_key()
     ensures { InsertChangesOneKey }
 {}
 
-/// What programs hold and write is read back.
+/// What programs hold and write is read back. `value_held`, `array_held` and `table_held` say that it is held.
 pub fn held_is_read_back()
     ensures { HeldIsReadBack }
 {}
@@ -50,27 +50,27 @@ pub fn sameness_is_equality()
     ensures tables { (es fs : FieldEntries) → Decides (same_entries es fs) (es ≡ fs) }
 {}
 
-/// The laws of the forms of slots.
+/// The laws of the forms of fields.
 pub fn forms_are_lawful()
     ensures { FormsAreLawful }
 {}
 
-/// The laws of lists of slots whose reserved slots have the least constants of their forms.
+/// The laws of lists of fields whose reserved fields have the least constants of their forms.
 pub fn slots_are_lawful()
     ensures { SlotsAreLawful }
 {}
 
-/// What slots are spelled by is neither long nor too deep.
+/// What fields are encoded by is neither long nor too deep.
 pub fn spelled_slots_are_bounded()
     ensures { SpelledSlotsAreBounded }
 {}
 
-/// What programs hold and write into slots is read back.
+/// What programs hold and write into fields is read back.
 pub fn held_slots_are_read_back()
     ensures { HeldSlotsAreReadBack }
 {}
 
-/// A test tells which slots are tidy.
+/// A test says which fields are tidy.
 pub fn tidy_slots_are_told()
     ensures { TidySlotsAreTold }
 {}

@@ -1,4 +1,4 @@
-//! Tables and arrays of AMQP 0-9-1, the values in them, and how they are read and written. With them
+//! Tables and arrays of AMQP 0-9-1, the values in them, and how they are decoded and encoded. With them
 //! stand all of the types that fields have.
 #![tactic(auto)]
 

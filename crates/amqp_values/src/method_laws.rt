@@ -7,28 +7,28 @@ ghost use Rattle.amqp_types.specs.PayloadFaults.{PayloadsFailInside};
 ghost use Rattle.amqp_types.specs.MethodLaws.{are_sound_classes, RowsAreLawful, PayloadsAreLawful, SpelledPayloadsAreBounded, HeldPayloadsAreReadBack};
 ghost use Rattle.amqp_types.specs.Tidiness.{TidyPayloadsAreTold};
 
-/// Two bytes hold each id of the table, and its reserved slots have the least constants of their
+/// Two bytes hold each id of the table, and its reserved fields have the least constants of their
 /// forms.
 pub fn table_is_sound()
     ensures { IsTrue (are_sound_classes classes) }
 {}
 
-/// The laws of the slots of each row of the table.
+/// The laws of the fields of each row of the table.
 pub fn rows_are_lawful()
     ensures { RowsAreLawful }
 {}
 
-/// The laws of methods in payloads, behind both their ids.
+/// The laws of methods in payloads, after both their ids.
 pub fn payloads_are_lawful()
     ensures { PayloadsAreLawful }
 {}
 
-/// Methods that are spelled are neither long nor too deep.
+/// Methods that are encoded are neither long nor too deep.
 pub fn spelled_payloads_are_bounded()
     ensures { SpelledPayloadsAreBounded }
 {}
 
-/// A test tells which payloads of methods are tidy.
+/// A test says which payloads of methods are tidy.
 pub fn tidy_payloads_are_told()
     ensures { TidyPayloadsAreTold }
 {}

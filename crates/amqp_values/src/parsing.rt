@@ -1,4 +1,4 @@
-//! Reading values, arrays and tables from the front of a slice.
+//! Decoding values, arrays and tables from the front of a slice.
 
 ghost use Rattle.std.specs.Prelude.{◌≡◌, ◌≤◌, ◌<◌, length, IfOk};
 ghost use Rattle.amqp_types.specs.Answers.{Answers, AnswersFully, AnswersWhole};
@@ -17,7 +17,7 @@ use amqp_types::{
 };
 use std::alloc::Global;
 
-/// Reads a scale and a number.
+/// Decodes a scale and a number.
 #[tactic(auto, unfolding(amqp_types::specs::ValueJudging::judge_decimal))]
 pub fn parse_decimal_value(i: &[u8]) -> Result<(usize, DecimalValue), ParserError>
     ensures judged { AnswersFully (λ decimal. (decimal.scale, decimal.value)) result (judge_decimal i.now) }
@@ -38,7 +38,7 @@ fn inside(error: ParserError) -> ParserError
     }
 }
 
-/// Reads a tag and its value, in which tables and arrays may nest `room` deep.
+/// Decodes a tag and its value, in which tables and arrays may nest `room` deep.
 #[tactic(auto, using(amqp_types::proofs::Judged::refuses_next), unfolding(amqp_types::specs::ValueJudging::judge_tagged, amqp_types::specs::ValueJudging::judge_value))]
 #[cycle(read)]
 fn value_within(alloc: Global, i: &[u8], room: usize) -> Result<(usize, AMQPValue), ParserError>
@@ -57,7 +57,7 @@ fn value_within(alloc: Global, i: &[u8], room: usize) -> Result<(usize, AMQPValu
     }
 }
 
-/// Reads the value behind a tag.
+/// Decodes the value after a tag.
 #[tactic(auto, using(amqp_types::proofs::Judged::refuses_next, crate::proofs::Filling::nested_none, crate::proofs::Filling::nested_more), unfolding(amqp_types::specs::ValueJudging::judge_behind))]
 #[cycle(read)]
 fn behind_tag_within(
@@ -144,7 +144,7 @@ fn behind_tag_within(
     }
 }
 
-/// Reads an array, in whose values tables and arrays may nest `room` deep.
+/// Decodes an array, in whose values tables and arrays may nest `room` deep.
 #[tactic(auto, using(amqp_types::proofs::Judged::refuses_next, crate::proofs::Filling::refuses_whole), unfolding(amqp_types::specs::ValueJudging::judge_array))]
 #[cycle(read)]
 fn array_within(alloc: Global, i: &[u8], room: usize) -> Result<(usize, FieldArray), ParserError>
@@ -155,7 +155,7 @@ fn array_within(alloc: Global, i: &[u8], room: usize) -> Result<(usize, FieldArr
     Ok((n, values_in(alloc, content, room)?))
 }
 
-/// Reads a table, in whose values tables and arrays may nest `room` deep.
+/// Decodes a table, in whose values tables and arrays may nest `room` deep.
 #[tactic(auto, using(amqp_types::proofs::Judged::refuses_next, crate::proofs::Filling::refuses_whole), unfolding(amqp_types::specs::ValueJudging::judge_table))]
 #[cycle(read)]
 fn table_within(alloc: Global, i: &[u8], room: usize) -> Result<(usize, FieldTable), ParserError>
@@ -166,7 +166,7 @@ fn table_within(alloc: Global, i: &[u8], room: usize) -> Result<(usize, FieldTab
     Ok((n, entries_in(alloc, content, room)?))
 }
 
-/// Reads the values that fill an array.
+/// Decodes the values that fill an array.
 #[cycle(read)]
 fn values_in(alloc: Global, content: &[u8], room: usize) -> Result<FieldArray, ParserError>
     ensures { AnswersWhole (λ array. array) result (filled (judge_value room) 0 content.now) }
@@ -184,7 +184,7 @@ fn values_in(alloc: Global, content: &[u8], room: usize) -> Result<FieldArray, P
     Ok(array)
 }
 
-/// Reads the entries that fill a table. Of equal keys the last one counts.
+/// Decodes the entries that fill a table. Of duplicate keys the last one wins.
 #[cycle(read)]
 fn entries_in(alloc: Global, content: &[u8], room: usize) -> Result<FieldTable, ParserError>
     ensures { AnswersWhole (λ table. table) result (read_map settled (filled (judge_entry (judge_value room)) 0 content.now)) }
@@ -202,7 +202,7 @@ fn entries_in(alloc: Global, content: &[u8], room: usize) -> Result<FieldTable, 
     Ok(table)
 }
 
-/// Reads a key and, behind it, a tag and its value.
+/// Decodes a key and, after it, a tag and its value.
 #[tactic(auto, using(amqp_types::proofs::Judged::refuses_next), unfolding(amqp_types::specs::ValueJudging::judge_entry))]
 #[cycle(read)]
 fn entry_within(
@@ -218,7 +218,7 @@ fn entry_within(
     Ok((n + m, (key, value)))
 }
 
-/// Reads a tag and its value.
+/// Decodes a tag and its value.
 pub fn parse_value(alloc: Global, i: &[u8]) -> Result<(usize, AMQPValue), ParserError>
     ensures judged { Answers value_of result (judge_field_value i.now) }
     ensures within { IfOk result (λ found. IsWithin (tagged_size (value_of found.1)) (tagged_bytes (value_of found.1)) found.0) }
@@ -227,7 +227,7 @@ pub fn parse_value(alloc: Global, i: &[u8]) -> Result<(usize, AMQPValue), Parser
     value_within(alloc, i, MAX_DEPTH)
 }
 
-/// Reads an array: a length of four bytes, and the values that fill as many.
+/// Decodes an array: a length of four bytes, and the values that fill as many.
 pub fn parse_field_array(alloc: Global, i: &[u8]) -> Result<(usize, FieldArray), ParserError>
     ensures judged { Answers (λ array. array) result (judge_field_array i.now) }
     ensures within { IfOk result (λ found. IsWithin (array_size found.1) (array_bytes found.1) found.0) }
@@ -236,7 +236,7 @@ pub fn parse_field_array(alloc: Global, i: &[u8]) -> Result<(usize, FieldArray),
     array_within(alloc, i, MAX_DEPTH - 1)
 }
 
-/// Reads a table: a length of four bytes, and the entries that fill as many.
+/// Decodes a table: a length of four bytes, and the entries that fill as many.
 pub fn parse_field_table(alloc: Global, i: &[u8]) -> Result<(usize, FieldTable), ParserError>
     ensures judged { Answers (λ table. table) result (judge_field_table i.now) }
     ensures within { IfOk result (λ found. IsWithin (table_size found.1) (table_bytes found.1) found.0) }

@@ -1,4 +1,4 @@
-//! Reading slots one behind another.
+//! Decoding the fields of one container, one after another.
 
 ghost use Rattle.std.specs.Prelude.{◌≡◌, ◌≤◌, ◌-◌, [], ◌∷◌, length, map};
 ghost use Rattle.amqp_types.specs.Numbers.{bytes1, bytes2, bytes4, bytes8};
@@ -39,7 +39,7 @@ impl<'a> SlotReader<'a> {
         whole.len() - self.rest.len()
     }
 
-    /// Reads a number of 1 byte.
+    /// Decodes a number of 1 byte.
     #[tactic(auto, using(crate::proofs::Steps::dropped, amqp_types::proofs::Judged::refuses_next), unfolding(amqp_types::specs::SlotJudging::judge_form))]
     pub fn short_short_uint(&mut self) -> Result<ShortShortUInt, ParserError>
         ensures step { Steps (λ n. number_item n ∷ []) result self.old.rest.now self.new.rest.now (judge_form (number_form bytes1)) }
@@ -51,7 +51,7 @@ impl<'a> SlotReader<'a> {
         Ok(value)
     }
 
-    /// Reads a number of 2 bytes.
+    /// Decodes a number of 2 bytes.
     #[tactic(auto, using(crate::proofs::Steps::dropped, amqp_types::proofs::Judged::refuses_next), unfolding(amqp_types::specs::SlotJudging::judge_form))]
     pub fn short_uint(&mut self) -> Result<ShortUInt, ParserError>
         ensures step { Steps (λ n. number_item n ∷ []) result self.old.rest.now self.new.rest.now (judge_form (number_form bytes2)) }
@@ -63,7 +63,7 @@ impl<'a> SlotReader<'a> {
         Ok(value)
     }
 
-    /// Reads a number of 4 bytes.
+    /// Decodes a number of 4 bytes.
     #[tactic(auto, using(crate::proofs::Steps::dropped, amqp_types::proofs::Judged::refuses_next), unfolding(amqp_types::specs::SlotJudging::judge_form))]
     pub fn long_uint(&mut self) -> Result<LongUInt, ParserError>
         ensures step { Steps (λ n. number_item n ∷ []) result self.old.rest.now self.new.rest.now (judge_form (number_form bytes4)) }
@@ -75,7 +75,7 @@ impl<'a> SlotReader<'a> {
         Ok(value)
     }
 
-    /// Reads a number of 8 bytes.
+    /// Decodes a number of 8 bytes.
     #[tactic(auto, using(crate::proofs::Steps::dropped, amqp_types::proofs::Judged::refuses_next), unfolding(amqp_types::specs::SlotJudging::judge_form))]
     pub fn long_long_uint(&mut self) -> Result<LongLongUInt, ParserError>
         ensures step { Steps (λ n. number_item n ∷ []) result self.old.rest.now self.new.rest.now (judge_form (number_form bytes8)) }
@@ -87,7 +87,7 @@ impl<'a> SlotReader<'a> {
         Ok(value)
     }
 
-    /// Reads a byte of `N` flags.
+    /// Decodes a byte of `N` flags.
     #[tactic(auto, using(crate::proofs::Steps::dropped, amqp_types::proofs::Judged::refuses_next), unfolding(amqp_types::specs::SlotJudging::judge_form, amqp_types::specs::Flags::judge_flags))]
     pub fn flags<const N: usize>(&mut self) -> Result<ShortShortUInt, ParserError>
         ensures step { Steps (λ byte. map flag_item (flags_from N 0 byte)) result self.old.rest.now self.new.rest.now (judge_form (flags_form N)) }
@@ -99,7 +99,7 @@ impl<'a> SlotReader<'a> {
         Ok(value)
     }
 
-    /// Reads a short string.
+    /// Decodes a short string.
     #[tactic(auto, using(crate::proofs::Steps::dropped, amqp_types::proofs::Judged::refuses_next), unfolding(amqp_types::specs::SlotJudging::judge_form))]
     pub fn short_string(&mut self, alloc: Global) -> Result<ShortString, ParserError>
         ensures step { Steps (λ text. text_item text ∷ []) result self.old.rest.now self.new.rest.now (judge_form short_string_form) }
@@ -110,7 +110,7 @@ impl<'a> SlotReader<'a> {
         Ok(value)
     }
 
-    /// Reads a long string.
+    /// Decodes a long string.
     #[tactic(auto, using(crate::proofs::Steps::dropped, amqp_types::proofs::Judged::refuses_next), unfolding(amqp_types::specs::SlotJudging::judge_form))]
     pub fn long_string(&mut self, alloc: Global) -> Result<LongString, ParserError>
         ensures step { Steps (λ bytes. bytes_item bytes ∷ []) result self.old.rest.now self.new.rest.now (judge_form long_string_form) }
@@ -121,7 +121,7 @@ impl<'a> SlotReader<'a> {
         Ok(value)
     }
 
-    /// Reads a table.
+    /// Decodes a table.
     #[tactic(auto, using(crate::proofs::Steps::dropped, amqp_types::proofs::Judged::refuses_next), unfolding(amqp_types::specs::SlotJudging::judge_form))]
     pub fn table(&mut self, alloc: Global) -> Result<FieldTable, ParserError>
         ensures step { Steps (λ es. entries_item es ∷ []) result self.old.rest.now self.new.rest.now (judge_form table_form) }
@@ -132,7 +132,7 @@ impl<'a> SlotReader<'a> {
         Ok(value)
     }
 
-    /// Reads a number of 2 bytes and drops it.
+    /// Decodes a number of 2 bytes and drops it.
     #[tactic(auto, using(crate::proofs::Steps::dropped, amqp_types::proofs::Judged::refuses_next), unfolding(amqp_types::specs::SlotJudging::judge_form, amqp_types::specs::SlotJudging::judge_dropped))]
     pub fn skip_short_uint(&mut self) -> Result<(), ParserError>
         ensures step { Steps (λ _. []) result self.old.rest.now self.new.rest.now (judge_dropped (number_form bytes2)) }
@@ -144,7 +144,7 @@ impl<'a> SlotReader<'a> {
         Ok(())
     }
 
-    /// Reads a number of 4 bytes and drops it.
+    /// Decodes a number of 4 bytes and drops it.
     #[tactic(auto, using(crate::proofs::Steps::dropped, amqp_types::proofs::Judged::refuses_next), unfolding(amqp_types::specs::SlotJudging::judge_form, amqp_types::specs::SlotJudging::judge_dropped))]
     pub fn skip_long_uint(&mut self) -> Result<(), ParserError>
         ensures step { Steps (λ _. []) result self.old.rest.now self.new.rest.now (judge_dropped (number_form bytes4)) }
@@ -156,7 +156,7 @@ impl<'a> SlotReader<'a> {
         Ok(())
     }
 
-    /// Reads a short string and drops it.
+    /// Decodes a short string and drops it.
     #[tactic(auto, using(crate::proofs::Steps::dropped, amqp_types::proofs::Judged::refuses_next), unfolding(amqp_types::specs::SlotJudging::judge_form, amqp_types::specs::SlotJudging::judge_dropped))]
     pub fn skip_short_string(&mut self) -> Result<(), ParserError>
         ensures step { Steps (λ _. []) result self.old.rest.now self.new.rest.now (judge_dropped short_string_form) }
@@ -168,7 +168,7 @@ impl<'a> SlotReader<'a> {
         Ok(())
     }
 
-    /// Reads a long string and drops it.
+    /// Decodes a long string and drops it.
     #[tactic(auto, using(crate::proofs::Steps::dropped, amqp_types::proofs::Judged::refuses_next), unfolding(amqp_types::specs::SlotJudging::judge_form, amqp_types::specs::SlotJudging::judge_dropped))]
     pub fn skip_long_string(&mut self) -> Result<(), ParserError>
         ensures step { Steps (λ _. []) result self.old.rest.now self.new.rest.now (judge_dropped long_string_form) }
@@ -180,7 +180,7 @@ impl<'a> SlotReader<'a> {
         Ok(())
     }
 
-    /// Reads a byte of `N` flags and drops it.
+    /// Decodes a byte of `N` flags and drops it.
     #[tactic(auto, using(crate::proofs::Steps::dropped, amqp_types::proofs::Judged::refuses_next), unfolding(amqp_types::specs::SlotJudging::judge_form, amqp_types::specs::SlotJudging::judge_dropped, amqp_types::specs::Flags::judge_flags))]
     pub fn skip_flags<const N: usize>(&mut self) -> Result<(), ParserError>
         ensures step { Steps (λ _. []) result self.old.rest.now self.new.rest.now (judge_dropped (flags_form N)) }

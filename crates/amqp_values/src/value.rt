@@ -1,3 +1,5 @@
+//! Values, arrays and tables, as programs hold them.
+
 ghost use Rattle.std.specs.Prelude.{◌≡◌, ◌↔◌, ◌++◌, ◌∷◌, [], length, map, IsTrue, OnOk, OnErr};
 ghost use Rattle.std.specs.Option.{option_map};
 ghost use Rattle.std.specs.Ordering.{nat_cmp};
@@ -16,7 +18,7 @@ use std::marker::Model;
 /// A number that is to be divided by ten as often as the scale says.
 #[derive(Clone, Copy, Debug, PartialEq, Eq)]
 pub struct DecimalValue {
-    /// How many digits stand behind the point.
+    /// How many digits stand after the point.
     pub scale: ShortShortUInt,
 
     /// The digits.
@@ -86,7 +88,7 @@ pub struct FieldArray {
     values: Vec<AMQPValue>,
 }
 
-/// Keys and their values, in rising order of the keys' bytes.
+/// Keys and their values, in ascending order of the keys' bytes.
 #[cycle(value)]
 #[derive(Debug, Drop)]
 pub struct FieldTable {
@@ -233,7 +235,7 @@ impl FieldTable {
         None
     }
 
-    /// The entries in rising order of their keys' bytes.
+    /// The entries in ascending order of their keys' bytes.
     pub fn iter(&self) -> FieldTableIter<'_>
         ensures entries { result ≡ self.now }
         ensures rising { IsRising self.now }
