@@ -3,8 +3,8 @@ use Rattle.std.proofs.Common.{◌≡◌, ◌+◌, min, ℕ, Ok, ap, sym}
 use Rattle.amqp_frame.specs.Frames.{Frame}
 use Rattle.amqp_frame.specs.Canonical.{canon}
 use Rattle.amqp_stream.specs.Ends.{last}
-use Rattle.amqp_stream_vectors.specs.declared.counting.Counting.{Counting}
-use Rattle.amqp_stream_vectors.specs.Counting.{counting}
+use Rattle.amqp_vectors_streams.specs.declared.counting.Counting.{Counting}
+use Rattle.amqp_vectors_streams.specs.Counting.{counting}
 
 pub counts : (s : Counting) (frames : ℕ) → frames ≡ min (s.frames + 1) last → (f : Frame) → counting.step s f ≡ Ok (canon f, record s { frames = frames })
 counts s frames stands f = ap (λ n. Ok (canon f, record s { frames = n })) (sym stands)

@@ -11,7 +11,7 @@ pub struct Counting {
 }
 
 impl FrameWriter for Counting {
-    ghost use Rattle.amqp_stream_vectors.specs.Counting.{counting};
+    ghost use Rattle.amqp_vectors_streams.specs.Counting.{counting};
 
     type Refusal = Infallible;
 

@@ -5,7 +5,7 @@ use Rattle.amqp_types.specs.Levels.{plain}
 use Rattle.amqp_frame.specs.Canonical.{canon}
 use Rattle.amqp_stream.specs.Ends.{last}
 use Rattle.amqp_stream.specs.Steps.{Manner}
-use Rattle.amqp_stream_vectors.specs.declared.counting.Counting.{Counting}
+use Rattle.amqp_vectors_streams.specs.declared.counting.Counting.{Counting}
 
 -- the state after one frame more; the count stays at its last value
 abbrev pub one_more : Counting → Counting
