@@ -1,4 +1,4 @@
--- What an assembler keeps tells what one more frame gives, and what to keep after it.
+-- What an assembler keeps decides what one more frame gives, and what to keep after it.
 use Rattle.std.proofs.Common.{◌≡◌, ℕ, ◌+◌, ◌<◌, ◌≤◌, Bool, true, false, cond, eqb, leb, List, [], ◌∷◌, ◌++◌, length, refl, sym, ap, ap₂, subst, ◌∙◌, arith, Option, Some, None, Result, Ok, Err}
 use Rattle.std.specs.Prelude.{IfOk}
 use Rattle.std.proofs.lemmas.List.{append-nil, append_assoc, length-append}
@@ -46,7 +46,7 @@ pub length-joined : (frames : List Frame) → length (joined frames) ≡ bytes_i
 length-joined [] = refl
 length-joined (f ∷ fs) = omega (arith, length-append (bytes_of f) (joined fs), count_kept f, length-joined fs)
 
--- an assembler's state tells what a tracker's does
+-- an assembler's state says what a tracker's does
 pub same_progress : (state : State Frame) → kept_progress (kept_of state) ≡ progress_of outline_of state
 same_progress (At Nothing) = refl
 same_progress (At (Opened opening)) = refl

@@ -1,4 +1,4 @@
--- What a tracker keeps tells the mark of one more frame, and what to keep after it.
+-- What a tracker keeps decides the mark of one more frame, and what to keep after it.
 use Rattle.std.proofs.Common.{◌≡◌, ℕ, ◌+◌, ◌<◌, ◌≤◌, Bool, true, false, cond, eqb, leb, List, [], ◌∷◌, ◌++◌, refl, sym, ap, subst, ◌∙◌, arith, Option, Some, None}
 use Rattle.amqp_frame.specs.declared.outline.FrameOutline.{FrameOutline}
 use Rattle.amqp_frame.specs.declared.outline.FrameOutline.TheVariants as outlines

@@ -106,7 +106,7 @@ module _ {X : Type 0} (outline : X → FrameOutline) where
   bytes_in [] = 0
   bytes_in (x ∷ xs) = count_in (outline x) + bytes_in xs
 
-  -- An opening may wait for its content header, and a content header of a size up to the greatest for more bytes.
+  -- An opening may lack its content header, and a content header of a size up to the greatest for more bytes.
   abbrev pub IsBegun : ℕ → Begun X → Type 0
   IsBegun max Nothing = Unit {0}
   IsBegun max (Opened opening) = IsOpening (outline opening)

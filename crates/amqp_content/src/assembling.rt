@@ -11,7 +11,7 @@ use amqp_frame::AMQPFrame;
 use amqp_types::NoMemory;
 use std::alloc::Global;
 
-/// What becomes of each of some frames, of any channels, in an assembler of its own.
+/// What becomes of each of some frames, of any channels, in a new assembler.
 pub fn assemble(
     alloc: Global,
     max_body: u64,

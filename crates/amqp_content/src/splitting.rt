@@ -31,7 +31,7 @@ fn push_pieces(
 }
 
 /// The frames of a message: its opening, its content header, and bodies of at most `max_payload`
-/// bytes. The only error is want of memory.
+/// bytes. The only error is out of memory.
 pub fn split(alloc: Global, message: Message, max_payload: u32) -> Result<Vec<AMQPFrame>, NoMemory>
     requires { 1 ≤ max_payload }
     ensures { IfOk result (λ frames. map frame_of frames.items ≡ split_of max_payload message) }

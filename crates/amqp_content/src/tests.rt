@@ -1,4 +1,4 @@
-//! Rows of frames with the outcomes and marks that they have, and each public call once.
+//! Sequences of frames with the outcomes and marks that they have, and each public call once.
 
 use crate::{
     Assembler, ContentFault, Mark, Message, Opening, Outcome, Tracker, answers_are_steps, assemble,
@@ -12,7 +12,7 @@ use std::alloc::Global;
 use std::process::Abort;
 use std::test::Fail;
 
-/// A frame of a row: the channel, and what the row says of the frame.
+/// A frame of a sequence, by its channel and what the sequence says of it.
 #[derive(Clone, Copy)]
 enum Step {
     Publish(u16),
@@ -90,7 +90,7 @@ fn number(outcome: &Outcome) -> u8 {
     }
 }
 
-/// The outcomes of a row of frames are these.
+/// The outcomes of a sequence of frames are these.
 fn row(
     rt: &impl Abort,
     alloc: Global,

@@ -1,4 +1,4 @@
--- What is read anew of bytes that were judged.
+-- What is decoded again of bytes that were decoded before.
 use Rattle.std.proofs.Common.{◌≡◌, ℕ, ◌+◌, ◌<◌, List, ◌∷◌, length, get_or, drop, Some, None, Result, Ok, Err, refl, sym, ap, subst, ◌∙◌, arith}
 use Rattle.amqp_types.specs.Judging.{Judged, Fault, took, ◌>>=◌, IsBytes}
 use Rattle.amqp_types.specs.Answers.{AnswersFully}

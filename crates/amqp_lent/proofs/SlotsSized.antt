@@ -1,4 +1,4 @@
--- How many canonical bytes there are for slots and properties that were read.
+-- How many canonical bytes there are for fields and properties that were decoded.
 use Rattle.std.proofs.Common.{◌≡◌, ◌≤◌, ℕ, ◌+◌, true, false, List, ◌∷◌, length, drop, inl, inr, refl, sym, ap, ◌∙◌, arith}
 use Rattle.std.proofs.lemmas.List.{length-take-le}
 use Rattle.amqp_types.specs.Judging.{IsBytes}
@@ -18,7 +18,7 @@ use Rattle.amqp_canonical.specs.Writes.{IsRead, canonical_of, slot_bytes, used_o
 use Rattle.amqp_canonical.proofs.PayloadParts.{SetPut, gives_one_at, property_here, property_past, set_end, set_none}
 use Rattle.amqp_canonical.proofs.SlotParts.{CopiedForm, SlotsPut, copied_form, flags_size, flags_slot, slot_here, slots_end, slots_none}
 
--- ---- one slot
+-- ---- one field
 
 copied_size : (s : Shape) (bytes : List ℕ) (n : ℕ) → CopiedForm bytes n (form_of s) → n ≡ length (canonical_of (form_bytes (form_of s)) (judge_form (form_of s) bytes))
 copied_size s bytes n h = sym (length-take-le n bytes h.within) ∙ ap length h.bytes_are
@@ -39,7 +39,7 @@ form_length shapes.ReservedFlag bytes n t fits h used = let put = flags_slot 1 b
 form_length shapes.ReservedShortString bytes n t fits h used = copied_size shapes.ReservedShortString bytes n (copied_form (form_of shapes.ReservedShortString) bytes n refl fits h used)
 form_length shapes.ReservedLongString bytes n t fits h used = copied_size shapes.ReservedLongString bytes n (copied_form (form_of shapes.ReservedLongString) bytes n refl fits h used)
 
--- ---- slots one after another
+-- ---- fields one after another
 
 abbrev pub all_slots : List Slot → List ℕ → List ℕ
 all_slots slots bytes = canonical_of (slots_bytes slots) (judge_slots slots bytes)

@@ -2,7 +2,7 @@
 use Rattle.std.specs.Prelude.{ℕ, List, ◌∷◌, ◌++◌}
 use Rattle.amqp_types.specs.Numbers.{bytes2, bytes8, number_bytes}
 
--- the payload of a method: the ids of its class and of the method, and its slots (AMQP 0-9-1, section 4.2.4)
+-- the payload of a method: the ids of its class and of the method, and its fields (AMQP 0-9-1, section 4.2.4)
 abbrev pub method_payload : ℕ → ℕ → List ℕ → List ℕ
 method_payload class id slots = number_bytes bytes2 class ++ (number_bytes bytes2 id ++ slots)
 

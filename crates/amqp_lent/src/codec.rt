@@ -75,7 +75,7 @@ impl LentCodec {
             (K.store sink.old) (K.store sink.new) (as_stream result) }
         ensures unread { turns ≡ 0 → source.new ≡ source.old }
 
-        // Over a source that tells its bytes, the answer is by all of them, however they are cut.
+        // Over a source that reports its bytes, the result depends on them alone, however they are cut.
         ensures exact { (bytes : List ℕ) → (S.supply source.old).left ≡ Some bytes
             → AnswersExactly plain self.old bytes (K.store sink.old) (K.store sink.new) (as_stream result) }
         ensures complete { (bytes : List ℕ) → (S.supply source.old).left ≡ Some bytes
@@ -106,7 +106,7 @@ pub fn canonicalize_lent<S: Source, K: Sink>(
         → NeverBegan (S.supply source.old) (S.supply source.new) (K.store sink.old) (K.store sink.new) result }
     ensures never_untidy { result ≢ Err StreamError.NotTidy }
 
-    // Over a source that tells its bytes, the answer is by all of them, however they are cut.
+    // Over a source that reports its bytes, the result depends on them alone, however they are cut.
     ensures exact { (bytes : List ℕ) → (S.supply source.old).left ≡ Some bytes
         → AnswersExactly plain max_payload bytes (K.store sink.old) (K.store sink.new) result }
     ensures complete { (bytes : List ℕ) → (S.supply source.old).left ≡ Some bytes

@@ -1,4 +1,4 @@
-//! Frames that are borrowed from payloads that were judged.
+//! Frames that are borrowed from payloads that were decoded before.
 
 ghost use Rattle.std.specs.Prelude.{◌≡◌, ◌≤◌, [], length, IfOk, IsOk};
 ghost use Rattle.amqp_frame.specs.declared.frame_type.AMQPFrameType.TheVariants as kinds;
@@ -94,7 +94,7 @@ fn heartbeat_on<'a>(channel: ChannelId) -> LentFrame<'a>
     }
 }
 
-/// Borrows the frame that a judged payload of this type is.
+/// Borrows the frame that a payload of this type is, once it was decoded.
 fn lent_as<'a>(frame_type: AMQPFrameType, channel: ChannelId, payload: &'a [u8]) -> LentFrame<'a>
     requires whole { IsOk (whole_as frame_type channel payload.now) }
     ensures same { whole (raw_of_lent result) ≡ whole_as frame_type channel payload.now }

@@ -1,4 +1,5 @@
-//! Tables, arrays and frames of AMQP 0-9-1 borrowed from bytes that were judged, and a codec that takes no memory once it is open.
+//! Tables, arrays and frames of AMQP 0-9-1 borrowed from bytes that were decoded before, and a codec that takes no
+//! memory once it is open.
 #![tactic(auto)]
 
 mod codec;

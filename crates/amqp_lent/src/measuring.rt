@@ -1,4 +1,4 @@
-//! How many canonical bytes there are for values, arrays and tables that were judged. No memory is taken: the entries of a
+//! How many canonical bytes there are for values, arrays and tables that were decoded before. No memory is taken: the entries of a
 //! table are found by their keys, in quadratic time.
 
 ghost use Rattle.std.specs.Prelude.{◌≡◌, ◌<◌, ◌^◌, Some, length, slice_index_or};

@@ -31,7 +31,7 @@ fn long_long_at(i: &[u8]) -> u64
     }
 }
 
-/// The class id, the method id and the bytes of the slots of a method in a payload.
+/// The class id, the method id and the bytes of the fields of a method in a payload.
 pub(crate) fn method_parts(payload: &[u8]) -> (Identifier, Identifier, &[u8])
     requires { 4 ≤ length payload.now }
     ensures { method_payload result.0 result.1 result.2.now ≡ payload.now }

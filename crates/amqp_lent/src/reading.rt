@@ -1,4 +1,4 @@
-//! Values and entries that were judged, read anew from where they stand.
+//! Values and entries that were decoded before, decoded again where they stand.
 
 ghost use Rattle.std.specs.Prelude.{◌≡◌, ◌≤◌, length, option_map, IfOk, IfSome};
 ghost use Rattle.amqp_types.specs.Answers.{AnswersFully};
@@ -159,7 +159,7 @@ fn read_entry<'a>(
     Ok((n + m, (key, value)))
 }
 
-/// The value that was judged at the front.
+/// The value that was decoded at the front.
 fn value_in<'a>(i: &'a [u8], room: usize) -> Option<LentValue<'a>>
     requires read { IsRead (judge_value room i.now) }
     ensures { option_map value_of result ≡ taken (judge_value room i.now) }
@@ -185,7 +185,7 @@ pub(crate) fn first_item<'a>(content: &'a [u8], room: usize) -> Option<(LentValu
     }
 }
 
-/// The key and the value that were judged at the front.
+/// The key and the value that were decoded at the front.
 pub(crate) fn entry_in<'a>(i: &'a [u8], room: usize) -> Option<(&'a str, LentValue<'a>)>
     requires read { IsRead (judge_entry (judge_value room) i.now) }
     ensures { option_map entry_of result ≡ taken (judge_entry (judge_value room) i.now) }

@@ -1,4 +1,4 @@
-//! How many canonical bytes there are for slots and properties that were judged.
+//! How many canonical bytes there are for fields and properties that were decoded before.
 
 ghost use Rattle.std.specs.Prelude.{◌≡◌, ◌<◌, ◌^◌, length};
 ghost use Rattle.amqp_types.specs.Properties.{properties};
@@ -13,7 +13,7 @@ use crate::measuring::size_table;
 use amqp_canonical::{Shape, bytes_from, has_bit, property_shapes, slot_size};
 use amqp_types::parse_short_uint;
 
-/// The size in canonical bytes of what is spelled as a slot of this shape, reserved or not.
+/// The size in canonical bytes of what is encoded as a field of this shape, reserved or not.
 fn size_form(shape: Shape, i: &[u8]) -> usize
     requires read { IsRead (judge_form (form_of shape) i.now) }
     ensures { result ≡ length (canonical_of (form_bytes (form_of shape)) (judge_form (form_of shape) i.now)) }
@@ -24,7 +24,7 @@ fn size_form(shape: Shape, i: &[u8]) -> usize
     }
 }
 
-/// The size of a slot in canonical bytes.
+/// The size of a field in canonical bytes.
 fn size_slot(shape: Shape, i: &[u8]) -> usize
     requires read { IsRead (judge_slot (slot_of shape) i.now) }
     ensures { result ≡ length (canonical_of (slot_bytes (slot_of shape)) (judge_slot (slot_of shape) i.now)) }
@@ -39,7 +39,7 @@ fn size_slot(shape: Shape, i: &[u8]) -> usize
     }
 }
 
-/// The size in canonical bytes of slots of these shapes.
+/// The size in canonical bytes of fields of these shapes.
 pub(crate) fn size_slots(shapes: &[Shape], i: &[u8]) -> usize
     requires read { IsRead (judge_slots (slots_of shapes.now) i.now) }
     requires few { length (canonical_of (slots_bytes (slots_of shapes.now)) (judge_slots (slots_of shapes.now) i.now)) < 2 ^ 32 }

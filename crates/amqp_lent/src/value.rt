@@ -1,4 +1,4 @@
-//! Values, arrays and tables that are borrowed from bytes that were judged.
+//! Values, arrays and tables that are borrowed from bytes that were decoded before.
 
 ghost use Rattle.std.specs.Prelude.{◌≡◌, option_map};
 ghost use Rattle.amqp_types.specs.Settling.{value_at};

@@ -83,7 +83,7 @@ digits_in_front-append (digit ∷ digits) rest all ends =
     let more = digits_in_front-append digits rest all.1 ends in
     rw digit_is (omega (arith, more))
 
--- what was read stands in front, spelled so
+-- what was read stands in front, in these digits
 pub record Front {A : Type 0} (text : A → List ℕ) (Is : A → Type 0) (bytes : List ℕ) (found : A × List ℕ) : Type 0 where
   pub is : bytes ≡ text found.0 ++ found.1
   pub valid : Is found.0

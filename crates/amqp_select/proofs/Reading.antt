@@ -10,7 +10,7 @@ use Rattle.amqp_select.specs.Reading.{read_rule}
 use Rattle.amqp_select.specs.Refusals.{texts_of, IsRuleWord, Spell, IsFirstMalformed}
 use Rattle.amqp_select.proofs.Words.{rule_taken, rule_front}
 
--- the words spell the rules
+-- the words stand for the rules
 pub record SpelledBy (words : List (List ℕ)) (rules : List Rule) : Type 0 where
   pub are_rules : AllByRecursion IsRule rules
   pub are : words ≡ map spelled rules

@@ -1,4 +1,4 @@
--- A word is read as the rule that it spells, and what is read of a word spells it.
+-- A word is read as the rule that it stands for, and what is read of a word stands for it.
 use Rattle.std.proofs.Common.{◌≡◌, ℕ, ◌≤◌, Bool, true, false, List, [], ◌∷◌, ◌++◌, length, take, drop, Option, Some, None, refl, sym, ap, subst, ◌∙◌, arith}
 use Rattle.std.specs.Prelude.{nat_le, codes, IfSome, if◌then◌else◌}
 use Rattle.std.specs.Fmt.{decimal}
@@ -229,7 +229,7 @@ rule_taken rule h =
     (rw (id_taken (codes ",class=") rule.class_id (method_text rule.method_id) (after_class rule.method_id) h.class_id)
     (rw (method_taken rule.method_id h.method_id) refl))))
 
--- what was read as a rule spells it
+-- what was read as a rule stands for it
 pub record Spells (word : List ℕ) (rule : Rule) : Type 0 where
   pub is_rule : IsRule rule
   pub is : word ≡ spelled rule

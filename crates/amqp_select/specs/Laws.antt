@@ -10,6 +10,6 @@ use Rattle.amqp_select.specs.Covering.{uncovered}
 abbrev pub CoveredRulesDecideNothing : Type 0
 CoveredRulesDecideNothing = (rules : List Rule) (frames : List Frame) → kept (uncovered rules) frames ≡ kept rules frames
 
--- no word spells two rules
+-- no word stands for two rules
 abbrev pub WordsSpellOneRule : Type 0
 WordsSpellOneRule = (r q : Rule) → IsRule r → IsRule q → spelled r ≡ spelled q → r ≡ q

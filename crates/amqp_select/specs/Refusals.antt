@@ -12,7 +12,7 @@ use Rattle.amqp_select.specs.Rules.{IsRule, spelled}
 abbrev pub texts_of : List (String Global) → List (List ℕ)
 texts_of words = map (λ word. string_bytes word) words
 
--- a word that spells a rule
+-- a word that stands for a rule
 pub record IsRuleWord (word : List ℕ) : Type 0 where
   pub rule : Rule
   pub is_rule : IsRule rule
@@ -21,13 +21,13 @@ pub record IsRuleWord (word : List ℕ) : Type 0 where
 abbrev pub IsCount : ℕ → Type 0
 IsCount n = (1 ≤ n) × (n ≤ 64)
 
--- the words spell these rules, in order
+-- the words stand for these rules, in order
 pub record Spell (words : List (List ℕ)) (rules : List Rule) : Type 0 where
   pub count : IsCount (length words)
   pub are_rules : AllByRecursion IsRule rules
   pub are : words ≡ map spelled rules
 
--- the word at this place is the first that spells no rule
+-- the word at this place is the first that stands for no rule
 pub record IsFirstMalformed (words : List (List ℕ)) (place : ℕ) : Type 0 where
   pub count : IsCount (length words)
   pub before : List (List ℕ)
@@ -38,7 +38,7 @@ pub record IsFirstMalformed (words : List (List ℕ)) (place : ℕ) : Type 0 whe
   pub rules_before : AllByRecursion IsRuleWord before
   pub no_rule : ¬ IsRuleWord word
 
--- When each answer comes. Memory runs out only where the words spell rules.
+-- When each result comes. Memory runs out only where the words stand for rules.
 abbrev pub Parses : List (List ℕ) → Result (List Rule) RuleError → Type 0
 Parses words (Ok rules) = Spell words rules
 Parses words (Err errors.Count) = (length words ≡ 0) ⊎ (64 < length words)

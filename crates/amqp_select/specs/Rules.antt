@@ -1,4 +1,4 @@
--- Rules, and the one word that spells each.
+-- Rules, and the one word that stands for each.
 use Rattle.std.specs.Prelude.{ℕ, ◌≤◌, List, [], ◌++◌, Bool, true, false, Option, Some, None, codes, IfSome}
 use Rattle.std.specs.Fmt.{decimal}
 use Rattle.amqp_frame.specs.declared.frame_type.AMQPFrameType.{AMQPFrameType}
@@ -15,7 +15,7 @@ abbrev pub IsSpan : Span → Type 0
 IsSpan (spans.One only) = IsNumber only
 IsSpan (spans.Range first last) = (first ≤ last) × IsNumber last
 
--- the rules that a word can spell
+-- the rules that a word can stand for
 pub record IsRule (rule : Rule) : Type 0 where
   pub channel : IfSome rule.channel IsSpan
   pub class_id : IfSome rule.class_id IsNumber

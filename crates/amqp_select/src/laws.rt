@@ -7,7 +7,7 @@ pub fn covered_rules_decide_nothing()
     ensures { CoveredRulesDecideNothing }
 {}
 
-/// No word spells two rules.
+/// No word stands for two rules.
 pub fn words_spell_one_rule()
     ensures { WordsSpellOneRule }
 {}

@@ -36,7 +36,7 @@ impl Model for Rules {
 }
 
 impl Rules {
-    /// The rules that 1 to 64 words spell, each a word of its own. Whether they do is told without memory.
+    /// The rules that 1 to 64 words stand for, one a word. Whether they do is found without memory.
     pub fn parse(alloc: Global, words: &[String]) -> Result<Rules, RuleError>
         ensures { Parses (texts_of words.now) result }
     {
@@ -95,7 +95,7 @@ impl Rules {
     }
 }
 
-/// The rules that 1 to 64 words spell.
+/// The rules that 1 to 64 words stand for.
 fn parse_rules(alloc: Global, words: &[String]) -> Result<Vec<Rule>, RuleError>
     ensures { ParsesItems (texts_of words.now) result }
 {

@@ -19,14 +19,14 @@ use amqp_types::ChunkSize;
 use std::alloc::Global;
 use std::convert::Infallible;
 
-/// Writes the canonical bytes of each frame that rules keep. The others are judged all the same.
+/// Writes the canonical bytes of each frame that rules keep. The others are decoded all the same.
 #[derive(Drop)]
 pub(crate) struct Selector<'a> {
     rules: &'a Rules,
 }
 
 impl<'a> Selector<'a> {
-    /// Whether a borrowed frame is kept. Its payload is not judged yet, so that one that is kept is judged once, as it is
+    /// Whether a borrowed frame is kept. Its payload is not decoded yet, so that one that is kept is decoded once, as it is
     /// written.
     fn keeps(&self, raw: AMQPRawFrame<'_>) -> bool
         ensures { (frame : Frame) → whole (raw_of raw.entry) ≡ Ok frame → result ≡ decides self.now.rules.now (outline_of frame) }
@@ -69,7 +69,7 @@ impl<'a> FrameWriter for Selector<'a> {
 }
 
 /// Writes the canonical bytes of the frames that rules keep of a stream, to the end of input or an error. The others are
-/// read and judged all the same. Each read takes one of the read budget.
+/// read and decoded all the same. Each read takes one of the read budget.
 pub fn select<S: Source, K: Sink>(
     alloc: Global,
     rules: &Rules,
@@ -86,7 +86,7 @@ pub fn select<S: Source, K: Sink>(
         → NeverBegan (S.supply source.old) (S.supply source.new) (K.store sink.old) (K.store sink.new) result }
     ensures never_untidy { result ≢ Err StreamError.NotTidy }
 
-    // Over a source that tells its bytes, the answer is by all of them, however they are cut.
+    // Over a source that reports its bytes, the result depends on them alone, however they are cut.
     ensures exact { (bytes : List ℕ) → (S.supply source.old).left ≡ Some bytes
         → TranscribesExactly (selection rules.now) plain max_payload bytes (K.store sink.old) (K.store sink.new) result }
     ensures complete { (bytes : List ℕ) → (S.supply source.old).left ≡ Some bytes

@@ -15,7 +15,7 @@ pub fn words_in(alloc: Global, words: &[&str]) -> Result<Vec<String>, NoMemory> 
     Ok(all)
 }
 
-/// The rules that these words spell.
+/// The rules that these words stand for.
 fn parse(alloc: Global, words: &[&str]) -> Result<Rules, RuleError> {
     match words_in(alloc, words) {
         Ok(words) => Rules::parse(alloc, words.as_slice()),

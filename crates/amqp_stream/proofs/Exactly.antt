@@ -1,4 +1,4 @@
--- What a run answers by all the bytes that a source has.
+-- What a run returns, by all the bytes that a source has.
 use Rattle.std.proofs.Common.{◌≡◌, ◌≢◌, ℕ, ◌<◌, List, [], ◌∷◌, ◌++◌, length, ◌⊎◌, Option, Some, None, Result, Ok, Err, refl, sym, ap, subst, ◌∙◌, inl, inr, arith, append_assoc, append-nil}
 use Rattle.std.proofs.lemmas.List.{length-append}
 use Rattle.amqp_types.specs.Levels.{Level}
@@ -35,7 +35,7 @@ all_taken bytes taken (Some rest) e h =
     let same : bytes ≡ taken ++ rest = cc in
     sym (same ∙ ap (λ (xs : List ℕ). taken ++ xs) h ∙ append-nil taken)
 
--- ---- the answer by the place of all
+-- ---- the result by the place of all
 
 answer_at-some : (p : List ℕ) (j k : Judged Frame) (r : Result (Unit {0}) StreamError) → (p ≡ [] → ⊥) → j ≡ k → ((x : ℕ) (xs : List ℕ) → answer_at (x ∷ xs) k ≡ r) → answer_at p j ≡ r
 answer_at-some [] j k r h e f = absurd (h refl)
@@ -66,7 +66,7 @@ front-append level m bytes rest =
 
 -- ---- a run over all of the bytes
 
--- the answer by what is known of all
+-- the result by what is known of all
 known : {S E : Type 0} (w : Manner S E) (s : S) (m : ℕ) (bytes : List ℕ) (why end : Option E) (answer : Result (Unit {0}) StreamError) → refused_of w s m bytes ≡ why → w.end (state_of w s m bytes) ≡ end → answer_to w.level m bytes ≡ answer → answer_by w s m bytes ≡ answer_of why end answer
 known w s m bytes why end answer p q r = ap (λ x. answer_of x (w.end (state_of w s m bytes)) (answer_to w.level m bytes)) p ∙ ap (λ x. answer_of why x (answer_to w.level m bytes)) q ∙ ap (answer_of why end) r
 

@@ -56,7 +56,7 @@ given_refilled all buf frame new s t next then frames given g making same = reco
   parts = g.parts ∙ ap (λ (xs : List ℕ). take given buf ++ xs) (sym same);
 }
 
--- what was put at a place of a buffer stands behind what stood before it
+-- what was put at a place of a buffer stands after what stood before it
 put_behind : (old new bytes : List ℕ) (at end : ℕ) → at ≤ length old → Puts old new at bytes end → take end new ≡ take at old ++ bytes
 unfolding written
 put_behind old new bytes at end room p =

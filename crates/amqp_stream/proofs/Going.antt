@@ -214,7 +214,7 @@ Clear-read {r = r} {left = left} {b = b} {c = c} {held = held} {after = after} i
       room = room;
     }
 
--- each turn of the loop uses a read or bytes
+-- each iteration of the loop uses a read or bytes
 pub read_falls : (m left h h' : ℕ) → 0 < left → h' ≤ m + 8 → (left - 1) * (m + 9) + h' < left * (m + 9) + h
 read_falls m left h h' some room =
     let one : ((left - 1) + 1) * (m + 9) ≤ left * (m + 9) = mul-le-mul_right (m + 9) (omega arith) in omega (arith, one)

@@ -1,4 +1,4 @@
--- The frames that are generated, of which two are methods, and the row that they are.
+-- The frames that are generated, of which two are methods, and the sequence that they are.
 use Rattle.std.proofs.Common.{◌≡◌, ℕ, zero, suc, ◌+◌, ◌-◌, ◌%◌, ◌^◌, ◌<◌, ◌&&◌, Bool, true, false, List, [], ◌∷◌, ◌++◌, drop, Ok, refl, ap, ◌∙◌, arith, rules}
 use Rattle.std.specs.Prelude.{◌==◌, nat_lt, if◌then◌else◌}
 use Rattle.std.specs.Str.{is_utf8}
@@ -23,7 +23,7 @@ use Rattle.amqp_frame.specs.Spelling.{Spells}
 use Rattle.amqp_stream.specs.Made.{made_channel, made_payload, made_frame, select_payload, declare_payload, MadeIsARow}
 use Rattle.amqp_stream.proofs.MadeRows.{made_row}
 
--- ---- payloads that are judged by computing
+-- ---- payloads that are decoded by computing
 
 -- each of these numbers is a byte
 abbrev are_bytes : List ℕ → Bool
@@ -45,7 +45,7 @@ select_judged : judge_payload select_payload ≡ took select 5
 unfolding judge_payload judge_in_class judge_method rows_of slots_at judge_slots judge_form judge_flags
 select_judged = refl
 
--- ---- the payload with strings: `is_utf8` computes nothing here, and each of them is judged by a lemma
+-- ---- the payload with strings: `is_utf8` computes nothing here, and each of them is decoded by a lemma
 
 text_judged : (text : List ℕ) (n : ℕ) → is_utf8 text ≡ true → (if is_utf8 text then took text n else fault not_utf8) ≡ took text n
 text_judged text n e = ap (λ b. if b then took text n else fault not_utf8) e
@@ -66,7 +66,7 @@ value = judge_value 63
 abbrev entry : Bool → Entry
 entry b = (97 ∷ [], boolean_value b)
 
--- a key that was judged, and behind it its value
+-- a key that was decoded, and after it its value
 abbrev with_key : List ℕ → Judged (List ℕ) → Judged Entry
 with_key bytes key = key >>= λ k. value (drop k.1 bytes) >>= λ v. took (k.0, v.0) (k.1 + v.1)
 
@@ -141,7 +141,7 @@ declare_judged : judge_payload declare_payload ≡ took declare 20
 unfolding judge_payload judge_in_class judge_method rows_of slots_at
 declare_judged = ap (λ j. ((j >>= λ xs. took (method 50 10 xs.0) xs.1) >>= λ m. took m.0 (2 + m.1)) >>= λ m. took m.0 (2 + m.1)) slots_judged
 
--- ---- what they spell
+-- ---- what they encode
 
 select_spelled : SpellsPayload plain select_payload select
 select_spelled = (payloads_lawful.exact.spelled select_payload select 5 (bytes_by select_payload refl) select_judged).0

@@ -1,4 +1,4 @@
--- The generated stream is a row of frames.
+-- The generated stream is a sequence of frames.
 use Rattle.std.proofs.Common.{ℕ, zero, suc, ◌+◌, [], ◌∷◌, refl, arith}
 use Rattle.amqp_types.specs.Levels.{plain}
 use Rattle.amqp_frame.specs.Frames.{Frame}
@@ -6,7 +6,7 @@ use Rattle.amqp_frame.specs.Spelling.{Spells}
 use Rattle.amqp_stream.specs.Made.{made_frame, made_from, IsRowOf}
 use Rattle.amqp_stream.proofs.MadeSizes.{made_frame-short}
 
--- where each frame is spelled, the frames in turn are a row
+-- where each frame is encoded, the frames one after another are a sequence
 pub made_row : (frame : ℕ → Frame) → ((i : ℕ) → Spells plain (made_frame i) (frame i)) → (i n : ℕ) → IsRowOf n (made_from i n)
 made_row frame spelled i zero = record { frames = []; spelled = refl; count = refl }
 made_row frame spelled i (suc n) =

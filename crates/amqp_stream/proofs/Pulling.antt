@@ -130,7 +130,7 @@ tells m b s t turns errors.TooLarge bad e h = fault_told (outer (Some m) b) bad 
 tells m b s t turns errors.BadFrameEnd bad e h = fault_told (outer (Some m) b) bad _ e h
 tells m b s t turns error bad e h = absurd (fault_decided (outer (Some m) b) bad e h.0)
 
--- a fault that is held is answered again
+-- a fault that is held is returned again
 again : (s t : Supply) (turns_old turns m : ℕ) (before after : List ℕ) (r : Result (Option AMQPRawFrame) ReadError) (bad : Fault) → PullsTo (IsLent m) m s t turns_old turns before after r → outer (Some m) before ≡ fault bad → AnswersAgain bad turns_old turns (holding m before) (holding m after) r
 again s t turns_old turns m before after (Ok (Some raw)) bad p e =
     let none = p.pulls.decided (fault_decided (outer (Some m) before) bad e) in

@@ -1,4 +1,4 @@
--- The held bytes after a read behind them, and after they move to the front.
+-- The held bytes once more was read after them, and once they moved to the front.
 use Rattle.std.proofs.Common.{◌≡◌, ℕ, ◌+◌, ◌-◌, ◌≤◌, List, [], ◌++◌, length, take, drop, sym, ap, subst, ◌∙◌, arith}
 use Rattle.amqp_types.specs.Judging.{IsBytes}
 use Rattle.amqp_types.proofs.Bytes.{IsBytes-take, IsBytes-drop}
@@ -14,7 +14,7 @@ part-length xs s e h g = length-take-le (e - s) (drop s xs) (omega (arith, lengt
 add_at : (xs ys : List ℕ) (e n : ℕ) → length xs ≡ e → take (e + n) (xs ++ ys) ≡ xs ++ take n ys
 add_at xs ys e n h = ap (λ k. take (k + n) (xs ++ ys)) (sym h) ∙ take-append-add xs ys n
 
--- what lies there grows by what was put behind it
+-- what lies there grows by what was put after it
 pub part-put : (xs ys : List ℕ) (s e k n : ℕ) → s ≤ e → e ≤ length xs → length ys ≡ k → n ≤ k → take (e + n - s) (drop s (put_mid e k xs ys)) ≡ take (e - s) (drop s xs) ++ take n ys
 part-put xs ys s e k n h g len few =
     let front = length-take-le e xs g in
@@ -26,7 +26,7 @@ pub part-kept : (xs ys : List ℕ) (s e k : ℕ) → s ≤ e → e ≤ length xs
 part-kept xs ys s e k h g =
     between_is (put_mid e k xs ys) s e ∙ ap (drop s) (take_at (take e xs) (ys ++ post_of e k xs) e (length-take-le e xs g)) ∙ sym (between_is xs s e)
 
--- what was put behind it is bytes
+-- what was put after it is bytes
 pub part-bytes : (xs ys : List ℕ) (e k n : ℕ) → e ≤ length xs → length ys ≡ k → n ≤ k → IsBytes (put_mid e k xs ys) → IsBytes (take n ys)
 part-bytes xs ys e k n g len few fits =
     let none : take (e - e) (drop e xs) ≡ [] = ap (λ i. take i (drop e xs)) {x = e - e} {y = 0} (omega arith) in

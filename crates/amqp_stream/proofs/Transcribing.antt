@@ -93,7 +93,7 @@ pub is_done : {f : List Frame → List ℕ} {level : Level} {m turns : ℕ} {a b
 is_done E (Ok done) call h = refl
 is_done {level = level} {m = m} {turns = turns} {a = a} {b = b} {k = k} {l = l} E (Err error) call h = absurd (subst (IsCausedBy level m turns call.taken a b k l ⊥) (memory_is (cause_of error) h) call.cause)
 
--- ---- an ending as the answer of a stream
+-- ---- an ending as the result of a stream
 
 abbrev error_by : Cause → StreamError
 error_by (faulty bad) = error_of bad
@@ -123,7 +123,7 @@ told-at_end E (Err error) = ap Err (error_by-cause error)
 pub never_began : {S E : Type 0} {s t : S} {a b : Supply} {k l : Store} {r : Result (Unit {0}) StreamError} → RunNeverBegan s t a b k l (ending_of {E = E} (as_run r)) → NeverBegan a b k l r
 never_began {E = E} {r = r} h = record { no_memory = sym (told-run E r) ∙ ap told h.no_memory; source = h.source; sink = h.sink }
 
--- ---- the answer by all of the bytes
+-- ---- the result by all of the bytes
 
 exactly : {S E : Type 0} {w : Manner S E} {s : S} {f : List Frame → List ℕ} {m : ℕ} {bytes written : List ℕ} {r : Result (Unit {0}) StreamError} → Transcriber w s f → IsExact w s m bytes written (ending_of (as_run r)) → IsExactly f w.level m bytes written r
 exactly {E = E} {w = w} {s = s} {m = m} {bytes = bytes} {r = r} is h =

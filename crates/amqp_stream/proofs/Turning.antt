@@ -1,4 +1,4 @@
--- One turn of the engine's loop, by what stands at the front of the held bytes: a fault, a frame, or neither.
+-- One iteration of the engine's loop, by what stands at the front of the held bytes: a fault, a frame, or neither.
 use Rattle.std.proofs.Common.{◌≡◌, ◌≢◌, ℕ, ◌+◌, ◌-◌, ◌*◌, ◌<◌, ◌≤◌, List, [], length, drop, Option, Some, None, Result, Ok, Err, IsTrue, sym, ap, ◌∙◌, arith}
 use Rattle.amqp_types.specs.Judging.{past, took}
 use Rattle.amqp_frame.specs.declared.looking.FrameLayout.{FrameLayout}
@@ -29,7 +29,7 @@ pub record Loop (S : Type 0) : Type 0 where
   pub reader : Holding
   pub out : Buffered
 
--- What holds at each turn. The limit and the room stay.
+-- What holds at each iteration. The limit and the room stay.
 pub record Turn {S E : Type 0} (r : Start S E) (room : ℕ) (x : Loop S) : Type 0 where
   pub limit : x.reader.limit ≡ r.m
   pub room_is : x.out.room ≡ room
@@ -42,7 +42,7 @@ Ended r t b l ending = Streams r.w r.s t r.m r.turns r.source b r.sink l ending
 abbrev nothing_in : ℕ → Buffered
 nothing_in room = record { room = room; bytes = [] }
 
--- the loop before its first turn
+-- the loop before its first iteration
 abbrev begun : {S E : Type 0} → Start S E → Holding → Buffered → Loop S
 begun r reader out = record { writer = r.s; left = r.turns; source = r.source; sink = r.sink; reader = reader; out = out }
 

@@ -16,6 +16,6 @@ pub record Canonicalizes (level : Level) (m turns : ℕ) (a b : Supply) (k l : S
   pub run : Transcribes canon_row level m turns a b k l result
   pub no_longer : length run.written ≤ length run.taken
 
--- what a call answers and writes over a source that tells its bytes
+-- what a call returns and writes over a source that reports its bytes
 abbrev pub AnswersExactly : Level → ℕ → List ℕ → Store → Store → Result (Unit {0}) StreamError → Type 0
 AnswersExactly level m bytes k l result = TranscribesExactly canon_row level m bytes k l result

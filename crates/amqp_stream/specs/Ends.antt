@@ -1,4 +1,4 @@
--- The two ends of a stream: what a source and a sink tell of themselves.
+-- The two ends of a stream: what a source and a sink report of themselves.
 use Rattle.std.specs.Prelude.{◌≡◌, ℕ, ◌+◌, ◌-◌, ◌^◌, ◌<◌, ◌≤◌, min, max, List, [], ◌++◌, length, take, Option, Some, None, Result, Ok, Err}
 
 -- the last value of a count, at which it stays
@@ -14,7 +14,7 @@ counted n (Some k) = Some (max k (min (k + n) last))
 abbrev pub Rises : ℕ → ℕ → Type 0
 Rises old new = old < last → old < new
 
--- A source: the bytes that are left and the number of reads so far, each where it is told, and a count of faults.
+-- A source: the bytes that are left and the number of reads so far, each where it is reported, and a count of faults.
 pub record Supply : Type 0 where
   pub left : Option (List ℕ)
   pub reads : Option ℕ
@@ -31,7 +31,7 @@ pub record Takes (old new : Supply) (piece : List ℕ) (reads : ℕ) : Type 0 wh
   pub counts : new.reads ≡ counted reads old.reads
   pub faults : old.faults ≤ new.faults
 
--- none is left, where it is told
+-- none is left, where it is reported
 abbrev pub IsEmpty : Option (List ℕ) → Type 0
 IsEmpty None = Unit {0}
 IsEmpty (Some bytes) = bytes ≡ []
@@ -41,7 +41,7 @@ abbrev pub piece_of : {E : Type 0} → Result ℕ E → List ℕ → List ℕ
 piece_of (Ok n) buf = take n buf
 piece_of (Err error) buf = []
 
--- what a sink tells of the bytes that it has taken: nothing, their number, or the bytes
+-- what a sink reports of the bytes that it has taken: nothing, their number, or the bytes
 pub data Told : Type 0 where
   Nothing : Told
   Number : ℕ → Told
@@ -52,7 +52,7 @@ grown Nothing piece = Nothing
 grown (Number n) piece = Number (n + length piece)
 grown (Bytes bytes) piece = Bytes (bytes ++ piece)
 
--- A sink: what it tells of the bytes that it has taken, and a count of faults.
+-- A sink: what it reports of the bytes that it has taken, and a count of faults.
 pub record Store : Type 0 where
   pub taken : Told
   pub faults : ℕ

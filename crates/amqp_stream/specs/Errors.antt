@@ -1,4 +1,4 @@
--- The errors of streams: the faults of bytes that they tell, their names and statuses.
+-- The errors of streams: the faults of bytes that they report, their names and statuses.
 use Rattle.std.specs.Prelude.{ℕ, List, codes, Option, Some, None}
 use Rattle.amqp_types.specs.Judging.{Fault, unknown_frame_type, bad_protocol_header, too_large, bad_frame_end, unknown_class, unknown_method, short_payload, trailing_bytes, not_utf8, unknown_tag, too_deep, not_tidy}
 use Rattle.amqp_stream.specs.declared.errors.ReadError.{ReadError}
@@ -16,7 +16,7 @@ stream_error reads.CutShort = errors.CutShort
 stream_error reads.TurnsSpent = errors.TurnsSpent
 stream_error reads.ReadFault = errors.ReadFault
 
--- the error that tells of a fault of bytes
+-- the error that reports a fault of bytes
 abbrev pub error_of : Fault → StreamError
 error_of unknown_frame_type = errors.UnknownFrameType
 error_of bad_protocol_header = errors.BadProtocolHeader
@@ -31,7 +31,7 @@ error_of unknown_tag = errors.UnknownTag
 error_of too_deep = errors.TooDeep
 error_of not_tidy = errors.NotTidy
 
--- the fault of bytes that an error of reading tells of
+-- the fault of bytes that an error of reading reports
 abbrev pub read_fault : ReadError → Option Fault
 read_fault reads.UnknownFrameType = Some unknown_frame_type
 read_fault reads.BadProtocolHeader = Some bad_protocol_header

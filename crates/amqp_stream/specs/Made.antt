@@ -1,4 +1,4 @@
--- The stream that is generated: four frames in turn, of which the canonical spelling leaves only the second as it is.
+-- The stream that is generated: four frames in turn, of which the canonical encoding leaves only the second as it is.
 use Rattle.std.specs.Prelude.{◌≡◌, ℕ, zero, suc, ◌+◌, ◌%◌, ◌==◌, List, [], ◌∷◌, ◌++◌, length, Some, if◌then◌else◌}
 use Rattle.amqp_types.specs.Levels.{plain}
 use Rattle.amqp_frame.specs.Frames.{Frame}
@@ -12,7 +12,8 @@ most_frames = 100000
 abbrev pub select_payload : List ℕ
 select_payload = 0 ∷ 85 ∷ 0 ∷ 10 ∷ 255 ∷ []
 
--- `queue.declare`: a reserved number that is not 0, an empty name, all bits of the flag byte set, of which five have a meaning, and a table that has the key `a` twice, first false and then true, spelled 7
+-- `queue.declare`: a reserved number that is not 0, an empty name, all bits of the flag byte set, of which five have a meaning,
+-- and a table that has the key `a` twice, first false and then true, encoded as 7
 abbrev pub declare_payload : List ℕ
 declare_payload = 0 ∷ 50 ∷ 0 ∷ 10 ∷ 0 ∷ 9 ∷ 0 ∷ 255 ∷ 0 ∷ 0 ∷ 0 ∷ 8 ∷ 1 ∷ 97 ∷ 116 ∷ 0 ∷ 1 ∷ 97 ∷ 116 ∷ 7 ∷ []
 
@@ -41,7 +42,7 @@ made_from i (suc n) = made_frame i ++ made_from (i + 1) n
 abbrev pub made : ℕ → List ℕ
 made n = made_from 0 n
 
--- bytes that are a row of n frames, with payloads of at most 131,072 bytes
+-- bytes that are a sequence of n frames, with payloads of at most 131,072 bytes
 pub record IsRowOf (n : ℕ) (bytes : List ℕ) : Type 0 where
   pub frames : List Frame
   pub spelled : Row plain (Some 131072) bytes frames

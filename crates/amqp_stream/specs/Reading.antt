@@ -17,7 +17,7 @@ pub record Holding : Type 0 where
   pub limit : ℕ
   pub held : List ℕ
 
--- one read behind the bytes that are held
+-- one read after the bytes that are held
 pub record ReadsMore (old new : Supply) (before after : List ℕ) (result : Result ℕ SourceFault) : Type 0 where
   pub piece : List ℕ
   pub are_bytes : IsBytes piece
@@ -58,7 +58,8 @@ idle_reads (Ok (Some x)) = 0
 idle_reads (Ok None) = 1
 idle_reads (Err error) = idle_reads_at error
 
--- What was taken on the way to the bytes b. Each read lowers the turns by one, and where a frame or a fault was held before, none is made.
+-- What was taken on the way to the bytes b. Each read takes one of the read budget, and where a frame or a fault was held before,
+-- none is made.
 pub record Pulls (m : ℕ) (old new : Supply) (turns_old turns_new : ℕ) (before b : List ℕ) : Type 0 where
   pub taken : List ℕ
   pub are_bytes : IsBytes taken
@@ -92,11 +93,11 @@ Finds m bytes (Err error) = (bad : Fault) × (read_fault error ≡ Some bad) × 
 abbrev pub LiesIn : ℕ → List ℕ → List ℕ → FrameLayout → Type 0
 LiesIn m b after layout = Lies m b layout × (after ≡ b)
 
--- a frame that is lent, and whose bytes are held no more
+-- a frame that is borrowed, and whose bytes are held no more
 abbrev pub IsLent : ℕ → List ℕ → List ℕ → AMQPRawFrame → Type 0
 IsLent m b after raw = (used : ℕ) × (outer (Some m) b ≡ took (raw_of raw) used) × (after ≡ drop used b)
 
--- A fault that is held is answered again, and nothing changes.
+-- A fault that is held is returned again, and nothing changes.
 pub record AnswersAgain (bad : Fault) (turns_old turns_new : ℕ) (old new : Holding) (result : Result (Option AMQPRawFrame) ReadError) : Type 0 where
   pub same : IsErrAnd result (λ error. read_fault error ≡ Some bad)
   pub held : new.held ≡ old.held

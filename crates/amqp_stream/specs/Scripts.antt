@@ -2,11 +2,11 @@
 use Rattle.std.specs.Prelude.{ℕ, min, max, List, length, nat_lt, if◌then◌else◌, slice_index, Some, None}
 use Rattle.amqp_stream.specs.Ends.{Supply, Store, Nothing, Number, Bytes}
 
--- at most so many bytes: as the script has it for the call, one at least, and past its end as many as fit
+-- at most so many bytes: as the script has it for the call, one at least, and after its end as many as fit
 abbrev pub most_of : List ℕ → ℕ → ℕ → ℕ
 most_of pieces call fit = if nat_lt call (length pieces) then min fit (max 1 (slice_index pieces call)) else fit
 
--- a source that tells the bytes that are left, counts no reads and never fails
+-- a source that reports the bytes that are left, counts no reads and never fails
 abbrev pub faultless : List ℕ → Supply
 faultless left = record { left = Some left; reads = None; faults = 0 }
 
@@ -49,7 +49,7 @@ pub record Reads (R : Type 0) : Type 0 where
   pub reader : R
   pub faults : ℕ
 
--- a source that tells its faults alone
+-- a source that reports its faults alone
 abbrev pub untold_supply : ℕ → Supply
 untold_supply faults = record { left = None; reads = None; faults = faults }
 
@@ -58,6 +58,6 @@ pub record Writes (W : Type 0) : Type 0 where
   pub writer : W
   pub faults : ℕ
 
--- a sink that tells its faults alone
+-- a sink that reports its faults alone
 abbrev pub untold_store : ℕ → Store
 untold_store faults = record { taken = Nothing; faults = faults }

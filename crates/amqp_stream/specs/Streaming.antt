@@ -32,7 +32,7 @@ abbrev pub ending_of : {E : Type 0} → Result (Unit {0}) (RunError E) → Endin
 ending_of (Ok done) = finished
 ending_of (Err error) = error_ending error
 
--- an answer of a stream, as one of a run
+-- the result of a stream, as one of a run
 abbrev pub as_run : {E : Type 0} → Result (Unit {0}) StreamError → Result (Unit {0}) (RunError E)
 as_run (Ok done) = Ok done
 as_run (Err error) = Err (ends.Stream error)
@@ -66,7 +66,7 @@ pub record WriteFails {S E : Type 0} (w : Manner S E) (s : S) (raw : Raw) (old n
   pub step : IsStep w s next raw bytes
   pub failed : GatherFails old new before after bytes
 
--- What a writer answers for a frame. Only after a failed write, and after memory ran out, its state is not told.
+-- What a writer returns for a frame. Only after a failed write, and after memory ran out, its state is not known.
 abbrev pub WritesBy : {S E : Type 0} → Manner S E → S → S → Raw → Store → Store → List ℕ → List ℕ → Ending E → Type 0
 WritesBy w s t raw old new before after finished = Writes w s t raw old new before after
 WritesBy w s t raw old new before after (refused_by why) = IsRefused w s raw why × Keeps old new before after × (t ≡ s)
@@ -75,7 +75,7 @@ WritesBy w s t raw old new before after (stopped_by write_failed) = WriteFails w
 WritesBy w s t raw old new before after (stopped_by out_of_memory) = IsTrue (w.wants raw.kind) × Keeps old new before after
 WritesBy w s t raw old new before after (stopped_by cause) = ⊥
 
--- what a writer answers at the end of input
+-- what a writer returns at the end of input
 abbrev pub end_result : {E : Type 0} → Option E → Result (Unit {0}) E
 end_result None = Ok tt
 end_result (Some why) = Err why
@@ -86,7 +86,7 @@ end_with [] None = finished
 end_with [] (Some why) = refused_by why
 end_with (byte ∷ bytes) end = stopped_by cut_short
 
--- the answer of a call that is to end with this error, and first writes what is pending
+-- the result of a call that is to end with this error, and first writes what is pending
 abbrev pub ended : {E : Type 0} → RunError E → Result (Unit {0}) SinkFault → Result (Unit {0}) (RunError E)
 ended error (Ok done) = Err error
 ended error (Err bad) = Err (ends.Stream errors.WriteFault)
@@ -183,13 +183,13 @@ pub record RunNeverBegan {S E : Type 0} (s t : S) (a b : Supply) (k l : Store) (
   pub source : b ≡ a
   pub sink : l ≡ k
 
--- the answer at the end of a stream in which nothing was refused
+-- the result at the end of a stream in which nothing was refused
 abbrev pub answer_at_end : {E : Type 0} → Option E → Result (Unit {0}) StreamError → Ending E
 answer_at_end (Some why) (Ok done) = refused_by why
 answer_at_end None (Ok done) = finished
 answer_at_end end (Err error) = stopped_by (cause_of error)
 
--- The answer to all the bytes of a source: by the first frame that is refused, or by their place.
+-- The result for all the bytes of a source: by the first frame that is refused, or by their place.
 abbrev pub answer_of : {E : Type 0} → Option E → Option E → Result (Unit {0}) StreamError → Ending E
 answer_of (Some why) end answer = refused_by why
 answer_of None end answer = answer_at_end end answer
@@ -201,13 +201,13 @@ pub record IsExact {S E : Type 0} (w : Manner S E) (s : S) (m : ℕ) (bytes writ
   pub answer : ending ≡ answer_by w s m bytes
   pub text_is : written ≡ text_of w s m bytes
 
--- This is so, but for want of memory, a spent read budget, and faults of the two ends.
+-- This is so, but for memory that runs out, a spent read budget, and faults of the two ends.
 abbrev pub UnlessStoppedBy : {E : Type 0} → Ending E → Type 0 → Type 0
 UnlessStoppedBy finished So = So
 UnlessStoppedBy (refused_by why) So = So
 UnlessStoppedBy (stopped_by cause) So = UnlessStopped cause So
 
--- what a run answers over a source that tells its bytes
+-- what a run returns over a source that reports its bytes
 pub record StreamsExactly {S E : Type 0} (w : Manner S E) (s : S) (m : ℕ) (bytes : List ℕ) (k l : Store) (ending : Ending E) : Type 0 where
   pub written : List ℕ
   pub gains : Gains k l written

@@ -12,7 +12,7 @@ use Rattle.amqp_stream.specs.Errors.{error_of, Cause, faulty, cut_short, turns_s
 use Rattle.amqp_stream.specs.Ends.{Supply, Store, Takes, Gains, Rises, IsEmpty, last}
 use Rattle.amqp_stream.specs.Writing.{IsPrefix, AsksTidy}
 
--- what the place of some bytes is judged to be
+-- what is decoded at the place of some bytes
 abbrev pub place_verdict : Level → ℕ → List ℕ → Judged Frame
 place_verdict level m bytes = verdict level (Some m) (place level (Some m) bytes)
 
@@ -43,7 +43,7 @@ IsCausedBy level m turns taken a b k l AtMemory read_failed = (place_verdict lev
 IsCausedBy level m turns taken a b k l AtMemory write_failed = Rises k.faults l.faults
 IsCausedBy level m turns taken a b k l AtMemory out_of_memory = AtMemory
 
--- When each answer comes. Memory never runs out.
+-- When each result comes. Memory never runs out.
 abbrev pub HasCause : Level → ℕ → ℕ → List ℕ → Supply → Supply → Store → Store → Result (Unit {0}) StreamError → Type 0
 HasCause level m turns taken a b k l (Ok done) = IsRow level m taken × IsEmpty b.left
 HasCause level m turns taken a b k l (Err error) = IsCausedBy level m turns taken a b k l ⊥ (cause_of error)
@@ -79,7 +79,7 @@ pub record NeverBegan (a b : Supply) (k l : Store) (result : Result (Unit {0}) S
   pub source : b ≡ a
   pub sink : l ≡ k
 
--- The answer to all the bytes of a source, by their place. (No frame is at a place.)
+-- The result for all the bytes of a source, by their place. (No frame is at a place.)
 abbrev pub answer_at : List ℕ → Judged Frame → Result (Unit {0}) StreamError
 answer_at [] judged = Ok tt
 answer_at (b ∷ bytes) past = Err errors.CutShort
@@ -95,22 +95,22 @@ UnlessStopped (faulty bad) So = So
 UnlessStopped cut_short So = So
 UnlessStopped cause So = Unit {0}
 
--- what is answered and written by the bytes alone
+-- what is returned and written by the bytes alone
 abbrev pub IsExactly : (List Frame → List ℕ) → Level → ℕ → List ℕ → List ℕ → Result (Unit {0}) StreamError → Type 0
 IsExactly text level m bytes written result = (result ≡ answer_to level m bytes) × (written ≡ transcript text level m bytes)
 
--- that answer was given and the text of all of the front written, unless the stream was stopped
+-- that result was returned and the text of all of the front written, unless the stream was stopped
 abbrev pub IsAnswerTo : (List Frame → List ℕ) → Level → ℕ → List ℕ → List ℕ → Result (Unit {0}) StreamError → Type 0
 IsAnswerTo text level m bytes written (Ok done) = IsExactly text level m bytes written (Ok done)
 IsAnswerTo text level m bytes written (Err error) = UnlessStopped (cause_of error) (IsExactly text level m bytes written (Err error))
 
--- what a call answers over a source that tells its bytes
+-- what a call returns over a source that reports its bytes
 pub record TranscribesExactly (text : List Frame → List ℕ) (level : Level) (m : ℕ) (bytes : List ℕ) (k l : Store) (result : Result (Unit {0}) StreamError) : Type 0 where
   pub written : List ℕ
   pub gains : Gains k l written
   pub answer : IsAnswerTo text level m bytes written result
 
--- valid input: a sequence of frames within the limit, and more turns than bytes
+-- valid input: a sequence of frames within the limit, and a read budget above the number of bytes
 pub record IsValid (level : Level) (m turns : ℕ) (bytes : List ℕ) : Type 0 where
   pub row : IsRow level m bytes
   pub enough : length bytes < turns

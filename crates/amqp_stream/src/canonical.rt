@@ -11,7 +11,7 @@ use crate::sink::Sink;
 use amqp_frame::{AMQPFrameType, AMQPRawFrame};
 use std::convert::Infallible;
 
-/// An answer of a stream, as one of a run.
+/// The result of a stream, as one of a run.
 pub fn as_run<R>(answer: Result<(), StreamError>) -> Result<(), RunError<R>>
     ensures { result ≡ as_run answer }
 {
@@ -21,7 +21,7 @@ pub fn as_run<R>(answer: Result<(), StreamError>) -> Result<(), RunError<R>>
     }
 }
 
-/// The answer of a run in which nothing is refused.
+/// The result of a run in which nothing is refused.
 pub fn unrefused(answer: Result<(), RunError<Infallible>>) -> Result<(), StreamError>
     ensures { answer ≡ as_run result }
 {

@@ -60,7 +60,7 @@ impl Codec {
             (K.store sink.old) (K.store sink.new) (ending_of result) }
         ensures unread { turns ≡ 0 → source.new ≡ source.old }
 
-        // Over a source that tells its bytes, the answer is by all of them, however they are cut.
+        // Over a source that reports its bytes, the result depends on them alone, however they are cut.
         ensures exact { (bytes : List ℕ) → (S.supply source.old).left ≡ Some bytes
             → StreamsExactly W.manner writer.old self.old bytes (K.store sink.old) (K.store sink.new) (ending_of result) }
         ensures complete { (bytes : List ℕ) → (S.supply source.old).left ≡ Some bytes
@@ -89,7 +89,7 @@ impl Codec {
         ensures unread { turns ≡ 0 → source.new ≡ source.old }
         ensures memory { result ≢ Err StreamError.NoMemory }
 
-        // Over a source that tells its bytes, the answer is by all of them, however they are cut.
+        // Over a source that reports its bytes, the result depends on them alone, however they are cut.
         ensures exact { (bytes : List ℕ) → (S.supply source.old).left ≡ Some bytes
             → AnswersExactly (level_of profile) self.old bytes (K.store sink.old) (K.store sink.new) result }
         ensures complete { (bytes : List ℕ) → (S.supply source.old).left ≡ Some bytes
@@ -120,7 +120,7 @@ impl Codec {
         ensures unread { turns ≡ 0 → source.new ≡ source.old }
         ensures memory { result ≢ Err StreamError.NoMemory }
 
-        // Over a source that tells its bytes, the answer is by all of them, however they are cut.
+        // Over a source that reports its bytes, the result depends on them alone, however they are cut.
         ensures exact { (bytes : List ℕ) → (S.supply source.old).left ≡ Some bytes
             → AnswersExactly (level_of profile) self.old bytes (K.store sink.old) (K.store sink.new) result }
         ensures complete { (bytes : List ℕ) → (S.supply source.old).left ≡ Some bytes
@@ -148,7 +148,7 @@ impl Codec {
         ensures memory { result ≢ Err StreamError.NoMemory }
         ensures never_untidy { result ≢ Err StreamError.NotTidy }
 
-        // Over a source that tells its bytes, the answer is by all of them, however they are cut.
+        // Over a source that reports its bytes, the result depends on them alone, however they are cut.
         ensures exact { (bytes : List ℕ) → (S.supply source.old).left ≡ Some bytes
             → AnswersExactly plain self.old bytes (K.store sink.old) (K.store sink.new) result }
         ensures complete { (bytes : List ℕ) → (S.supply source.old).left ≡ Some bytes
@@ -174,7 +174,7 @@ pub fn run_stream<W: FrameWriter, S: Source, K: Sink>(
         ⊎ RunNeverBegan writer.old writer.new (S.supply source.old) (S.supply source.new) (K.store sink.old) (K.store sink.new) (ending_of result) }
     ensures unread { turns ≡ 0 → source.new ≡ source.old }
 
-    // Over a source that tells its bytes, the answer is by all of them, however they are cut.
+    // Over a source that reports its bytes, the result depends on them alone, however they are cut.
     ensures exact { (bytes : List ℕ) → (S.supply source.old).left ≡ Some bytes
         → StreamsExactly W.manner writer.old max_payload bytes (K.store sink.old) (K.store sink.new) (ending_of result) }
     ensures complete { (bytes : List ℕ) → (S.supply source.old).left ≡ Some bytes
@@ -208,7 +208,7 @@ pub fn canonicalize_in<S: Source, K: Sink>(
     ensures memory { result ≡ Err StreamError.NoMemory
         → NeverBegan (S.supply source.old) (S.supply source.new) (K.store sink.old) (K.store sink.new) result }
 
-    // Over a source that tells its bytes, the answer is by all of them, however they are cut.
+    // Over a source that reports its bytes, the result depends on them alone, however they are cut.
     ensures exact { (bytes : List ℕ) → (S.supply source.old).left ≡ Some bytes
         → AnswersExactly (level_of profile) max_payload bytes (K.store sink.old) (K.store sink.new) result }
     ensures complete { (bytes : List ℕ) → (S.supply source.old).left ≡ Some bytes
@@ -241,7 +241,7 @@ pub fn canonicalize<S: Source, K: Sink>(
         → NeverBegan (S.supply source.old) (S.supply source.new) (K.store sink.old) (K.store sink.new) result }
     ensures never_untidy { result ≢ Err StreamError.NotTidy }
 
-    // Over a source that tells its bytes, the answer is by all of them, however they are cut.
+    // Over a source that reports its bytes, the result depends on them alone, however they are cut.
     ensures exact { (bytes : List ℕ) → (S.supply source.old).left ≡ Some bytes
         → AnswersExactly plain max_payload bytes (K.store sink.old) (K.store sink.new) result }
     ensures complete { (bytes : List ℕ) → (S.supply source.old).left ≡ Some bytes

@@ -11,7 +11,7 @@ use crate::reader::FrameReader;
 use crate::sink::Sink;
 use crate::source::Source;
 
-/// The answer at the end of input: bytes that are held are cut short.
+/// The result at the end of input: bytes that are held are cut short.
 fn end_of_input<W: FrameWriter>(
     reader: &FrameReader,
     writer: &W,

@@ -15,13 +15,13 @@ pub enum ReadError {
     /// A payload above the limit.
     TooLarge,
 
-    /// The byte behind a payload is not 206.
+    /// The byte after a payload is not 206.
     BadFrameEnd,
 
     /// The source ended inside a frame.
     CutShort,
 
-    /// A further read is wanted, and no turn is left.
+    /// A further read is needed, and the read budget is spent.
     TurnsSpent,
 
     /// A read failed.
@@ -73,7 +73,7 @@ pub enum StreamError {
     /// A payload above the limit.
     TooLarge,
 
-    /// The byte behind a payload is not 206.
+    /// The byte after a payload is not 206.
     BadFrameEnd,
 
     /// A whole method of a class that is none.
@@ -85,7 +85,7 @@ pub enum StreamError {
     /// Something passes the end of a whole payload, or of a container in it.
     ShortPayload,
 
-    /// Bytes are left behind the last field of a whole payload.
+    /// Bytes are left after the last field of a whole payload.
     TrailingBytes,
 
     /// A short string in a whole payload that is not UTF-8.
@@ -103,7 +103,7 @@ pub enum StreamError {
     /// The source ended inside a frame.
     CutShort,
 
-    /// A further read is wanted, and no turn is left.
+    /// A further read is needed, and the read budget is spent.
     TurnsSpent,
 
     /// A read failed.
@@ -112,7 +112,7 @@ pub enum StreamError {
     /// A write failed.
     WriteFault,
 
-    /// Want of memory.
+    /// Out of memory.
     NoMemory,
 }
 

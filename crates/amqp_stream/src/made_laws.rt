@@ -2,7 +2,7 @@
 
 ghost use Rattle.amqp_stream.specs.Made.{MadeIsARow};
 
-/// The first frames are a row of as many frames.
+/// The first frames are a sequence of as many frames.
 pub fn made_is_a_row()
     ensures { MadeIsARow }
 {}

@@ -17,15 +17,15 @@ use std::marker::Model;
 /// The length of the longest frame.
 const LONGEST: usize = 28;
 
-/// `confirm.select`, loosely spelled.
+/// `confirm.select`, in a loose encoding.
 const SELECT: [u8; 5] = [0, 85, 0, 10, 255];
 
-/// `queue.declare`, loosely spelled.
+/// `queue.declare`, in a loose encoding.
 const DECLARE: [u8; 20] = [
     0, 50, 0, 10, 0, 9, 0, 255, 0, 0, 0, 8, 1, 97, 116, 0, 1, 97, 116, 7,
 ];
 
-/// Puts a frame at the front, and answers its length.
+/// Puts a frame at the front, and returns its length.
 fn put_framed(buf: &mut [u8], frame_type: u8, channel_id: ChannelId, payload: &[u8]) -> usize
     requires room { length payload.now + 8 ≤ length buf.old }
     requires short { length payload.now < 2 ^ 32 }
@@ -40,7 +40,7 @@ fn put_framed(buf: &mut [u8], frame_type: u8, channel_id: ChannelId, payload: &[
     put_bytes(buf, at, &[206])
 }
 
-/// Puts the frame of this number at the front, and answers its length.
+/// Puts the frame of this number at the front, and returns its length.
 #[tactic(auto, unfolding(crate::specs::Made::made_frame))]
 fn put_made(buf: &mut [u8], number: u32) -> usize
     requires { LONGEST ≤ length buf.old }
@@ -56,7 +56,7 @@ fn put_made(buf: &mut [u8], number: u32) -> usize
     }
 }
 
-/// Makes the next frame, where nothing is left of the one before it. Answers whether a byte is left.
+/// Makes the next frame, where nothing is left of the one before it. Returns whether a byte is left.
 fn refill(frame: &mut [u8; LONGEST], span: &mut Span, next: &mut u32, frames: u32) -> bool
     requires { IsMaking frame.old span.old next.old frames }
     ensures making { IsMaking frame.new span.new next.new frames }

@@ -12,10 +12,10 @@ pub struct SinkFault;
 
 /// Where bytes go.
 pub trait Sink {
-    /// The bytes that were taken or their number, where they are told, and a count of faults.
+    /// The bytes that were taken or their number, where they are reported, and a count of faults.
     ghost store: { Self → Store };
 
-    /// Takes bytes from the front of a piece, at least one, and answers how many.
+    /// Takes bytes from the front of a piece, at least one, and returns how many.
     fn write(&mut self, piece: &[u8]) -> Result<usize, SinkFault>
         requires { 0 < length piece.now }
         ensures some { IfOk result (λ n. (0 < n) × (n ≤ length piece.now)) }

@@ -11,7 +11,7 @@ use std::alloc::Global;
 use std::io::Write;
 use std::marker::Model;
 
-/// A list of bytes that grows by whole pieces. Want of memory is a counted fault.
+/// A list of bytes that grows by whole pieces. Running out of memory is a counted fault.
 #[derive(Drop)]
 pub struct VecSink {
     bytes: Vec<u8>,
@@ -73,7 +73,7 @@ impl Sink for VecSink {
 }
 
 /// A list of bytes that grows by a script: which writes fail, counted from 0, and how many bytes
-/// each write takes at most. Want of memory is a counted fault.
+/// each write takes at most. Running out of memory is a counted fault.
 #[derive(Drop)]
 pub struct ScriptSink<'a> {
     kept: VecSink,
@@ -91,7 +91,7 @@ impl<'a> Model for ScriptSink<'a> {
 }
 
 impl<'a> ScriptSink<'a> {
-    /// Nothing was taken, and no write was made. Past the end of `pieces` the whole piece is taken.
+    /// Nothing was taken, and no write was made. After the end of `pieces` the whole piece is taken.
     pub fn new(alloc: Global, pieces: &'a [usize], failing: &'a [u64]) -> ScriptSink<'a>
         ensures { result ≡ record { kept = record { bytes = []; faults = 0 }; pieces = pieces.now; failing = failing.now; writes = 0 } }
     {
@@ -132,7 +132,7 @@ impl<'a> Sink for ScriptSink<'a> {
         // Each call is counted, whether it fails or not.
         ensures writes { self.new.writes ≡ min (self.old.writes + 1) last }
 
-        // A listed call fails. Any other that does not want memory takes as the script has it.
+        // A listed call fails. Any other that does not run out of memory takes as the script has it.
         ensures listed { Contains self.old.failing self.old.writes → IsErr result }
         ensures count { IfOk result (λ n. n ≡ most_of self.old.pieces self.old.writes (length piece.now)) }
         ensures script { (self.new.pieces ≡ self.old.pieces) × (self.new.failing ≡ self.old.failing) }
@@ -148,7 +148,7 @@ impl<'a> Sink for ScriptSink<'a> {
     }
 }
 
-/// A writer of the system, flushed in each write. It tells nothing of its bytes; each failed write
+/// A writer of the system, flushed in each write. It reports nothing of its bytes; each failed write
 /// is counted.
 #[derive(Drop)]
 pub struct StdSink<W> {
@@ -188,7 +188,7 @@ impl<W: Write> Sink for StdSink<W> {
         ensures most { self.new.faults ≤ last }
         ensures faultless { OnOk result (self.new.faults ≡ self.old.faults) }
 
-        // Where the writer tells its bytes, those that were taken stand behind the others.
+        // Where the writer reports its bytes, those that were taken stand after the others.
         ensures bytes { IfOk result (λ n. Appends (W.contents self.old.writer) (W.contents self.new.writer) (take n piece.now)) }
     {
         match self.writer.write(piece) {

@@ -12,7 +12,7 @@ pub struct SourceFault;
 
 /// Where bytes come from.
 pub trait Source {
-    /// The bytes that are left and the number of reads, where they are told, and a count of faults.
+    /// The bytes that are left and the number of reads, where they are reported, and a count of faults.
     ghost supply: { Self → Supply };
 
     /// Reads at the front of `buf`. A read of nothing is the end of input.

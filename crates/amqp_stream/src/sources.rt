@@ -74,7 +74,7 @@ impl<'a> Model for PieceSource<'a> {
 }
 
 impl<'a> PieceSource<'a> {
-    /// All of the bytes are left, and no read was made. Past the end of `pieces` as much is given as
+    /// All of the bytes are left, and no read was made. After the end of `pieces` as much is given as
     /// fits.
     pub fn new(bytes: &'a [u8], pieces: &'a [usize], failing: &'a [u64]) -> PieceSource<'a>
         ensures { result ≡ record { left = bytes.now; pieces = pieces.now; failing = failing.now; reads = 0; faults = 0 } }
@@ -89,7 +89,7 @@ impl<'a> PieceSource<'a> {
     }
 }
 
-/// At most so many bytes: as the script has it for the call, one at least, and past its end as many
+/// At most so many bytes: as the script has it for the call, one at least, and after its end as many
 /// as fit.
 pub(crate) fn most_at(pieces: &[usize], call: u64, fit: usize) -> usize
     ensures { result ≡ most_of pieces.now call fit }
@@ -133,7 +133,7 @@ impl<'a> Source for PieceSource<'a> {
     }
 }
 
-/// A reader of the system. It tells nothing of its bytes; each failed read is counted.
+/// A reader of the system. It reports nothing of its bytes; each failed read is counted.
 #[derive(Drop)]
 pub struct StdSource<R> {
     reader: R,
@@ -171,7 +171,7 @@ impl<R: Read> Source for StdSource<R> {
         ensures most { self.new.faults ≤ last }
         ensures faultless { OnOk result (self.new.faults ≡ self.old.faults) }
 
-        // Where the reader tells its bytes, the next of them are given, and after a fault none is lost.
+        // Where the reader reports its bytes, the next of them are given, and after a fault none is lost.
         ensures bytes { ReadConsumes (R.remaining self.old.reader) (R.remaining self.new.reader) result buf.new }
     {
         match self.reader.read(buf) {

@@ -1,4 +1,4 @@
-//! How answers are compared. Each call is proved once, whatever type it compares: what a test hands on
+//! How results are compared. Each call is proved once, whatever type it compares: what a test hands on
 //! by value costs its own proof little.
 
 use amqp_types::ParserError;
@@ -22,7 +22,7 @@ pub fn same_in<T: PartialEq + Debug + Drop>(row: &str, found: T, wanted: T) -> R
     Err(Fail::new(format_args!("{row}: {found:?} is not {wanted:?}")))
 }
 
-/// Fails unless the call answered with an equal value.
+/// Fails unless the call returned an equal value.
 pub fn answers<T: PartialEq + Debug + Drop, E: Debug + Drop>(
     found: Result<T, E>,
     wanted: &T,
@@ -45,7 +45,7 @@ pub fn reads<T: PartialEq + Debug + Drop>(
     same(&read, value)
 }
 
-/// Fails unless the value is displayed as these three texts, one behind another.
+/// Fails unless the value is displayed as these three texts, one after another.
 pub fn shows<D: Display>(
     alloc: Global,
     value: &D,

@@ -51,7 +51,7 @@ fn numbers_are_written(rt: HostRuntime) -> Result<(), Fail> {
     Ok(())
 }
 
-/// Fails unless the calls of a number answered that it is written in these bytes and read from them.
+/// Fails unless the calls of a number say that it is written in these bytes and read from them.
 fn agrees<N: PartialEq + Debug + Drop>(
     appended: Result<(), GenError>,
     out: &mut Vec<u8>,

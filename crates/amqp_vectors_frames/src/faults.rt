@@ -1,4 +1,4 @@
-//! Bytes that no frame stands in front of, and what is told of them.
+//! Bytes that no frame stands in front of, and what is said of them.
 
 use amqp_frame::{ParserError, parse_frame};
 use amqp_vectors::asking::same;

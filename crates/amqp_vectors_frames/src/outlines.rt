@@ -1,4 +1,4 @@
-//! Frames without their fields, from what was read and from what is lent.
+//! Frames without their fields, from what was read and from what is borrowed.
 
 use amqp_frame::AMQPFrameType::{self, Body, Header, Heartbeat, Method, ProtocolHeader};
 use amqp_frame::{AMQPFrame, AMQPRawFrame, FrameOutline, outline_raw, parse_payload, release};
@@ -50,7 +50,7 @@ fn outline_of(frame: AMQPFrame) -> FrameOutline {
     outline
 }
 
-/// Fails unless a frame has this outline, both once it is read and as it is lent.
+/// Fails unless a frame has this outline, both once it is read and as it is borrowed.
 fn is_outlined(alloc: Global, raw: AMQPRawFrame<'_>, outline: FrameOutline) -> Result<(), Fail> {
     let frame = parse_payload(alloc, raw)?;
     same(outline_of(frame), outline)?;

@@ -23,7 +23,7 @@ const START_IN_ORDER: [u8; 97] = [
     206,
 ];
 
-/// Whether a frame was appended after a 7, or refused for want of memory, with the 7 alone left.
+/// Whether a frame was appended after a 7, or refused as out of memory, with the 7 alone left.
 fn is_appended(alloc: Global, frame: &AMQPFrame, written: &[u8]) -> bool {
     let mut out = Vec::new(alloc);
     if out.push(7).is_err() {

@@ -1,4 +1,4 @@
-//! Canonical bytes that are put in place of a borrowed frame, and how such a frame is judged.
+//! Canonical bytes that are put in place of a borrowed frame, and how such a frame is decoded.
 
 use amqp_frame::AMQPFrameType::{self, Body, Header, Heartbeat, Method, ProtocolHeader};
 use amqp_frame::{AMQPRawFrame, FrameJudgement, Mark, ParserError, judge_frame, put_canonical};
@@ -74,7 +74,7 @@ fn canonical_bytes_are_put(rt: HostRuntime) {
     }
 }
 
-/// A type, a payload, and how it is judged.
+/// A type, a payload, and how it is decoded.
 type Judged = (
     AMQPFrameType,
     &'static [u8],

@@ -28,7 +28,7 @@ const FRAMES: [Row; 9] = [
     (Header, &[0, 60, 0, 0, 0, 0, 0, 0, 0, 0, 0, 5, 0, 2], false),
 ];
 
-/// Methods, with reserved slots of each form.
+/// Methods, with reserved fields of each form.
 const METHODS: [Row; 12] = [
     // `queue.declare` of `some_queue`.
     (
@@ -38,7 +38,7 @@ const METHODS: [Row; 12] = [
         ],
         true,
     ),
-    // A key twice, and a true value that is spelled 7.
+    // A key twice, and a true value that is encoded as 7.
     (
         Method,
         &[
@@ -77,7 +77,7 @@ fn told(alloc: Global, frame_type: AMQPFrameType, payload: &[u8]) -> Result<bool
     Ok(is_tidy(raw))
 }
 
-/// Fails unless each row is told as it says.
+/// Fails unless each payload is tidy where its row says so.
 fn are_told(alloc: Global, rows: &[Row]) -> Result<(), Fail> {
     for (frame_type, payload, tidy) in rows {
         same(told(alloc, *frame_type, payload)?, *tidy)?;

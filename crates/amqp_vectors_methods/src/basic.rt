@@ -74,7 +74,7 @@ fn publishing(
     }
 }
 
-/// Of those that tell what became of messages.
+/// Of those that say what became of messages.
 fn acknowledging(
     alloc: Global,
     method: &AMQPMethod,

@@ -8,7 +8,7 @@ use amqp_types::{GenError, ParserError};
 use std::alloc::Global;
 use std::test::Fail;
 
-/// The bytes behind an id.
+/// The bytes after an id.
 pub fn behind(bytes: &[u8]) -> &[u8] {
     bytes.get(2..).unwrap_or_default()
 }
@@ -93,7 +93,7 @@ macro_rules! agree {
 
 pub(crate) use agree;
 
-/// Lends a value to its calls. Whoever owns one of many variants in place pays for each of them in the
+/// Passes a value by reference to its calls. Whoever owns one of many variants in place pays for each of them in the
 /// proof, and here the type is none of them.
 pub fn lend<M: Drop, F: FnOnce(&M, &mut Vec<u8>) -> Result<(), Fail>>(
     alloc: Global,

@@ -14,7 +14,7 @@ fn message(alloc: Global) -> ShortString {
     }
 }
 
-/// Fails unless the code is that of this error, and its text stands behind another.
+/// Fails unless the code is that of this error, and its text stands after another.
 fn is_code_of(
     alloc: Global,
     code: Identifier,
@@ -38,7 +38,7 @@ fn is_code_of(
     )
 }
 
-/// Fails unless the error tells its kind, the message, and both with the code's text.
+/// Fails unless the error has its kind, the message, and both with the code's text.
 fn tells(
     alloc: Global,
     error: &AMQPError,

@@ -1,4 +1,4 @@
-//! A writer with a state of its own: it counts the frames that it writes for.
+//! A writer with a state: it counts the frames that it writes for.
 
 use amqp_frame::AMQPRawFrame;
 use amqp_stream::{FrameWriter, OutputBuffer, RunError, Sink, write_canonical};

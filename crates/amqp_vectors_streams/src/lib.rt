@@ -1,5 +1,5 @@
 //! Tests of streams that cross crates: worked rows, hostile cases, ends that fail, the generated stream, names of
-//! faults, writers of one's own, and memory that is refused.
+//! faults, writers of the tests' own, and memory that is refused.
 #![tactic(auto)]
 
 #[cfg(test)]

@@ -1,4 +1,4 @@
-//! A writer of one's own runs over a codec, and by itself.
+//! A writer of the tests' own runs over a codec, and by itself.
 
 use crate::asking::{LIMIT, MESSAGE, TWO_HEARTBEATS};
 use crate::counting::Counting;

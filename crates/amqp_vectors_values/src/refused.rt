@@ -108,7 +108,7 @@ fn is_pushed(alloc: Global, array: &FieldArray) -> bool {
     true
 }
 
-/// Whether the calls of an array answer, or memory is refused and all stays.
+/// Whether the calls of an array return, or memory is refused and all stays.
 fn array_stays(alloc: Global, array: &FieldArray) -> bool {
     let mut out = Vec::new(alloc);
     if out.push(7).is_err() {
@@ -153,7 +153,7 @@ fn is_inserted(alloc: Global, table: &FieldTable) -> bool {
     true
 }
 
-/// Whether the calls of a table answer, or memory is refused and all stays.
+/// Whether the calls of a table return, or memory is refused and all stays.
 fn table_stays(alloc: Global, table: &FieldTable) -> bool {
     let mut out = Vec::new(alloc);
     if out.push(7).is_err() {
