@@ -3,6 +3,7 @@
 
 mod assembler;
 mod assembling;
+mod equality;
 mod fault;
 mod laws;
 mod mark;
@@ -12,13 +13,12 @@ mod outcome;
 mod pending;
 mod progress;
 mod splitting;
-#[cfg(test)]
-mod tests;
 mod tracker;
 
 pub use amqp_types::NoMemory;
 pub use assembler::Assembler;
 pub use assembling::assemble;
+pub use equality::{equal_content_faults, equal_marks, equal_progress};
 pub use fault::ContentFault;
 pub use laws::{answers_are_steps, channels_are_answered, channels_are_apart, splits_are_whole};
 pub use mark::Mark;

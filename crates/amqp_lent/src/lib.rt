@@ -3,6 +3,7 @@
 #![tactic(auto)]
 
 mod codec;
+mod equality;
 mod errors;
 mod frame;
 #[cfg(test)]
@@ -20,6 +21,7 @@ mod value;
 mod writing;
 
 pub use codec::{LentCodec, canonicalize_lent};
+pub use equality::equal_lent_errors;
 pub use errors::LentError;
 pub use frame::{LentFrame, lent_frame};
 pub use table::lent_table;

@@ -1,5 +1,5 @@
-//! How many canonical bytes there are for values, arrays and tables that were decoded before. No memory is taken: the entries of a
-//! table are found by their keys, in quadratic time.
+//! How many canonical bytes there are for values, arrays and tables that were decoded before. No memory is taken: the
+//! entries of a table are found by their keys, in quadratic time.
 
 ghost use Rattle.std.specs.Prelude.{◌≡◌, ◌<◌, ◌^◌, Some, length, slice_index_or};
 ghost use Rattle.amqp_types.specs.Settling.{settled};

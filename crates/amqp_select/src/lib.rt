@@ -1,6 +1,7 @@
 //! Selection of AMQP 0-9-1 frames by rules.
 #![tactic(auto)]
 
+mod equality;
 mod errors;
 mod laws;
 mod parsing;
@@ -12,6 +13,7 @@ mod selecting;
 #[cfg(test)]
 mod tests;
 
+pub use equality::equal_rule_errors;
 pub use errors::RuleError;
 pub use laws::{covered_rules_decide_nothing, words_spell_one_rule};
 pub use rules::Rules;

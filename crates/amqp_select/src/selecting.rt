@@ -26,8 +26,8 @@ pub(crate) struct Selector<'a> {
 }
 
 impl<'a> Selector<'a> {
-    /// Whether a borrowed frame is kept. Its payload is not decoded yet, so that one that is kept is decoded once, as it is
-    /// written.
+    /// Whether a borrowed frame is kept. Its payload is not decoded yet, so that one that is kept is decoded once, as
+    /// it is written.
     fn keeps(&self, raw: AMQPRawFrame<'_>) -> bool
         ensures { (frame : Frame) → whole (raw_of raw.entry) ≡ Ok frame → result ≡ decides self.now.rules.now (outline_of frame) }
     {

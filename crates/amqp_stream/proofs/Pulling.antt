@@ -13,7 +13,7 @@ use Rattle.amqp_stream.specs.declared.errors.ReadError.{ReadError}
 use Rattle.amqp_stream.specs.declared.errors.ReadError.TheVariants as errors
 use Rattle.amqp_stream.specs.Ends.{Supply, Takes}
 use Rattle.amqp_stream.specs.Errors.{read_fault}
-use Rattle.amqp_stream.specs.Reading.{Holding, ReadsMore, Fails, Ends, idle_reads, PullsTo, LiesIn, IsLent, AnswersAgain, HasNext}
+use Rattle.amqp_stream.specs.Reading.{Holding, ReadsMore, Fails, Ends, idle_reads, PullsTo, LiesIn, IsBorrowed, AnswersAgain, HasNext}
 use Rattle.amqp_stream.proofs.Adding.{Takes-then, Takes-none, Rises-later, IsBytes-append, IsBytes-nil}
 
 -- What a pull keeps: what was taken so far. At most `idle` of its reads gave nothing.
@@ -111,7 +111,7 @@ abbrev pub holding : ℕ → List ℕ → Holding
 holding m held = record { limit = m; held = held }
 
 -- what is held by a call that ends so
-held_room : (m : ℕ) (s t : Supply) (turns_old turns : ℕ) (before after : List ℕ) (r : Result (Option AMQPRawFrame) ReadError) → PullsTo (IsLent m) m s t turns_old turns before after r → length after ≤ m + 8
+held_room : (m : ℕ) (s t : Supply) (turns_old turns : ℕ) (before after : List ℕ) (r : Result (Option AMQPRawFrame) ReadError) → PullsTo (IsBorrowed m) m s t turns_old turns before after r → length after ≤ m + 8
 held_room m s t turns_old turns before after (Ok (Some raw)) p = omega (arith, ap length p.ends.2, length-drop p.ends.0 p.b, p.pulls.room)
 held_room m s t turns_old turns before after (Ok None) p = omega (arith, ap length p.ends.1)
 held_room m s t turns_old turns before after (Err error) p = omega (arith, ap length p.ends.1, p.pulls.room)
@@ -131,7 +131,7 @@ tells m b s t turns errors.BadFrameEnd bad e h = fault_told (outer (Some m) b) b
 tells m b s t turns error bad e h = absurd (fault_decided (outer (Some m) b) bad e h.0)
 
 -- a fault that is held is returned again
-again : (s t : Supply) (turns_old turns m : ℕ) (before after : List ℕ) (r : Result (Option AMQPRawFrame) ReadError) (bad : Fault) → PullsTo (IsLent m) m s t turns_old turns before after r → outer (Some m) before ≡ fault bad → AnswersAgain bad turns_old turns (holding m before) (holding m after) r
+again : (s t : Supply) (turns_old turns m : ℕ) (before after : List ℕ) (r : Result (Option AMQPRawFrame) ReadError) (bad : Fault) → PullsTo (IsBorrowed m) m s t turns_old turns before after r → outer (Some m) before ≡ fault bad → AnswersAgain bad turns_old turns (holding m before) (holding m after) r
 again s t turns_old turns m before after (Ok (Some raw)) bad p e =
     let none = p.pulls.decided (fault_decided (outer (Some m) before) bad e) in
     let same : p.b ≡ before = p.pulls.all ∙ ap (λ (xs : List ℕ). before ++ xs) none.0 ∙ append-nil before in
@@ -150,7 +150,7 @@ again s t turns_old turns m before after (Err error) bad p e =
     }
 
 -- a call of `next` that pulls so
-pub has_next : {s t : Supply} {turns_old turns : ℕ} {old new : Holding} {r : Result (Option AMQPRawFrame) ReadError} → old.limit < 2 ^ 32 → new.limit ≡ old.limit → PullsTo (IsLent old.limit) old.limit s t turns_old turns old.held new.held r → HasNext s t turns_old turns old new r
+pub has_next : {s t : Supply} {turns_old turns : ℕ} {old new : Holding} {r : Result (Option AMQPRawFrame) ReadError} → old.limit < 2 ^ 32 → new.limit ≡ old.limit → PullsTo (IsBorrowed old.limit) old.limit s t turns_old turns old.held new.held r → HasNext s t turns_old turns old new r
 has_next {s = s} {t = t} {turns_old = turns_old} {turns = turns} {old = old} {new = new} {r = r} fits same p = record {
   limit_fits = fits;
   limit = same;
@@ -161,7 +161,7 @@ has_next {s = s} {t = t} {turns_old = turns_old} {turns = turns} {old = old} {ne
 }
 
 -- the frame that lies in b is borrowed, and the rest is held
-pub some_as : (m : ℕ) (old new : Supply) (turns_old turns : ℕ) (before b after : List ℕ) (layout : FrameLayout) (raw : AMQPRawFrame) → PullsTo (LiesIn m) m old new turns_old turns before b (Ok (Some layout)) → raw_of raw ≡ laid_out layout b → after ≡ drop layout.frame_len b → PullsTo (IsLent m) m old new turns_old turns before after (Ok (Some raw))
+pub some_as : (m : ℕ) (old new : Supply) (turns_old turns : ℕ) (before b after : List ℕ) (layout : FrameLayout) (raw : AMQPRawFrame) → PullsTo (LiesIn m) m old new turns_old turns before b (Ok (Some layout)) → raw_of raw ≡ laid_out layout b → after ≡ drop layout.frame_len b → PullsTo (IsBorrowed m) m old new turns_old turns before after (Ok (Some raw))
 some_as m old new turns_old turns before b after layout raw p e d =
     let same : b ≡ p.b = p.ends.1 in
     record {

@@ -107,21 +107,21 @@ error_by-cause : (error : StreamError) → error_by (cause_of error) ≡ error
 error_by-cause error = grind arith
 
 -- where nothing is refused
-abbrev told : {E : Type 0} → Ending E → Result (Unit {0}) StreamError
-told finished = Ok tt
-told (refused_by why) = Ok tt
-told (stopped_by cause) = Err (error_by cause)
+abbrev returned : {E : Type 0} → Ending E → Result (Unit {0}) StreamError
+returned finished = Ok tt
+returned (refused_by why) = Ok tt
+returned (stopped_by cause) = Err (error_by cause)
 
-told-run : (E : Type 0) (r : Result (Unit {0}) StreamError) → told (ending_of {E = E} (as_run r)) ≡ r
-told-run E (Ok done) = refl
-told-run E (Err error) = ap Err (error_by-cause error)
+returned-run : (E : Type 0) (r : Result (Unit {0}) StreamError) → returned (ending_of {E = E} (as_run r)) ≡ r
+returned-run E (Ok done) = refl
+returned-run E (Err error) = ap Err (error_by-cause error)
 
-told-at_end : (E : Type 0) (answer : Result (Unit {0}) StreamError) → told (answer_at_end {E = E} None answer) ≡ answer
-told-at_end E (Ok done) = refl
-told-at_end E (Err error) = ap Err (error_by-cause error)
+returned-at_end : (E : Type 0) (answer : Result (Unit {0}) StreamError) → returned (answer_at_end {E = E} None answer) ≡ answer
+returned-at_end E (Ok done) = refl
+returned-at_end E (Err error) = ap Err (error_by-cause error)
 
 pub never_began : {S E : Type 0} {s t : S} {a b : Supply} {k l : Store} {r : Result (Unit {0}) StreamError} → RunNeverBegan s t a b k l (ending_of {E = E} (as_run r)) → NeverBegan a b k l r
-never_began {E = E} {r = r} h = record { no_memory = sym (told-run E r) ∙ ap told h.no_memory; source = h.source; sink = h.sink }
+never_began {E = E} {r = r} h = record { no_memory = sym (returned-run E r) ∙ ap returned h.no_memory; source = h.source; sink = h.sink }
 
 -- ---- the result by all of the bytes
 
@@ -130,7 +130,7 @@ exactly {E = E} {w = w} {s = s} {m = m} {bytes = bytes} {r = r} is h =
     let frames = front w.level (Some m) bytes in
     let answer = answer_to w.level m bytes in
     let ending = h.answer ∙ ap (λ why. answer_of why (w.end (state_of w s m bytes)) answer) (is.none_refused frames) ∙ ap (λ end. answer_at_end end answer) (is.ends _) in
-    (sym (told-run E r) ∙ ap told ending ∙ told-at_end E answer, h.text_is ∙ is.text_is frames)
+    (sym (returned-run E r) ∙ ap returned ending ∙ returned-at_end E answer, h.text_is ∙ is.text_is frames)
 
 unless : {P Q : Type 0} (cause : Cause) → (P → Q) → UnlessStopped cause P → UnlessStopped cause Q
 unless (faulty bad) g h = g h

@@ -94,8 +94,8 @@ abbrev pub LiesIn : ℕ → List ℕ → List ℕ → FrameLayout → Type 0
 LiesIn m b after layout = Lies m b layout × (after ≡ b)
 
 -- a frame that is borrowed, and whose bytes are held no more
-abbrev pub IsLent : ℕ → List ℕ → List ℕ → AMQPRawFrame → Type 0
-IsLent m b after raw = (used : ℕ) × (outer (Some m) b ≡ took (raw_of raw) used) × (after ≡ drop used b)
+abbrev pub IsBorrowed : ℕ → List ℕ → List ℕ → AMQPRawFrame → Type 0
+IsBorrowed m b after raw = (used : ℕ) × (outer (Some m) b ≡ took (raw_of raw) used) × (after ≡ drop used b)
 
 -- A fault that is held is returned again, and nothing changes.
 pub record AnswersAgain (bad : Fault) (turns_old turns_new : ℕ) (old new : Holding) (result : Result (Option AMQPRawFrame) ReadError) : Type 0 where
@@ -107,7 +107,7 @@ pub record AnswersAgain (bad : Fault) (turns_old turns_new : ℕ) (old new : Hol
 pub record HasNext (old_supply new_supply : Supply) (turns_old turns_new : ℕ) (old new : Holding) (result : Result (Option AMQPRawFrame) ReadError) : Type 0 where
   pub limit_fits : old.limit < 2 ^ 32
   pub limit : new.limit ≡ old.limit
-  pub pulls : PullsTo (IsLent old.limit) old.limit old_supply new_supply turns_old turns_new old.held new.held result
+  pub pulls : PullsTo (IsBorrowed old.limit) old.limit old_supply new_supply turns_old turns_new old.held new.held result
   pub room : length new.held ≤ old.limit + 8
   pub undecided_room : outer (Some old.limit) new.held ≡ past → length new.held ≤ old.limit + 7
   pub again : (bad : Fault) → outer (Some old.limit) old.held ≡ fault bad → AnswersAgain bad turns_old turns_new old new result

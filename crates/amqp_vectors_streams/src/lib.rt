@@ -1,5 +1,5 @@
 //! Tests of streams that cross crates: worked rows, hostile cases, ends that fail, the generated stream, names of
-//! faults, writers of the tests' own, and memory that is refused.
+//! faults, writers of the tests' own, a proxy, and memory that is refused.
 #![tactic(auto)]
 
 #[cfg(test)]
@@ -11,6 +11,9 @@ mod faults;
 mod hostile;
 #[cfg(test)]
 mod made;
+#[cfg(test)]
+mod proxied;
+pub mod proxy;
 #[cfg(test)]
 mod refused;
 #[cfg(test)]

@@ -1,6 +1,6 @@
 use Rattle.std.proofs.Common.{◌+◌, ◌-◌, ◌^◌, ◌<◌, ◌≤◌, ℕ, List, length, drop, Ok, Err, None, refl, sym, ap, subst, ◌∙◌, arith}
 use Rattle.amqp_frame.specs.Looks.{laid_out}
-use Rattle.amqp_stream.specs.Reading.{Holding, LiesIn, IsLent, HasNext}
+use Rattle.amqp_stream.specs.Reading.{Holding, LiesIn, IsBorrowed, HasNext}
 use Rattle.amqp_stream.proofs.Spans.{part-drop, part-frame, part-length}
 use Rattle.amqp_stream.proofs.Pulling.{raw_with, has_next, err_as, none_as, some_as}
 use Rattle.amqp_stream.proofs.reader.FrameReader.next.Goals as goal
@@ -10,7 +10,7 @@ returns-in-Err g c =
     let m = c.args.self.now.limit in
     let fits : m < 2 ^ 32 = omega (arith, c.self.invariant.2, ap (λ h. h.limit) c.self.view_is, c.in-Err.ensures.limit) in
     let P : Holding → Type 0 = λ h. HasNext (g.S.Source.supply c.args.source.now) (g.S.Source.supply c.pull.new.source) c.args.turns.now c.pull.new.turns c.args.self.now h (Err c.in-Err.error) in
-    ((refl, λ _. tt, subst P (sym c.self.view_is) (has_next fits c.in-Err.ensures.limit (err_as (LiesIn m) (IsLent m) m _ _ _ _ _ _ c.in-Err.error c.in-Err.ensures.pulls))), record { after = tt })
+    ((refl, λ _. tt, subst P (sym c.self.view_is) (has_next fits c.in-Err.ensures.limit (err_as (LiesIn m) (IsBorrowed m) m _ _ _ _ _ _ c.in-Err.error c.in-Err.ensures.pulls))), record { after = tt })
 
 pub returns-in-Ok-None : goal.returns-in-Ok-None
 returns-in-Ok-None g c =
@@ -18,7 +18,7 @@ returns-in-Ok-None g c =
     let fits : m < 2 ^ 32 = omega (arith, c.self.invariant.2, ap (λ h. h.limit) c.self.view_is, c.in-Ok-None.ensures.limit) in
     let P : Holding → Type 0 = λ h. HasNext (g.S.Source.supply c.args.source.now) (g.S.Source.supply c.pull.new.source) c.args.turns.now c.pull.new.turns c.args.self.now h (Ok None) in
     let pulls = rw c.in-Ok-None.field-0-is at c.in-Ok-None.ensures.pulls in
-    ((refl, λ _. tt, subst P (sym c.self.view_is) (has_next fits c.in-Ok-None.ensures.limit (none_as (LiesIn m) (IsLent m) m _ _ _ _ _ _ pulls))), record { after = tt })
+    ((refl, λ _. tt, subst P (sym c.self.view_is) (has_next fits c.in-Ok-None.ensures.limit (none_as (LiesIn m) (IsBorrowed m) m _ _ _ _ _ _ pulls))), record { after = tt })
 
 pub returns-in-Ok-Some : goal.returns-in-Ok-Some
 returns-in-Ok-Some g c =

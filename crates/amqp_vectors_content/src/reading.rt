@@ -1,0 +1,52 @@
+//! Messages as a client reads them, out of bytes.
+
+use crate::frames::HELLO;
+use amqp_content::{Assembler, Message, Outcome};
+use amqp_frame::parse_frame;
+use amqp_types::ParserError;
+use amqp_vectors::asking::same;
+use std::alloc::Global;
+use std::test::Fail;
+
+/// The messages in some bytes of frames, as a client reads them: parse a frame, push it, and take the
+/// message that it completes.
+fn messages(alloc: Global, bytes: &[u8]) -> Result<Vec<Message>, ParserError> {
+    let mut assembler = Assembler::open(alloc, 1_048_576);
+    let mut messages = Vec::new(alloc);
+    let mut rest = bytes;
+    for _ in 0..bytes.len() {
+        if rest.is_empty() {
+            break;
+        }
+        let (used, frame) = parse_frame(alloc, rest)?;
+        rest = &rest[used..];
+        if let Outcome::Done(message) = assembler.push(frame)? {
+            let Ok(()) = messages.push(message) else {
+                return Err(ParserError::NoMemory);
+            };
+        }
+    }
+    Ok(messages)
+}
+
+/// A client's message on channel 1: `basic.publish` to the queue `hello`, its content header and its body.
+const BYTES: [u8; 69] = [
+    1, 0, 1, 0, 0, 0, 14, 0, 60, 0, 40, 0, 0, 0, 5, 104, 101, 108, 108, 111, 0, 206, 2, 0, 1, 0, 0,
+    0, 26, 0, 60, 0, 0, 0, 0, 0, 0, 0, 0, 0, 5, 144, 0, 10, 116, 101, 120, 116, 47, 112, 108, 97,
+    105, 110, 2, 206, 3, 0, 1, 0, 0, 0, 5, 104, 101, 108, 108, 111, 206,
+];
+
+/// How many messages, and whether each has this body.
+fn bodies(alloc: Global, bytes: &[u8], body: &[u8]) -> Result<(usize, bool), ParserError> {
+    let messages = messages(alloc, bytes)?;
+    let same_bodies = messages
+        .as_slice()
+        .iter()
+        .all(|message| message.body().as_slice() == body);
+    Ok((messages.len(), same_bodies))
+}
+
+#[test]
+fn bytes_to_messages(rt: HostRuntime) -> Result<(), Fail> {
+    same(bodies(rt.alloc(), &BYTES, &HELLO)?, (1, true))
+}
