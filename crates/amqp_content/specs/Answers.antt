@@ -21,6 +21,7 @@ abbrev pub bodies_within : {X : Type 0} → X → X → List X → List X → Li
 bodies_within opening header before [] = []
 bodies_within opening header before (x ∷ xs) = Within (Headed opening header before) x ∷ bodies_within opening header (before ++ x ∷ []) xs
 
+-- the opening, the content header and the bodies of a begun unit continue it
 abbrev pub begun_answers : {X : Type 0} → Begun X → List (Answer X)
 begun_answers Nothing = []
 begun_answers (Opened opening) = Within Nothing opening ∷ []
@@ -32,6 +33,7 @@ finished_answers (Lone method) = Alone method ∷ []
 finished_answers (Empty opening header) = Within Nothing opening ∷ Ends (Opened opening) header ∷ []
 finished_answers (Full opening header bodies last) = begun_answers (Headed opening header bodies) ++ Ends (Headed opening header bodies) last ∷ []
 
+-- the answers to finished units and a begun unit
 abbrev pub answers_in : {X : Type 0} → List (Finished X) → Begun X → List (Answer X)
 answers_in units begun = flat_map finished_answers units ++ begun_answers begun
 
@@ -45,6 +47,7 @@ fault_between (outlines.Method channel class id) = faults.UnexpectedMethod
 fault_between outlines.ProtocolHeader = faults.Faulted
 fault_between (outlines.Heartbeat channel) = faults.Faulted
 
+-- after an opening only a content header of the class basic, of an allowed size, is in turn
 abbrev pub fault_opened : FrameOutline → ContentFault
 fault_opened (outlines.Method channel class id) = faults.UnexpectedMethod
 fault_opened (outlines.Body channel count) = faults.UnexpectedBody
@@ -52,6 +55,7 @@ fault_opened (outlines.Header channel class size) = if class == 60 then faults.B
 fault_opened outlines.ProtocolHeader = faults.Faulted
 fault_opened (outlines.Heartbeat channel) = faults.Faulted
 
+-- after a content header only bodies are in turn, up to its size
 abbrev pub fault_headed : FrameOutline → ContentFault
 fault_headed (outlines.Method channel class id) = faults.UnexpectedMethod
 fault_headed (outlines.Header channel class size) = faults.UnexpectedHeader
@@ -59,6 +63,7 @@ fault_headed (outlines.Body channel count) = faults.BodyOverrun
 fault_headed outlines.ProtocolHeader = faults.Faulted
 fault_headed (outlines.Heartbeat channel) = faults.Faulted
 
+-- the fault of a frame after what has begun
 abbrev pub fault_after : {X : Type 0} → Begun X → FrameOutline → ContentFault
 fault_after Nothing o = fault_between o
 fault_after (Opened opening) o = fault_opened o
@@ -70,6 +75,7 @@ module _ {X : Type 0} (outline : X → FrameOutline) where
   rest_answers begun [] = []
   rest_answers begun (x ∷ xs) = Wrong (fault_after begun (outline x)) ∷ map (λ _. Wrong faults.Faulted) xs
 
+  -- the answers by a reading of the frames
   abbrev pub answers_of : (max : ℕ) (xs : List X) → Reading outline max xs → List (Answer X)
   answers_of max xs reading = answers_in reading.units reading.begun ++ rest_answers reading.begun reading.rest
 

@@ -3,6 +3,7 @@ use Rattle.std.specs.Prelude.{ℕ, List, codes}
 use Rattle.amqp_content.specs.declared.fault.ContentFault.{ContentFault}
 use Rattle.amqp_content.specs.declared.fault.ContentFault.TheVariants as faults
 
+-- the number of a fault, from 1 on
 abbrev pub fault_number : ContentFault → ℕ
 fault_number faults.UnexpectedMethod = 1
 fault_number faults.UnexpectedHeader = 2
@@ -12,6 +13,7 @@ fault_number faults.BodyTooLarge = 5
 fault_number faults.BodyOverrun = 6
 fault_number faults.Faulted = 7
 
+-- the name of a fault
 abbrev pub fault_name : ContentFault → List ℕ
 fault_name faults.UnexpectedMethod = codes "UnexpectedMethod"
 fault_name faults.UnexpectedHeader = codes "UnexpectedHeader"

@@ -28,6 +28,7 @@ done_in (held ∷ rest) = done_in rest
 done_in (done content ∷ rest) = content ∷ done_in rest
 done_in (wrong fault ∷ rest) = done_in rest
 
+-- the outcome is no fault
 abbrev pub IsNoFault : Told → Type 0
 IsNoFault (passed frame) = Unit {0}
 IsNoFault held = Unit {0}
@@ -39,6 +40,7 @@ pub record AreWhole (max : ℕ) (frames : List Frame) (messages : List Parts) : 
   pub messages_are : (answers : List (Answer Frame)) → Answers outline_of max frames answers → done_in (map told_of answers) ≡ map content_of messages
   pub no_fault : (answers : List (Answer Frame)) → Answers outline_of max frames answers → AllByRecursion IsNoFault (map told_of answers)
 
+-- Messages that are split into frames come back whole, in order, and without a fault.
 abbrev pub SplitsAreWhole : Type 0
 SplitsAreWhole =
     (max m : ℕ) (messages : List Parts)

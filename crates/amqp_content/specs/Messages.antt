@@ -33,6 +33,7 @@ pub record Content : Type 0 where
   pub properties : List (Option Item)
   pub body : List ℕ
 
+-- the content of a message as callers see it
 abbrev pub content_of : Parts → Content
 content_of message = record {
   channel = message.channel;
@@ -43,6 +44,7 @@ content_of message = record {
 
 -- ---- what a frame gives to its message
 
+-- the method in a frame
 abbrev pub method_in : Frame → Method
 method_in (Meth channel m) = m
 method_in (Proto major minor revision) = method 0 0 []
@@ -51,9 +53,11 @@ method_in (Body channel content) = method 0 0 []
 method_in Beat = method 0 0 []
 method_in (BadBeat channel) = method 0 0 []
 
+-- what stands for the content header of a frame that has none
 abbrev no_header : ContentHeader
 no_header = record { class_id = 0; body_size = 0; options = [] }
 
+-- the content header in a frame
 abbrev pub header_in : Frame → ContentHeader
 header_in (Head channel header) = header
 header_in (Proto major minor revision) = no_header
@@ -62,6 +66,7 @@ header_in (Body channel content) = no_header
 header_in Beat = no_header
 header_in (BadBeat channel) = no_header
 
+-- the body bytes in a frame
 abbrev pub bytes_of : Frame → List ℕ
 bytes_of (Body channel content) = content
 bytes_of (Proto major minor revision) = []

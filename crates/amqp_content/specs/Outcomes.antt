@@ -22,12 +22,14 @@ use Rattle.amqp_content.specs.Steps.{mark_after}
 
 -- ---- outcomes
 
+-- what a frame gives: it is passed, held, completes a message, or is wrong
 pub data Told : Type 0 where
   passed : (frame : Frame) → Told
   held : Told
   done : (content : Content) → Told
   wrong : (fault : ContentFault) → Told
 
+-- an outcome in these words
 abbrev pub told : Outcome → Told
 told (outcomes.Passed frame) = passed (frame_of frame)
 told outcomes.Held = held
@@ -48,11 +50,13 @@ pub data Kept : Type 0 where
   message : (opening : Method) (header : Option ContentHeader) (body : List ℕ) → Kept
   fault : Kept
 
+-- what is kept of a begun unit
 abbrev pub begun_kept : Begun Frame → Option Kept
 begun_kept Nothing = None
 begun_kept (Opened opening) = Some (message (method_in opening) None [])
 begun_kept (Headed opening header bodies) = Some (message (method_in opening) (Some (header_in header)) (joined bodies))
 
+-- what is kept of a state
 abbrev pub kept_of : State Frame → Option Kept
 kept_of (At begun) = begun_kept begun
 kept_of Lost = Some fault
@@ -85,11 +89,13 @@ PushesIn old new frame outcome = Pushes old.max_body (kept_at old.channels (chan
 
 -- ---- the step of an assembler
 
+-- what an assembler holds of a channel, in these words
 abbrev pub pending_kept : Pending → Kept
 pending_kept (pendings.Message opening None body) = message (opening_method opening) None body.items
 pending_kept (pendings.Message opening (Some header) body) = message (opening_method opening) (Some (header_of header)) body.items
 pending_kept pendings.Faulted = fault
 
+-- the same of an entry of its map
 abbrev pub entry_kept : ℕ × Pending → ℕ × Kept
 entry_kept entry = (entry.0, pending_kept entry.1)
 
@@ -99,6 +105,7 @@ progress_kept (message opening None body) = progresses.Opened
 progress_kept (message opening (Some header) body) = progresses.Headed header.body_size (length body)
 progress_kept fault = progresses.Faulted
 
+-- the same where nothing may be kept
 abbrev pub kept_progress : Option Kept → Option Progress
 kept_progress None = None
 kept_progress (Some kept) = Some (progress_kept kept)
@@ -120,6 +127,7 @@ IsHeaded (message opening (Some header) body) = Unit {0}
 IsHeaded (message opening None body) = ⊥
 IsHeaded fault = ⊥
 
+-- the same where nothing may be kept
 abbrev pub IsHeadedThere : Option Kept → Type 0
 IsHeadedThere (Some kept) = IsHeaded kept
 IsHeadedThere None = ⊥
@@ -146,6 +154,7 @@ kept_marked kept frame marks.Header = if 0 == (header_in frame).body_size then N
 kept_marked kept frame (marks.Body before after size) = if after == size then None else with_bytes kept (bytes_of frame)
 kept_marked kept frame (marks.Fault bad) = Some fault
 
+-- the mark of a frame, by what is kept of its channel
 abbrev pub mark_kept : ℕ → Option Kept → Frame → Mark
 mark_kept max kept frame = mark_after max (kept_progress kept) (outline_of frame)
 

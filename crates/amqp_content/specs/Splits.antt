@@ -14,6 +14,7 @@ piece_count m n = (n + (m - 1)) / m
 abbrev pub pieces : ℕ → List ℕ → List (List ℕ)
 pieces m bytes = map (λ k. take m (drop (k * m) bytes)) (range_with_len 0 (piece_count m (length bytes)))
 
+-- the content header of a message
 abbrev pub split_header : Parts → ContentHeader
 split_header message = record { class_id = 60; body_size = length message.body; options = options message.properties }
 

@@ -11,6 +11,7 @@ pub data State (X : Type 0) : Type 0 where
   At : (begun : Begun X) → State X
   Lost : State X
 
+-- frames that come after what has begun are a fault
 abbrev pub state_after : {X : Type 0} → Begun X → List X → State X
 state_after begun [] = At begun
 state_after begun (x ∷ xs) = Lost

@@ -15,15 +15,19 @@ use Rattle.amqp_content.specs.Marks.{begun_progress}
 
 -- ---- the mark of a frame, by what a tracker keeps
 
+-- a content header after an opening: its class has to be basic, and its size allowed
 abbrev pub header_mark : ℕ → ℕ → ℕ → Mark
 header_mark max class size = if class == 60 then (if nat_le size max then marks.Header else marks.Fault faults.BodyTooLarge) else marks.Fault faults.WrongClass
 
+-- a body in a message: it may not go beyond the size
 abbrev pub body_mark : ℕ → ℕ → ℕ → Mark
 body_mark size seen count = if nat_le (seen + count) size then marks.Body seen (seen + count) size else marks.Fault faults.BodyOverrun
 
+-- a method between units
 abbrev pub method_mark : ℕ → ℕ → Mark
 method_mark class id = if is_opening_id class id then marks.Opening else marks.Passed
 
+-- a frame, by what is kept of its channel; other frames than content are passed
 abbrev pub mark_after : ℕ → Option Progress → FrameOutline → Mark
 mark_after max None (outlines.Method channel class id) = method_mark class id
 mark_after max None (outlines.Header channel class size) = marks.Fault faults.UnexpectedHeader
@@ -58,6 +62,7 @@ progress_marked progress outline marks.Header = headed_progress (size_in outline
 progress_marked progress outline (marks.Body before after size) = headed_progress size after
 progress_marked progress outline (marks.Fault fault) = Some kept.Faulted
 
+-- the same by the mark that the frame has
 abbrev pub progress_after : ℕ → Option Progress → FrameOutline → Option Progress
 progress_after max progress outline = progress_marked progress outline (mark_after max progress outline)
 
@@ -70,6 +75,7 @@ begun_with (Opened opening) x = Headed opening x []
 begun_with (Headed opening header bodies) x = Headed opening header (bodies ++ x ∷ [])
 
 module _ {X : Type 0} (outline : X → FrameOutline) where
+  -- the answer to one frame more, and the state after it, by its mark
   abbrev pub step_marked : Begun X → X → Mark → Answer X × State X
   step_marked begun x marks.Passed = (Alone x, At begun)
   step_marked begun x marks.Opening = (Within begun x, At (begun_with begun x))
@@ -82,10 +88,12 @@ module _ {X : Type 0} (outline : X → FrameOutline) where
   step max (At begun) x = if is_content (outline x) then step_marked begun x (mark_after max (begun_progress outline begun) (outline x)) else (Wrong (fault_after begun (outline x)), Lost)
   step max Lost x = (Wrong faults.Faulted, Lost)
 
+  -- the answers to frames, one step after another
   abbrev pub run_answers : ℕ → State X → List X → List (Answer X)
   run_answers max state [] = []
   run_answers max state (x ∷ xs) = (step max state x).0 ∷ run_answers max (step max state x).1 xs
 
+  -- the state after these steps
   abbrev pub run_state : ℕ → State X → List X → State X
   run_state max state [] = state
   run_state max state (x ∷ xs) = run_state max (step max state x).1 xs

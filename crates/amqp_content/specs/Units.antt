@@ -19,6 +19,7 @@ is_content (outlines.Heartbeat channel) = false
 abbrev pub is_opening_id : ℕ → ℕ → Bool
 is_opening_id class id = (class == 60) && ((id == 40) || ((id == 50) || ((id == 60) || (id == 71))))
 
+-- a method that opens a message
 abbrev pub IsOpening : FrameOutline → Type 0
 IsOpening (outlines.Method channel class id) = IsTrue (is_opening_id class id)
 IsOpening outlines.ProtocolHeader = ⊥
@@ -26,6 +27,7 @@ IsOpening (outlines.Header channel class size) = ⊥
 IsOpening (outlines.Body channel count) = ⊥
 IsOpening (outlines.Heartbeat channel) = ⊥
 
+-- a method that opens none
 abbrev pub IsOtherMethod : FrameOutline → Type 0
 IsOtherMethod (outlines.Method channel class id) = is_opening_id class id ≡ false
 IsOtherMethod outlines.ProtocolHeader = ⊥
@@ -41,6 +43,7 @@ IsBasicHeader (outlines.Method channel class id) = ⊥
 IsBasicHeader (outlines.Body channel count) = ⊥
 IsBasicHeader (outlines.Heartbeat channel) = ⊥
 
+-- a body
 abbrev pub IsBody : FrameOutline → Type 0
 IsBody (outlines.Body channel count) = Unit {0}
 IsBody outlines.ProtocolHeader = ⊥
@@ -78,11 +81,13 @@ pub data Begun (X : Type 0) : Type 0 where
   Opened : (opening : X) → Begun X
   Headed : (opening header : X) (bodies : List X) → Begun X
 
+-- the frames of a begun unit
 abbrev pub begun_frames : {X : Type 0} → Begun X → List X
 begun_frames Nothing = []
 begun_frames (Opened opening) = opening ∷ []
 begun_frames (Headed opening header bodies) = opening ∷ header ∷ bodies
 
+-- the frames of a finished unit
 abbrev pub finished_frames : {X : Type 0} → Finished X → List X
 finished_frames (Lone method) = method ∷ []
 finished_frames (Empty opening header) = opening ∷ header ∷ []

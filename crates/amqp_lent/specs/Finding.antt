@@ -17,6 +17,7 @@ pub record IsLeastAfter (last : Option (List ℕ)) (table : List Entry) (e : Ent
 abbrev pub HasNoneAfter : Option (List ℕ) → List Entry → Type 0
 HasNoneAfter last table = (other : List ℕ) (w : FieldValue) → IsAfter last other → value_at other table ≡ Some w → ⊥
 
+-- the entry with the least key after the last one, or none
 abbrev pub FindsAfter : Option (List ℕ) → List Entry → Option Entry → Type 0
 FindsAfter last table None = HasNoneAfter last table
 FindsAfter last table (Some e) = IsLeastAfter last table e
@@ -26,6 +27,7 @@ pub record IsLastAt (room : ℕ) (content key : List ℕ) (es : List Entry) (pla
   pub read : IsRead (entry_at room content place)
   pub value : last_at key es ≡ Some (entry_of (entry_at room content place)).1
 
+-- the place of the last of these entries with this key, or none
 abbrev pub FindsLast : ℕ → List ℕ → List ℕ → List Entry → Option ℕ → Type 0
 FindsLast room content key es None = last_at key es ≡ None
 FindsLast room content key es (Some place) = IsLastAt room content key es place

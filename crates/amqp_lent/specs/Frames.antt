@@ -12,6 +12,7 @@ use Rattle.amqp_lent.specs.Payloads.{header_payload, method_payload}
 use Rattle.amqp_lent.specs.declared.frame.LentFrame.{LentFrame}
 use Rattle.amqp_lent.specs.declared.frame.LentFrame.TheVariants as frames
 
+-- a frame by its type, channel and payload
 abbrev pub raw : AMQPFrameType → ℕ → List ℕ → Raw
 raw kind channel payload = record { kind = kind; channel = channel; payload = payload }
 
@@ -24,6 +25,7 @@ raw_of (frames.Body channel content) = raw kinds.Body channel content.now
 raw_of frames.Heartbeat = raw kinds.Heartbeat 0 []
 raw_of (frames.InvalidHeartbeat channel) = raw kinds.Heartbeat channel []
 
+-- the payload of a borrowed frame
 abbrev pub payload_of : LentFrame → List ℕ
 payload_of lent = (raw_of lent).payload
 

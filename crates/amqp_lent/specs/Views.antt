@@ -6,6 +6,7 @@ use Rattle.std.specs.Borrow.{Bor}
 use Rattle.amqp_lent.specs.declared.value.LentValue.{LentValue}
 use Rattle.amqp_lent.specs.declared.value.LentValue.TheVariants as variant
 
+-- the value that a borrowed value stands for
 abbrev pub value_of : LentValue → FieldValue
 value_of (variant.Boolean b) = boolean_value b
 value_of (variant.ShortShortInt n) = signed_value short_short_int n

@@ -8,6 +8,7 @@ use Rattle.amqp_select.specs.declared.rule.Span.{Span}
 use Rattle.amqp_select.specs.declared.rule.Span.TheVariants as spans
 use Rattle.amqp_select.specs.declared.rule.Rule.{Rule}
 
+-- the first and the last channel of a range
 abbrev pub ends : Span → ℕ × ℕ
 ends (spans.One only) = (only, only)
 ends (spans.Range first last) = (first, last)
@@ -16,6 +17,7 @@ ends (spans.Range first last) = (first, last)
 abbrev pub includes : Span → Span → Bool
 includes a b = nat_le (ends a).0 (ends b).0 && nat_le (ends b).1 (ends a).1
 
+-- both kinds are the same
 abbrev pub is_same_kind : AMQPFrameType → AMQPFrameType → Bool
 is_same_kind kinds.ProtocolHeader kinds.ProtocolHeader = true
 is_same_kind kinds.Method kinds.Method = true

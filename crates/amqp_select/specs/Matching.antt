@@ -40,6 +40,7 @@ abbrev pub holds : {A : Type 0} → (A → Bool) → Option A → Bool
 holds test None = true
 holds test (Some part) = test part
 
+-- each part of the rule holds of the frame
 abbrev pub matches : Rule → FrameOutline → Bool
 matches rule outline =
     holds (λ span. contains span (outline_channel outline)) rule.channel
@@ -47,6 +48,7 @@ matches rule outline =
     && holds (λ id. has_class id outline) rule.class_id
     && holds (λ id. has_method id outline) rule.method_id
 
+-- the first rule that matches the frame
 abbrev pub first_match : List Rule → FrameOutline → Option Rule
 first_match rules outline = find (λ rule. matches rule outline) rules
 
@@ -55,6 +57,7 @@ abbrev pub keeps : Option Rule → Bool
 keeps None = false
 keeps (Some rule) = rule.keep
 
+-- the frame is kept: its first matching rule says so
 abbrev pub decides : List Rule → FrameOutline → Bool
 decides rules outline = keeps (first_match rules outline)
 

@@ -20,6 +20,7 @@ Read A = Option (A × List ℕ)
 abbrev pub Gives : {A R : Type 0} → (R → List ℕ) → Option (A × R) → Read A → Type 0
 Gives bytes_of result read = option_map (λ found. (found.0, bytes_of found.1)) result ≡ read
 
+-- what is read next, where something was read
 infixl 10 ◌>>=◌
 abbrev pub ◌>>=◌ : {A B : Type 0} → Option A → (A → Option B) → Option B
 None >>= f = None
@@ -34,6 +35,7 @@ abbrev pub or_else : {A : Type 0} → Option (List ℕ) → A → Read A → Rea
 or_else None a others = others
 or_else (Some rest) a others = Some (a, rest)
 
+-- whether to keep or to drop
 abbrev pub read_verb : List ℕ → Read Bool
 read_verb bytes = or_else (after (codes "keep") bytes) true (or_else (after (codes "drop") bytes) false None)
 
@@ -55,6 +57,7 @@ digits_in_front bytes = prefix_len is_ascii_digit bytes
 abbrev pub read_number : List ℕ → Read ℕ
 read_number bytes = option_map (λ n. (n, drop (digits_in_front bytes) bytes)) (number_named (take (digits_in_front bytes) bytes))
 
+-- a range up to the number that was read, which is no less than its first
 abbrev pub range_to : ℕ → Read ℕ → Read Span
 range_to first None = None
 range_to first (Some last) = if nat_le first last.0 then Some (spans.Range first last.0, last.1) else None
@@ -64,11 +67,13 @@ abbrev pub span_from : ℕ × List ℕ → Option (List ℕ) → Read Span
 span_from first None = Some (spans.One first.0, first.1)
 span_from first (Some rest) = range_to first.0 (read_number rest)
 
+-- a channel or a range of channels
 abbrev pub read_span : List ℕ → Read Span
 read_span bytes = do
   first ← read_number bytes
   span_from first (after (codes "-") first.1)
 
+-- the kind of a frame
 abbrev pub read_kind : List ℕ → Read AMQPFrameType
 read_kind bytes =
     or_else (after (codes "proto") bytes) kinds.ProtocolHeader
@@ -77,6 +82,7 @@ read_kind bytes =
     (or_else (after (codes "body") bytes) kinds.Body
     (or_else (after (codes "beat") bytes) kinds.Heartbeat None))))
 
+-- a part, where bytes are left for it
 abbrev pub part_at : {A : Type 0} → (List ℕ → Read A) → List ℕ → Option (List ℕ) → Read (Option A)
 part_at read bytes None = Some (None, bytes)
 part_at read bytes (Some rest) = option_map (λ part. (Some part.0, part.1)) (read rest)

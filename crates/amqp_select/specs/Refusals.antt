@@ -18,6 +18,7 @@ pub record IsRuleWord (word : List ℕ) : Type 0 where
   pub is_rule : IsRule rule
   pub is : word ≡ spelled rule
 
+-- how many words may be rules
 abbrev pub IsCount : ℕ → Type 0
 IsCount n = (1 ≤ n) × (n ≤ 64)
 
@@ -51,6 +52,7 @@ ParsesItems words (Ok rules) = Spell words rules.items
 ParsesItems words (Err errors.NoMemory) = IsCount (length words)
 ParsesItems words (Err error) = Parses words (Err error)
 
+-- the text of an error
 abbrev pub error_text : RuleError → List ℕ
 error_text errors.Count = codes "Count"
 error_text (errors.Malformed place) = codes "Malformed at " ++ decimal place

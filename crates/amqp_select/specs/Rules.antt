@@ -11,6 +11,7 @@ use Rattle.amqp_select.specs.declared.rule.Rule.{Rule}
 abbrev pub IsNumber : ℕ → Type 0
 IsNumber n = n ≤ 65535
 
+-- a channel, or a range that ends no lower than it begins
 abbrev pub IsSpan : Span → Type 0
 IsSpan (spans.One only) = IsNumber only
 IsSpan (spans.Range first last) = (first ≤ last) × IsNumber last
@@ -21,14 +22,17 @@ pub record IsRule (rule : Rule) : Type 0 where
   pub class_id : IfSome rule.class_id IsNumber
   pub method_id : IfSome rule.method_id IsNumber
 
+-- the word for keeping or dropping
 abbrev pub verb_text : Bool → List ℕ
 verb_text true = codes "keep"
 verb_text false = codes "drop"
 
+-- a channel, or a range with a dash between its ends
 abbrev pub span_text : Span → List ℕ
 span_text (spans.One only) = decimal only
 span_text (spans.Range first last) = decimal first ++ (codes "-" ++ decimal last)
 
+-- the word for a kind of frames
 abbrev pub kind_text : AMQPFrameType → List ℕ
 kind_text kinds.ProtocolHeader = codes "proto"
 kind_text kinds.Method = codes "method"

@@ -47,6 +47,7 @@ pub data Told : Type 0 where
   Number : ℕ → Told
   Bytes : List ℕ → Told
 
+-- the same after one more piece
 abbrev pub grown : Told → List ℕ → Told
 grown Nothing piece = Nothing
 grown (Number n) piece = Number (n + length piece)

@@ -41,6 +41,7 @@ read_fault reads.CutShort = None
 read_fault reads.TurnsSpent = None
 read_fault reads.ReadFault = None
 
+-- the name of an error of reading
 abbrev pub read_error_name : ReadError → List ℕ
 read_error_name reads.UnknownFrameType = codes "UnknownFrameType"
 read_error_name reads.BadProtocolHeader = codes "BadProtocolHeader"
@@ -50,6 +51,7 @@ read_error_name reads.CutShort = codes "CutShort"
 read_error_name reads.TurnsSpent = codes "TurnsSpent"
 read_error_name reads.ReadFault = codes "ReadFault"
 
+-- the name of an error of a stream
 abbrev pub stream_error_name : StreamError → List ℕ
 stream_error_name errors.UnknownFrameType = codes "UnknownFrameType"
 stream_error_name errors.BadProtocolHeader = codes "BadProtocolHeader"

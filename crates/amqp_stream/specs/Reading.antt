@@ -53,6 +53,7 @@ idle_reads_at errors.CutShort = 1
 idle_reads_at errors.TurnsSpent = 0
 idle_reads_at errors.ReadFault = 1
 
+-- how many reads of a call gave nothing, by its result
 abbrev pub idle_reads : {X : Type 0} → Result (Option X) ReadError → ℕ
 idle_reads (Ok (Some x)) = 0
 idle_reads (Ok None) = 1

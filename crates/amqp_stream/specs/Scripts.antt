@@ -18,6 +18,7 @@ pub record ScriptedSource : Type 0 where
   pub reads : ℕ
   pub faults : ℕ
 
+-- what such a source reports
 abbrev pub supply_of : ScriptedSource → Supply
 supply_of s = record { left = Some s.left; reads = Some s.reads; faults = s.faults }
 
@@ -26,6 +27,7 @@ pub record Kept : Type 0 where
   pub bytes : List ℕ
   pub faults : ℕ
 
+-- what such a sink reports
 abbrev pub store_of : Kept → Store
 store_of s = record { taken = Bytes s.bytes; faults = s.faults }
 
@@ -41,6 +43,7 @@ pub record Counted : Type 0 where
   pub total : ℕ
   pub faults : ℕ
 
+-- what such a sink reports
 abbrev pub count_of : Counted → Store
 count_of s = record { taken = Number s.total; faults = s.faults }
 

@@ -13,6 +13,7 @@ pub record Manner (S E : Type 0) : Type 0 where
   pub wants : AMQPFrameType → Bool
   pub compact : Bool
 
+-- what is written from a step on, by what is written from the next state on
 abbrev pub text_at : {S E : Type 0} → Result (List ℕ × S) E → (S → List ℕ) → List ℕ
 text_at (Ok stepped) next = stepped.0 ++ next stepped.1
 text_at (Err why) next = []
@@ -22,6 +23,7 @@ unfoldable pub text : {S E : Type 0} → Manner S E → S → List Frame → Lis
 text w s [] = []
 text w s (f ∷ fs) = text_at (w.step s f) (λ t. text w t fs)
 
+-- why a frame is refused from a step on, by why one is from the next state on
 abbrev pub refused_at : {S E : Type 0} → Result (List ℕ × S) E → (S → Option E) → Option E
 refused_at (Ok stepped) next = next stepped.1
 refused_at (Err why) next = Some why
@@ -31,6 +33,7 @@ unfoldable pub refused : {S E : Type 0} → Manner S E → S → List Frame → 
 refused w s [] = None
 refused w s (f ∷ fs) = refused_at (w.step s f) (λ t. refused w t fs)
 
+-- the state after a step and what follows it; a refused step leaves the state
 abbrev pub state_at : {S E : Type 0} → S → Result (List ℕ × S) E → (S → S) → S
 state_at s (Ok stepped) next = next stepped.1
 state_at s (Err why) next = s

@@ -24,10 +24,12 @@ pub data Ending (E : Type 0) : Type 0 where
   refused_by : E → Ending E
   stopped_by : Cause → Ending E
 
+-- the ending of an error of a run
 abbrev pub error_ending : {E : Type 0} → RunError E → Ending E
 error_ending (ends.Stream error) = stopped_by (cause_of error)
 error_ending (ends.Refused why) = refused_by why
 
+-- the ending of a result of a run
 abbrev pub ending_of : {E : Type 0} → Result (Unit {0}) (RunError E) → Ending E
 ending_of (Ok done) = finished
 ending_of (Err error) = error_ending error
@@ -194,9 +196,11 @@ abbrev pub answer_of : {E : Type 0} → Option E → Option E → Result (Unit {
 answer_of (Some why) end answer = refused_by why
 answer_of None end answer = answer_at_end end answer
 
+-- the result for all the bytes of a source, by the writer
 abbrev pub answer_by : {S E : Type 0} → Manner S E → S → ℕ → List ℕ → Ending E
 answer_by w s m bytes = answer_of (refused_of w s m bytes) (w.end (state_of w s m bytes)) (answer_to w.level m bytes)
 
+-- the ending and what was written are those of all the bytes
 pub record IsExact {S E : Type 0} (w : Manner S E) (s : S) (m : ℕ) (bytes written : List ℕ) (ending : Ending E) : Type 0 where
   pub answer : ending ≡ answer_by w s m bytes
   pub text_is : written ≡ text_of w s m bytes
@@ -218,6 +222,7 @@ pub record IsWelcome {S E : Type 0} (w : Manner S E) (s : S) (m : ℕ) (bytes : 
   pub none_refused : refused_of w s m bytes ≡ None
   pub ends : w.end (state_of w s m bytes) ≡ None
 
+-- at the end of the input, or out of memory
 abbrev pub IsDoneOrWanting : {E : Type 0} → Ending E → Type 0
 IsDoneOrWanting finished = Unit {0}
 IsDoneOrWanting (refused_by why) = ⊥

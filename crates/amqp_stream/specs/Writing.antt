@@ -41,6 +41,7 @@ pub record GatherFails (old new : Store) (before after bytes : List ℕ) : Type 
   pub rises : Rises old.faults new.faults
   pub none : after ≡ []
 
+-- bytes were gathered, or the sink failed
 abbrev pub Gathers : Store → Store → List ℕ → List ℕ → List ℕ → Result (Unit {0}) SinkFault → Type 0
 Gathers old new before after bytes (Ok done) = Gathered old new before after bytes
 Gathers old new before after bytes (Err bad) = GatherFails old new before after bytes
@@ -77,6 +78,7 @@ length_around kinds.Header n = n + 8
 length_around kinds.Body n = n + 8
 length_around kinds.Heartbeat n = n + 8
 
+-- how many bytes a frame has
 abbrev pub frame_length : Raw → ℕ
 frame_length raw = length_around raw.kind (length raw.payload)
 
