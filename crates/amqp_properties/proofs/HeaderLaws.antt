@@ -20,7 +20,7 @@ pub least : are_least header_slots ≡ true
 unfolding header_slots
 least = refl
 
--- what the slots in front give: a class id and a body size
+-- what the fields in front give: a class id and a body size
 pub record GivesParts (items : List Item) : Type 0 where
   pub class_id : ℕ
   pub body_size : ℕ
@@ -66,7 +66,7 @@ slots_are_held : (header : ContentHeader) → IsHeaderHeld header → SpellsSlot
 unfolding header_slots
 slots_are_held header h = slots_held header_slots (header_items header) refl (h.class_fits, (h.size_fits, refl)) refl refl
 
--- what programs hold is spelled strictly by its canonical bytes
+-- what programs hold is encoded strictly by its canonical bytes
 pub header_held : (header : ContentHeader) → IsHeaderHeld header → any_deep_option header.options ≡ false → any_long_option header.options ≡ false → SpellsContentHeader strict (content_header_bytes header) header
 unfolding content_header_bytes
 header_held header h shallow short = record {

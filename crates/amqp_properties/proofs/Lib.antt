@@ -5,3 +5,5 @@ pub mod PropertyLaws
 pub mod HeaderLaws
 pub mod Tidiness
 pub mod PropertyFaults
+pub mod Holding
+pub mod Equality

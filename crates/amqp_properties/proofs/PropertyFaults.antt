@@ -1,4 +1,4 @@
--- Judging a content header finds no faults but those of the inside of a payload.
+-- Decoding a content header finds no faults but those of the inside of a payload.
 use Rattle.std.proofs.Common.{ℕ, ◌+◌, Bool, true, false, List, [], ◌∷◌, drop, None}
 use Rattle.amqp_types.specs.PayloadFaults.{FailsInside, ContentHeadersFailInside}
 use Rattle.amqp_types.specs.Numbers.{bytes2, judge_number}

@@ -37,7 +37,7 @@ count_is mask = refl
 set_law : (mask : ℕ) → IsLawful (judge_set mask properties) (λ level. SpellsSet level mask properties) (set_bytes properties)
 set_law mask = sets_lawful mask properties one_each
 
--- ---- exactly what is spelled is taken
+-- ---- exactly what is encoded is taken
 
 properties_spelled : (bytes : List ℕ) (options : List (Option Item)) (n : ℕ) → IsBytes bytes → judge_properties bytes ≡ took options n → SpellsProperties plain (take n bytes) options × (n ≤ length bytes)
 unfolding judge_properties

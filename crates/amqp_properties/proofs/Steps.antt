@@ -9,7 +9,7 @@ use Rattle.amqp_types.specs.PropertyJudging.{judge_optional, judge_set}
 use Rattle.amqp_types.specs.declared.errors.ParserError.{ParserError}
 use Rattle.amqp_types.proofs.Judged.{refuses_next}
 
--- what is refused behind a property that was read is refused
+-- what is refused after a property that was read is refused
 pub set_refuses : (error : ParserError) (mask n bit : ℕ) (form : Form) (ps : List Property) (old new : List ℕ) (option : Option Item) (present : Bool) → present ≡ flag_at mask bit → judge_optional present form old ≡ took option n → new ≡ drop n old
     → Refuses error (judge_set mask ps new) → Refuses error (judge_set mask (property bit form ∷ ps) old)
 unfolding judge_set

@@ -1,4 +1,4 @@
-//! Measuring and writing properties.
+//! Measuring and encoding properties.
 
 ghost use Rattle.amqp_types.specs.Calls.{Measures, HasRoom};
 ghost use Rattle.amqp_types.specs.Writing.{Puts, Appends};
@@ -44,7 +44,7 @@ pub fn size_properties(value: &AMQPProperties) -> Result<u64, GenError>
     size_fields(&properties_fields(value))
 }
 
-/// Puts the mask and the properties that are set at a place of a slice, and answers the place behind
+/// Puts the mask and the properties that are set at a place of a slice, and returns the place after
 /// them.
 pub fn put_properties(buf: &mut [u8], at: usize, value: &AMQPProperties) -> usize
     requires { HasRoom buf.old at (properties_size (options value.now)) (properties_bytes (options value.now)) }

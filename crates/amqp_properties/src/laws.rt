@@ -15,7 +15,7 @@ pub fn properties_are_lawful()
     ensures { PropertiesAreLawful }
 {}
 
-/// Properties that are spelled are neither long nor too deep.
+/// Properties that are encoded are neither long nor too deep.
 pub fn spelled_properties_are_bounded()
     ensures { SpelledPropertiesAreBounded }
 {}
@@ -30,7 +30,7 @@ pub fn content_headers_are_lawful()
     ensures { ContentHeadersAreLawful }
 {}
 
-/// Content headers that are spelled are neither long nor too deep.
+/// Content headers that are encoded are neither long nor too deep.
 pub fn spelled_content_headers_are_bounded()
     ensures { SpelledContentHeadersAreBounded }
 {}
@@ -40,12 +40,12 @@ pub fn held_content_headers_are_read_back()
     ensures { HeldContentHeadersAreReadBack }
 {}
 
-/// A test tells which properties are tidy.
+/// A test says which properties are tidy.
 pub fn tidy_properties_are_told()
     ensures { TidyPropertiesAreTold }
 {}
 
-/// A test tells which payloads of content headers are tidy.
+/// A test says which payloads of content headers are tidy.
 pub fn tidy_content_headers_are_told()
     ensures { TidyContentHeadersAreTold }
 {}

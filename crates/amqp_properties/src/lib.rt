@@ -1,13 +1,17 @@
-//! The 14 properties of a message, and how they are read and written.
+//! The 14 properties of a message, and how they are decoded and encoded.
 #![tactic(auto)]
 
+mod equality_laws;
 mod generation;
+mod held_properties;
 mod laws;
 mod optional;
 mod parsing;
 mod properties;
 
+pub use equality_laws::equal_properties;
 pub use generation::{gen_properties, put_properties, size_properties};
+pub use held_properties::properties_held;
 pub use laws::{
     content_headers_are_lawful, content_headers_fail_inside, held_content_headers_are_read_back,
     held_properties_are_read_back, properties_are_lawful, sets_are_lawful,

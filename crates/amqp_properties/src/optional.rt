@@ -24,7 +24,7 @@ pub fn is_set(mask: ShortUInt, bit: u16) -> bool
     (mask >> bit) & 1 == 1
 }
 
-/// Reads a short string, where it is there.
+/// Decodes a short string, where it is there.
 #[tactic(auto, using(amqp_types::proofs::Judged::refuses_next), unfolding(amqp_types::specs::PropertyJudging::judge_optional))]
 pub fn read_short_string(
     slots: &mut SlotReader<'_>,
@@ -41,7 +41,7 @@ pub fn read_short_string(
     Ok(None)
 }
 
-/// Reads a table, where it is there.
+/// Decodes a table, where it is there.
 #[tactic(auto, using(amqp_types::proofs::Judged::refuses_next), unfolding(amqp_types::specs::PropertyJudging::judge_optional))]
 pub fn read_table(
     slots: &mut SlotReader<'_>,
@@ -58,7 +58,7 @@ pub fn read_table(
     Ok(None)
 }
 
-/// Reads a number of 1 byte, where it is there.
+/// Decodes a number of 1 byte, where it is there.
 #[tactic(auto, using(amqp_types::proofs::Judged::refuses_next), unfolding(amqp_types::specs::PropertyJudging::judge_optional))]
 pub fn read_short_short_uint(
     slots: &mut SlotReader<'_>,
@@ -74,7 +74,7 @@ pub fn read_short_short_uint(
     Ok(None)
 }
 
-/// Reads a number of 8 bytes, where it is there.
+/// Decodes a number of 8 bytes, where it is there.
 #[tactic(auto, using(amqp_types::proofs::Judged::refuses_next), unfolding(amqp_types::specs::PropertyJudging::judge_optional))]
 pub fn read_long_long_uint(
     slots: &mut SlotReader<'_>,
@@ -146,7 +146,7 @@ pub fn field_long_long_uint(option: &Option<LongLongUInt>) -> Field<'_>
     }
 }
 
-/// An equal string of its own, where it is there.
+/// A deep copy, where it is there.
 pub fn copy_short_string(
     option: &Option<ShortString>,
     alloc: Global,
@@ -159,7 +159,7 @@ pub fn copy_short_string(
     }
 }
 
-/// An equal table of its own, where it is there.
+/// A deep copy, where it is there.
 pub fn copy_table(
     option: &Option<FieldTable>,
     alloc: Global,

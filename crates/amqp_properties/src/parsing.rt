@@ -1,4 +1,4 @@
-//! Reading properties.
+//! Decoding properties.
 
 ghost use Rattle.std.specs.Prelude.{◌≤◌, length};
 ghost use Rattle.amqp_types.specs.Calls.{Parses};
@@ -26,7 +26,7 @@ struct LaterProperties {
     cluster_id: Option<ShortString>,
 }
 
-/// Reads those of the last seven properties that a mask says are set.
+/// Decodes those of the last seven properties that a mask says are set.
 #[tactic(auto, using(amqp_types::proofs::Judged::refuses_next), unfolding(amqp_types::specs::PropertyJudging::judge_set, amqp_types::specs::Properties::later_properties))]
 fn read_later(
     slots: &mut SlotReader<'_>,
@@ -54,7 +54,7 @@ fn read_later(
     })
 }
 
-/// Reads the properties that a mask says are set.
+/// Decodes the properties that a mask says are set.
 #[tactic(auto, using(amqp_types::proofs::Judged::refuses_next), unfolding(amqp_types::specs::PropertyJudging::judge_set, amqp_types::specs::Properties::properties))]
 fn read_properties(
     slots: &mut SlotReader<'_>,
@@ -90,7 +90,7 @@ fn read_properties(
     })
 }
 
-/// Reads a mask, and the properties that it says are set.
+/// Decodes a mask, and the properties that it says are set.
 #[tactic(auto, using(amqp_types::proofs::Judged::refuses_next), unfolding(amqp_types::specs::PropertyJudging::judge_properties))]
 pub fn parse_properties(alloc: Global, i: &[u8]) -> Result<(usize, AMQPProperties), ParserError>
     ensures { Parses options result i.now judge_properties }
@@ -98,5 +98,5 @@ pub fn parse_properties(alloc: Global, i: &[u8]) -> Result<(usize, AMQPPropertie
     let (n, mask) = parse_short_uint(i)?;
     let mut slots = SlotReader::new(&i[n..]);
     let properties = read_properties(&mut slots, alloc, mask)?;
-    Ok((i.len() - slots.rest.len(), properties))
+    Ok((slots.used(i), properties))
 }

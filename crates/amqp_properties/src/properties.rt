@@ -1,3 +1,5 @@
+//! The properties of a message: fields, builders, getters and mask.
+
 ghost use Rattle.std.specs.Prelude.{◌≡◌, IfOk};
 ghost use Rattle.amqp_types.specs.Properties.{properties};
 ghost use Rattle.amqp_types.specs.PropertyBytes.{mask_of};
@@ -24,10 +26,10 @@ pub struct AMQPProperties {
     /// From 0 to 9, the highest.
     pub priority: Option<ShortShortUInt>,
 
-    /// The request that the message answers.
+    /// The request that the message replies to.
     pub correlation_id: Option<ShortString>,
 
-    /// Where answers are to go.
+    /// Where replies are to go.
     pub reply_to: Option<ShortString>,
 
     /// When the message may be dropped.
@@ -209,7 +211,7 @@ impl AMQPProperties {
         &self.content_encoding
     }
 
-    /// The headers, if it is set.
+    /// The headers, if they are set.
     pub fn headers(&self) -> &Option<FieldTable>
         ensures { result.now ≡ self.now.headers }
     {
@@ -314,7 +316,7 @@ impl AMQPProperties {
             + worth(&self.cluster_id, 4)
     }
 
-    /// Equal properties of their own.
+    /// A deep copy.
     pub fn copy(&self, alloc: Global) -> Result<AMQPProperties, NoMemory>
         ensures { IfOk result (λ copied. copied ≡ self.now) }
     {

@@ -1,3 +1,5 @@
+//! Properties built, copied, encoded and decoded, with ample memory.
+
 use super::*;
 use amqp_values::{AMQPValue, FieldTable, ShortString};
 use std::alloc::Global;

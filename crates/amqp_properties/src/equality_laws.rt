@@ -1,0 +1,12 @@
+//! The law of equality: properties are equal exactly where contracts see the same.
+
+ghost use Rattle.std.specs.Prelude.{◌≡◌, ◌↔◌, IsTrue};
+
+use crate::properties::AMQPProperties;
+
+/// Properties are equal exactly where all 14 are the same.
+pub fn equal_properties(a: &AMQPProperties, b: &AMQPProperties) -> bool
+    ensures { IsTrue result ↔ (a.now ≡ b.now) }
+{
+    a == b
+}
