@@ -10,7 +10,9 @@ use crate::spans::{Span, bytes_from, entry_span, split_key};
 use std::cmp::Ordering;
 
 /// What an entry of a table is sorted by, and where it stands. For n bytes the calls that write want n / 2 of them,
-/// and write a table of no order in quadratic time where they are given fewer.
+/// and write a table of no order in quadratic time where they are given fewer. In C a mark has 16 bytes and is aligned
+/// to 8, and zeros are one, so a caller there can lend a slice of them.
+#[repr(C)]
 #[derive(Clone, Copy, Debug, Default)]
 pub struct Mark {
     /// The first eight bytes of the key as a number, with zeros after a shorter key.
