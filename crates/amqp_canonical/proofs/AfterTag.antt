@@ -1,4 +1,4 @@
--- What stands behind a tag, and with it.
+-- What stands after a tag, and with it.
 use Rattle.std.proofs.Common.{◌≡◌, ℕ, suc, ℤ, ◌+◌, ◌-◌, ◌<◌, ◌≤◌, ◌↔◌, nat_eq, Bool, true, ◌&&◌, IsTrue, List, [], ◌∷◌, ◌++◌, length, get_or, take, drop, Option, Some, None, Result, Ok, Err, refl, sym, ap, ap₂, subst, ◌∙◌, arith}
 use Rattle.std.proofs.lemmas.Bool.{le-ltb, lt-ltb}
 use Rattle.std.proofs.lemmas.Bool.Decides.{nat_tests}
@@ -31,7 +31,7 @@ use Rattle.amqp_canonical.specs.Judgements.{layout_at, IsCanonicalBoolean, IsCan
 use Rattle.amqp_canonical.proofs.Refusing.{Fails, fully, fails_next}
 use Rattle.amqp_canonical.proofs.Children.{told_as, both_told, split_two, value_few}
 
--- ---- which tag a value has that was read behind a tag
+-- ---- which tag a value has that was read after a tag
 
 mapped_tag : {A : Type 0} (make : A → FieldValue) (judge : Judge A) (t : FieldTag) → ((x : A) → tag_of (make x) ≡ t) → (bytes : List ℕ) (v : FieldValue) (n : ℕ) → judge_map make judge bytes ≡ took v n → tag_of v ≡ t
 mapped_tag make judge t same bytes v n h =
@@ -192,7 +192,7 @@ counted_fails nest tag.LongString bytes view e is h = fails_next e (judge_long_s
 counted_fails nest tag.ByteArray bytes view e is h = fails_next e (judge_long_string bytes) _ (fully view e (judge_long_string bytes) h)
 counted_fails nest t bytes view e is h = absurd cc
 
--- ---- what is made of what was judgement over
+-- ---- arrays and tables, made of what fills them
 
 pub judges_made : {A : Type 0} (make : A → FieldValue) (bytes : List ℕ) (r : Result ValueJudgement ParserError) (j : Judged A) → Judges (λ bs x. IsCanonicalAfterTag bs (make x)) bytes r j → Judges IsCanonicalAfterTag bytes r (j >>= λ x. took (make x.0) x.1)
 judges_made make bytes (Ok w) j h = record { thing = make h.thing; is = ap (λ k. k >>= λ x. took (make x.0) x.1) h.is; told = h.told }

@@ -1,4 +1,4 @@
--- What was judgement over, up to a place.
+-- Values and entries that were decoded, up to a place.
 use Rattle.std.proofs.Common.{◌≡◌, ℕ, zero, suc, ◌+◌, ◌<◌, ◌≤◌, ◌↔◌, ◌⊎◌, inl, inr, Bool, true, false, ◌&&◌, IsTrue, List, [], ◌∷◌, ◌++◌, length, take, drop, Result, Ok, Err, refl, sym, ap, ap₂, subst, ◌∙◌, append-nil, append_assoc, arith, true≢false}
 use Rattle.std.proofs.lemmas.Cmp.{nat_list_cmp_total}
 use Rattle.std.proofs.lemmas.List.{length-append, length-take-le, length-drop, drop-drop}
@@ -53,7 +53,7 @@ both_told false c P Q h k = (λ t. absurd (true≢false (sym t)), λ p. h.1 p.0)
 pub told_as : (b : Bool) (P Q : Type 0) → IsTrue b ↔ P → (P → Q) → (Q → P) → IsTrue b ↔ Q
 told_as b P Q h f g = (λ t. f (h.0 t), λ q. h.1 (g q))
 
--- ---- two lists of bytes, one behind the other
+-- ---- two lists of bytes, one after the other
 
 pub split_two : (a b x y : List ℕ) → a ++ b ≡ x ++ y → length x ≤ length a → length y ≤ length b → (a ≡ x) × (b ≡ y)
 split_two [] b [] y h few less = (refl, h)
@@ -71,7 +71,7 @@ take_all [] (suc at) h = refl
 take_all (b ∷ content) zero h = absurd (omega arith)
 take_all (b ∷ content) (suc at) h = ap (λ bs. b ∷ bs) (take_all content at (omega arith))
 
--- what stands up to a place, and behind it
+-- what stands up to a place, and after it
 module _ (content : List ℕ) (at n : ℕ) (old new : List ℕ) (within : at ≤ length content) (fits : n ≤ length (drop at content)) (less : length old ≤ at) (few : length new ≤ n) where
   pub stands_both : (take at content ≡ old) × (take n (drop at content) ≡ new) → take (at + n) content ≡ old ++ new
   stands_both h = take-add at n content ∙ ap₂ (λ a b. a ++ b) h.0 h.1

@@ -1,4 +1,4 @@
--- What a slot holds, judged at every level.
+-- Fields one after another, decoded at every level.
 use Rattle.std.proofs.Common.{◌≡◌, ◌&&◌, get_or, drop, ℕ, ◌+◌, ◌<◌, ◌≤◌, Bool, true, List, [], ◌∷◌, ◌++◌, length, Result, Ok, Err, refl, sym, ap, ap₂, ◌∙◌}
 use Rattle.std.proofs.lemmas.List.{at_drop_more, drop_all}
 use Rattle.amqp_types.specs.Levels.{Level, plain, tidy, strict}
@@ -23,7 +23,7 @@ use Rattle.amqp_canonical.proofs.Children.{told_as}
 use Rattle.amqp_canonical.proofs.Strict.{lawful_strict}
 use Rattle.amqp_canonical.proofs.Joining.{IsRead, law_read, both_read, both_judged, told, IsReached, reached_none, reached_more, reached_fails, reached_all}
 
--- ---- what is spelled is judged
+-- ---- what is encoded is decoded
 
 pub form_read : (form : Form) → IsRead (judge_form form) (λ level. SpellsForm level form)
 form_read form = law_read (judge_form form) (λ level. SpellsForm level form) (form_bytes form) (forms_lawful form)
@@ -46,7 +46,7 @@ unfolding judge_slots
 slots_read [] = record { read = λ level bytes rest items h. ap₂ (λ a b. took a b) (sym h.1) (sym (ap length h.0)) }
 slots_read (slot ∷ slots) = both_read (judge_slot slot) (judge_slots slots) (λ xs ys. xs ++ ys) (λ level. SpellsSlot level slot) (λ level. SpellsSlots level slots) (slot_read slot) (slots_read slots)
 
--- ---- slots one after another
+-- ---- fields one after another
 
 abbrev one_slot : Shape → Judge (List Item)
 one_slot shape = judge_slot (slot_of shape)
@@ -90,7 +90,7 @@ slots_fail = reached_fails one_slot OneSlot all_slots AllSlots slots_stop
 pub slots_all : (shapes : List Shape) (bytes : List ℕ) (k at : ℕ) (canonical so_far : Bool) → length shapes ≤ k → AreSlotsReached shapes bytes k at canonical so_far → JudgesLevels (AllSlots shapes) bytes (told at canonical so_far) (all_slots shapes bytes)
 slots_all = reached_all one_slot OneSlot all_slots AllSlots no_slots
 
--- ---- constants of reserved slots
+-- ---- constants of reserved fields
 
 -- where the rest of the constants are the least of their forms, all are
 abbrev pub AreLeastTo : List Shape → ℕ → Type 0
@@ -109,7 +109,7 @@ least_more shapes k other more here before = λ h. before (ap (λ b. b) (at_drop
 pub least_all : (shapes : List Shape) (k : ℕ) → length shapes ≤ k → AreLeastTo shapes k → are_least (slots_of shapes) ≡ true
 least_all shapes k end before = before (ap (λ xs. are_least (slots_of xs)) (drop_all k shapes end))
 
--- ---- canonical bytes are the strict spelling
+-- ---- canonical bytes are the strict encoding
 
 module _ {A : Type 0} (judge : Judge A) (Spells : Level → List ℕ → A → Type 0) (canonical : A → List ℕ) (law : IsLawful judge Spells canonical) where
   pub canonical_of_levels : (bytes : List ℕ) (r : Result Judgement ParserError) → IsBytes bytes → JudgesLevels Spells bytes r (judge bytes) → JudgesTidily (λ bs x. bs ≡ canonical x) (Spells tidy) bytes r (judge bytes)

@@ -1,4 +1,4 @@
--- Things one after another are judged one after another, at every level.
+-- Things one after another are decoded one after another, at every level.
 use Rattle.std.proofs.Common.{◌≡◌, ℕ, ◌+◌, ◌<◌, ◌≤◌, ◌&&◌, Bool, true, false, List, [], ◌∷◌, ◌++◌, length, get_or, take, drop, Result, Ok, Err, refl, sym, ap, ap₂, subst, ◌∙◌, append_assoc, add_assoc, arith}
 use Rattle.std.proofs.lemmas.List.{length-append, take_at, drop_at, drop-drop, take-append-drop, at_drop_more, drop_all}
 use Rattle.std.proofs.Math.Seq.{take-add}
@@ -14,7 +14,7 @@ use Rattle.amqp_canonical.specs.SlotJudgements.{TakesTidily, JudgesLevels, after
 use Rattle.amqp_canonical.proofs.Refusing.{Fails, fails_next}
 use Rattle.amqp_canonical.proofs.Children.{both_told, told_as}
 
--- what is spelled at any level is judged, whatever follows
+-- what is encoded at any level is decoded, whatever follows
 pub record IsRead {A : Type 0} (judge : Judge A) (Spells : Level → List ℕ → A → Type 0) : Type 0 where
   pub read : (level : Level) (bytes rest : List ℕ) (x : A) → Spells level bytes x → judge (bytes ++ rest) ≡ took x (length bytes)
 

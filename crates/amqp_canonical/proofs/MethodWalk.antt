@@ -1,4 +1,4 @@
--- Methods in payloads, judged by the slots of the table.
+-- Methods in payloads, decoded by the fields of the table.
 use Rattle.std.proofs.Common.{◌≡◌, ℕ, ◌+◌, ◌≤◌, true, false, List, ◌++◌, length, take, drop, Option, Some, None, Ok, Err, refl, sym, ap, subst, ◌∙◌}
 use Rattle.std.proofs.lemmas.List.{drop_at, length-take-le}
 use Rattle.std.proofs.Math.Seq.{take-add}
@@ -41,7 +41,7 @@ pub payload_unread : {A : Type 0} (payload : List ℕ) (view : A → ℕ) (e : P
 unfolding judge_payload
 payload_unread payload view e h = fails_next e (judge_number bytes2 payload) _ (fully view e (judge_number bytes2 payload) h)
 
--- behind the class id
+-- after the class id
 payload_of_class : (payload : List ℕ) (class n : ℕ) → judge_number bytes2 payload ≡ took class n → judge_payload payload ≡ (judge_in_class class (drop n payload) >>= λ m. took m.0 (n + m.1))
 unfolding judge_payload
 payload_of_class payload class n is = ap (λ j. j >>= λ c. judge_in_class c.0 (drop c.1 payload) >>= λ m. took m.0 (c.1 + m.1)) is
@@ -67,7 +67,7 @@ payload_no_id payload class n rows view e is some h =
     let id = judge_number bytes2 (drop n payload) in
     subst P (sym (payload_in_class payload class n rows is some)) (fails_next e (id >>= λ x. judge_method class x.0 (drop x.1 (drop n payload)) >>= λ m. took m.0 (x.1 + m.1)) _ (fails_next e id _ (fully view e id h)))
 
--- behind both ids
+-- after both ids
 payload_of_ids : (payload : List ℕ) (class n id m : ℕ) (rows : List Row) → judge_number bytes2 payload ≡ took class n → rows_of class ≡ Some rows → judge_number bytes2 (drop n payload) ≡ took id m
     → judge_payload payload ≡ ((judge_method class id (drop m (drop n payload)) >>= λ x. took x.0 (m + x.1)) >>= λ x. took x.0 (n + x.1))
 payload_of_ids payload class n id m rows is some next =
@@ -80,7 +80,7 @@ payload_no_method payload class n id m rows is some next none =
     payload_of_ids payload class n id m rows is some next
     ∙ ap (λ o. ((known unknown_method o >>= λ slots. judge_slots slots.0 (drop m (drop n payload)) >>= λ items. took (method class id items.0) items.1) >>= λ x. took x.0 (m + x.1)) >>= λ x. took x.0 (n + x.1)) none
 
--- of a method of the table, what its slots give
+-- of a method of the table, what its fields give
 payload_of_slots : (payload : List ℕ) (class n id m : ℕ) (slots : List Slot) → judge_number bytes2 payload ≡ took class n → judge_number bytes2 (drop n payload) ≡ took id m → slots_at class id ≡ Some slots
     → judge_payload payload ≡ (((judge_slots slots (drop m (drop n payload)) >>= λ items. took (method class id items.0) items.1) >>= λ x. took x.0 (m + x.1)) >>= λ x. took x.0 (n + x.1))
 unfolding judge_method
@@ -102,7 +102,7 @@ payload_fails payload class n id m slots e is next some h =
 same_slots : (x y : List Slot) (o : Option (List Slot)) → o ≡ Some x → o ≡ Some y → x ≡ y
 same_slots x y o h k = cc
 
--- the slots behind both ids
+-- the fields after both ids
 behind_ids : (a b s rest : List ℕ) (n m : ℕ) → rest ≡ a ++ (b ++ s) → length a ≡ n → length b ≡ m → drop m (drop n rest) ≡ s
 behind_ids a b s rest n m is first second = ap (λ bs. drop m (drop n bs)) is ∙ ap (drop m) (drop_at a (b ++ s) n first) ∙ drop_at b s m second
 

@@ -1,4 +1,4 @@
--- What one slot holds, judged at every level.
+-- What one field holds, decoded at every level.
 use Rattle.std.proofs.Common.{◌≡◌, ℕ, ◌/◌, ◌^◌, ◌<◌, ◌≤◌, ◌↔◌, nat_eq, Bool, true, false, true≢false, IsTrue, List, [], ◌∷◌, length, get_or, take, map, Result, Ok, Err, refl, sym, ap, subst, ◌∙◌, arith}
 use Rattle.std.proofs.lemmas.Bool.Decides.{nat_tests}
 use Rattle.std.proofs.lemmas.Nat.{pow_pos}
@@ -47,7 +47,7 @@ err_passed IsCanonical IsTidy bytes (Err x) e j is h = let P : ParserError → T
 abbrev Taken : Form → ℕ → Bool → Bool → List ℕ → Type 0
 Taken form n canonical neat bytes = TakesTidily (SpellsForm strict form) (SpellsForm tidy form) (record { used = n; canonical = canonical; tidy = neat }) bytes (judge_form form bytes)
 
--- of what has one spelling
+-- of what has one encoding
 one_spelling : (form : Form) (bytes : List ℕ) (items : List Item) (n : ℕ) → judge_form form bytes ≡ took items n → ((level : Level) → SpellsForm level form (take n bytes) items) → Taken form n true true bytes
 one_spelling form bytes items n is spelled = record { thing = items; is = is; canonical = (λ t. spelled strict, λ h. refl); tidy = (λ t. spelled tidy, λ h. refl) }
 
@@ -148,7 +148,7 @@ table_form_took bytes w fits h =
       tidy = (λ t. record { thing = one.0.thing; spelled = field_table_plain_is_tidy (take w.used bytes) one.0.thing one.0.spelled; made = one.0.made }, λ s. refl);
     }
 
--- ---- reserved slots
+-- ---- reserved fields
 
 reserved_tidy_is_strict : (form : Form) (constant : List Item) (bytes : List ℕ) (items : List Item) → is_least form constant ≡ true → SpellsReserved tidy form constant bytes items → SpellsReserved strict form constant bytes items
 reserved_tidy_is_strict (number_form width) constant bytes items least h = record { dropped = h.dropped; spelled = h.spelled; none = h.none; unused = h.unused }
@@ -203,7 +203,7 @@ pub reserved_number_fails : {A : Type 0} (width : NumberWidth) (bytes : List ℕ
 unfolding judge_dropped judge_form
 reserved_number_fails width bytes view e h = fails_next e (judge_form (number_form width) bytes) _ (fails_next e (judge_number width bytes) _ (fully view e (judge_number width bytes) h))
 
--- the arm of a reserved slot
+-- the arm of a reserved field
 pub reserved_arm : (shape other : Shape) (constant : List Item) (written bytes : List ℕ) (r : Result Judgement ParserError) → shape ≡ other → slot_of other ≡ reserved_slot (form_of other) constant → is_least (form_of other) constant ≡ true
     → written ≡ form_bytes (form_of other) constant
     → ((items : List Item) → is_least (form_of shape) items ≡ true → written ≡ form_bytes (form_of shape) items → JudgesLevels (λ level. SpellsReserved level (form_of shape) items) bytes r (judge_dropped (form_of shape) bytes))

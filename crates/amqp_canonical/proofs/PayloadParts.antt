@@ -57,7 +57,7 @@ known_is : {A : Type 0} (unknown : Fault) (o : Option A) (x : A) (n : ℕ) → k
 known_is unknown None x n h = absurd cc
 known_is unknown (Some y) x n h = ap Some (value_took y x 0 n h)
 
--- the slots of a method, and its bytes
+-- the fields of a method, and its bytes
 pub record PayloadPut (bytes : List ℕ) (class id : ℕ) : Type 0 where
   pub slots : List Slot
   pub known_slots : slots_at class id ≡ Some slots
@@ -382,7 +382,7 @@ dropped_gives width bytes xs n h =
     let gives = number_gives width bytes one.0 one.1 one.2 in
     (sym (value_took [] xs one.1 n one.3), sym (count_took [] xs one.1 n one.3) ∙ gives.2)
 
--- a slot, and those after it
+-- a field, and those after it
 record SlotTaken (slot : Slot) (slots : List Slot) (bytes : List ℕ) (items : List Item) (n : ℕ) : Type 0 where
   xs : List Item
   k : ℕ

@@ -45,7 +45,7 @@ settled_push table entries e h =
     let all = entries ++ e ∷ [] in
     subst (λ t. IsSettled t all) (settled_last [] entries e ∙ ap (λ t. insert_entry cmp t e.0 e.1) (settled_is entries table h)) (settles all)
 
--- a key that is above the first one is put behind it
+-- a key that is above the first one is put after it
 put_behind : (x : Entry) (es : List Entry) (key : List ℕ) (v : FieldValue) → cmp x.0 key ≡ Less → insert_entry cmp (x ∷ es) key v ≡ x ∷ insert_entry cmp es key v
 put_behind x es key v less =
     let greater : cmp key x.0 ≡ Greater = nat_list_cmp_total.antisymm key x.0 ∙ ap ordering_reverse less in
@@ -102,7 +102,7 @@ abbrev Finds : {A : Type 0} (entry_of : A → Entry) (place : A → ℕ) (key : 
 Finds entry_of place key xs None = All (HasOtherKey entry_of key) xs
 Finds entry_of place key xs (Some v) = IsLast entry_of place key xs v
 
--- one more thing in front is found only where nothing behind it has the key
+-- one more thing in front is found only where nothing after it has the key
 finds_next : {A : Type 0} (entry_of : A → Entry) (place : A → ℕ) (key : List ℕ) (x : A) (xs : List A) (found : Option FieldValue) (b : Bool) → is_at (cmp key) (entry_of x).0 ≡ b
     → AllByRecursion (Precedes (λ y. (entry_of y).0) place x) xs → Finds entry_of place key xs found → Finds entry_of place key (x ∷ xs) (later found (cond b (Some (entry_of x).1) None))
 finds_next entry_of place key x xs (Some v) b is before h = record {

@@ -1,4 +1,4 @@
--- Properties, judged by the table, and content headers.
+-- Properties, decoded by the table, and content headers.
 use Rattle.std.proofs.Common.{◌≡◌, ℕ, ◌+◌, ◌^◌, ◌<◌, ◌≤◌, ◌↔◌, ◌&&◌, Bool, true, false, true≢false, IsTrue, List, [], ◌∷◌, ◌++◌, length, get_or, take, drop, map, Option, None, Result, Ok, Err, refl, sym, ap, ap₂, subst, ◌∙◌, arith, append_assoc}
 use Rattle.std.proofs.lemmas.Bool.{ne_eqb}
 use Rattle.std.proofs.lemmas.List.{take-append-drop}
@@ -161,7 +161,7 @@ module _ (bytes : List ℕ) (mask n used : ℕ) (options : List (Option Item)) (
     unused = from h.1;
   }
 
-  -- the mask that is spelled is the one that was read
+  -- the mask that is encoded is the one that was read
   same_mask : (level : Level) (s : SpellsProperties level (take (n + used) bytes) options) → s.mask ≡ mask
   same_mask level s =
       let tail = s.behind ++ drop (n + used) bytes in

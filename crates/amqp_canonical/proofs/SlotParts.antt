@@ -1,4 +1,4 @@
--- What slots were read of, and the bytes in which they are put.
+-- What fields were read of, and the bytes in which they are put.
 use Rattle.std.proofs.Common.{◌≡◌, ◌⊎◌, inl, inr, ◌<◌, ◌≤◌, ◌^◌, ◌*◌, ◌/◌, ◌%◌, ◌-◌, ℕ, zero, suc, ◌+◌, nat_lt, eqb, cond, Bool, true, false, List, [], ◌∷◌, ◌++◌, length, get_or, take, drop, map, refl, sym, ap, ap₂, subst, ◌∙◌, arith}
 use Rattle.std.proofs.lemmas.Bool.{le-ltb}
 use Rattle.std.proofs.lemmas.List.{take_at, drop_at}
@@ -141,7 +141,7 @@ lowest_flags count byte =
     let same : flags_from count 0 low ≡ flags_from count 0 byte = same_flags count 0 low byte (λ i less. sym (bit_at_cat_low (byte / 2 ^ count) count low i (omega (arith, less))) ∙ ap (λ n. bit_at n i) parts) in
     sym (flags_byte_back count low (omega (arith, pow_pos count))) ∙ ap flags_byte same
 
--- ---- what a slot is put as
+-- ---- what a field is put as
 
 -- a form whose bytes are copied
 abbrev is_copied : Form → Bool
@@ -191,7 +191,7 @@ other_form shapes.ReservedFlag a b c = absurd (c refl)
 other_form shapes.ReservedShortString a b c = refl
 other_form shapes.ReservedLongString a b c = refl
 
--- shapes of slots that are kept
+-- shapes of fields that are kept
 pub other_slot : (s : Shape) → ((n : ℕ) → s ≡ shapes.ReservedShort n → ⊥) → ((n : ℕ) → s ≡ shapes.ReservedLong n → ⊥) → (s ≡ shapes.ReservedFlag → ⊥) → (s ≡ shapes.ReservedShortString → ⊥) → (s ≡ shapes.ReservedLongString → ⊥) → slot_of s ≡ kept_slot (form_of s)
 other_slot shapes.Octet c d e f g = refl
 other_slot shapes.Short c d e f g = refl
@@ -207,9 +207,9 @@ other_slot shapes.ReservedFlag c d e f g = absurd (e refl)
 other_slot shapes.ReservedShortString c d e f g = absurd (f refl)
 other_slot shapes.ReservedLongString c d e f g = absurd (g refl)
 
--- ---- the other slots
+-- ---- the other fields
 
--- this is put for the slot, and for what is spelled as it is
+-- this is put for the field, and for what is encoded as it is
 abbrev pub PutAs : Shape → List ℕ → List ℕ → Type 0
 PutAs s bytes put = canonical_of (slot_bytes (slot_of s)) (judge_slot (slot_of s) bytes) ≡ put
 
@@ -240,7 +240,7 @@ reserved_read : (form : Form) (bytes : List ℕ) → IsRead (judge_dropped form 
 unfolding judge_dropped
 reserved_read form bytes h = map_read (λ items. []) (judge_form form bytes) h
 
--- a reserved slot is put as its constant
+-- a reserved field is put as its constant
 reserved_slot_put : (form : Form) (constant : List Item) (bytes : List ℕ) → IsRead (judge_dropped form bytes) → canonical_of (slot_bytes (reserved_slot form constant)) (judge_slot (reserved_slot form constant) bytes) ≡ form_bytes form constant
 reserved_slot_put form constant bytes h = constant_bytes (form_bytes form constant) (judge_dropped form bytes) h
 
@@ -264,7 +264,7 @@ pub reserved_bytes_put : (bytes : List ℕ) → IsRead (judge_dropped long_strin
 unfolding form_bytes
 reserved_bytes_put bytes h = reserved_slot_put long_string_form (bytes_item [] ∷ []) bytes h
 
--- a slot is read as its form is
+-- a field is read as its form is
 pub slot_read : (s : Shape) (bytes : List ℕ) → IsRead (judge_slot (slot_of s) bytes) → IsRead (judge_form (form_of s) bytes) × (used_of (judge_form (form_of s) bytes) ≡ used_of (judge_slot (slot_of s) bytes))
 unfolding judge_dropped
 slot_read shapes.Octet bytes h = (h, refl)
@@ -281,9 +281,9 @@ slot_read shapes.ReservedFlag bytes h = (reserved_read (flags_form 1) bytes h, s
 slot_read shapes.ReservedShortString bytes h = (reserved_read short_string_form bytes h, sym (map_used (λ items. []) (judge_form short_string_form bytes)))
 slot_read shapes.ReservedLongString bytes h = (reserved_read long_string_form bytes h, sym (map_used (λ items. []) (judge_form long_string_form bytes)))
 
--- ---- slots one after another
+-- ---- fields one after another
 
--- the items of the first slot are told from the others by their number
+-- the items of the first field are told from the others by their number
 both_bytes : (slot : Slot) (slots : List Slot) (bytes : List ℕ) (xs ys : List Item) (n : ℕ) → IsBytes bytes → judge_slot slot bytes ≡ took xs n → slots_bytes (slot ∷ slots) (xs ++ ys) ≡ slot_bytes slot xs ++ slots_bytes slots ys
 unfolding slots_bytes judge_dropped
 both_bytes (kept_slot form) slots bytes xs ys n fits is =
@@ -330,7 +330,7 @@ form_read_as s t bytes is h = let P : Shape → Type 0 = λ u. IsRead (judge_for
 pub form_put_as : (s t : Shape) (bytes put : List ℕ) → s ≡ t → FormPutAs t bytes put → FormPutAs s bytes put
 form_put_as s t bytes put is h = let P : Shape → Type 0 = λ u. FormPutAs u bytes put in subst P (sym is) h
 
--- a kept slot is what its form is
+-- a kept field is what its form is
 pub kept_read : (s : Shape) (bytes : List ℕ) → slot_of s ≡ kept_slot (form_of s) → IsRead (judge_slot (slot_of s) bytes) → IsRead (judge_form (form_of s) bytes) × PutAs s bytes (canonical_of (form_bytes (form_of s)) (judge_form (form_of s) bytes))
 kept_read s bytes is h =
     let P : Slot → Type 0 = λ slot. IsRead (judge_slot slot bytes) in

@@ -1,4 +1,4 @@
--- Canonical bytes are the strict spelling.
+-- Canonical bytes are the strict encoding.
 use Rattle.std.proofs.Common.{◌≡◌, ℕ, List, take, sym, subst}
 use Rattle.amqp_types.specs.Levels.{Level, plain, strict}
 use Rattle.amqp_types.specs.Judging.{Judge}

@@ -1,4 +1,4 @@
--- Of what was taken, canonical bytes and the strict spelling are the same.
+-- Of what was taken, canonical bytes and the strict encoding are the same.
 use Rattle.std.specs.Prelude.{◌≡◌, ◌↔◌, ℕ, List, take, true}
 use Rattle.amqp_types.specs.Levels.{Level, strict}
 use Rattle.amqp_types.specs.Judging.{Judge, IsBytes, took}
@@ -14,25 +14,30 @@ use Rattle.amqp_types.specs.ContentHeaders.{judge_content_header, SpellsContentH
 use Rattle.amqp_canonical.specs.Judgements.{IsCanonicalValue, IsCanonicalArray, IsCanonicalTable}
 use Rattle.amqp_canonical.specs.SlotJudgements.{AreCanonicalSlots, IsCanonicalPayload, IsCanonicalContentHeader}
 
--- of what is taken from the front of some bytes
+-- the bytes that a thing is decoded from are canonical exactly where they encode it at level strict
 abbrev pub CanonicalIsStrict : {A : Type 0} → Judge A → (Level → List ℕ → A → Type 0) → (List ℕ → A → Type 0) → Type 0
 CanonicalIsStrict {A} judge Spells IsCanonical = (bytes : List ℕ) (x : A) (n : ℕ) → IsBytes bytes → judge bytes ≡ took x n → IsCanonical (take n bytes) x ↔ Spells strict (take n bytes) x
 
+-- of values, for each number of levels that may nest
 abbrev pub CanonicalValuesAreStrict : Type 0
 CanonicalValuesAreStrict = (room : ℕ) → CanonicalIsStrict (judge_value room) (λ level. SpellsValue level room) IsCanonicalValue
 
+-- of arrays
 abbrev pub CanonicalArraysAreStrict : Type 0
 CanonicalArraysAreStrict = (room : ℕ) → CanonicalIsStrict (judge_array (judge_value room)) (λ level. SpellsArray (SpellsValue level room)) IsCanonicalArray
 
+-- of tables
 abbrev pub CanonicalTablesAreStrict : Type 0
 CanonicalTablesAreStrict = (room : ℕ) → CanonicalIsStrict (judge_table (judge_value room)) (λ level. SpellsTable level (SpellsValue level room)) IsCanonicalTable
 
--- where the constants of reserved slots are the least of their forms
+-- of fields, where the constants of reserved ones are the least of their forms
 abbrev pub CanonicalSlotsAreStrict : Type 0
 CanonicalSlotsAreStrict = (slots : List Slot) → are_least slots ≡ true → CanonicalIsStrict (judge_slots slots) (λ level. SpellsSlots level slots) (AreCanonicalSlots slots)
 
+-- of methods
 abbrev pub CanonicalPayloadsAreStrict : Type 0
 CanonicalPayloadsAreStrict = CanonicalIsStrict judge_payload SpellsPayload IsCanonicalPayload
 
+-- of content headers
 abbrev pub CanonicalContentHeadersAreStrict : Type 0
 CanonicalContentHeadersAreStrict = CanonicalIsStrict judge_content_header SpellsContentHeader IsCanonicalContentHeader

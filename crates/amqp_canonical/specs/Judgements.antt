@@ -1,4 +1,4 @@
--- What judging bytes without memory returns: what is judged, and whether it stands in its canonical bytes.
+-- What decoding without memory returns: how many bytes are used, and whether they are canonical.
 use Rattle.std.specs.Prelude.{◌≡◌, ◌≢◌, ◌↔◌, ◌⊎◌, ◌<◌, ◌≤◌, ℕ, nat_eq, List, ◌++◌, take, Bool, true, IsTrue, Option, option_map, Result, Ok, Err}
 use Rattle.std.specs.declared.cmp.Ordering.TheVariants.{Less}
 use Rattle.std.specs.Ordering.{nat_cmp}
@@ -20,6 +20,7 @@ use Rattle.amqp_canonical.specs.declared.values.Layout.TheVariants as layout
 use Rattle.amqp_canonical.specs.declared.values.TagByte.{TagByte}
 use Rattle.amqp_canonical.specs.declared.values.ValueJudgement.{ValueJudgement}
 
+-- how what stands after a tag is laid out
 abbrev pub layout_at : FieldTag → Layout
 layout_at tag.Boolean = layout.OneBoolean
 layout_at tag.ShortShortInt = layout.Fixed 1
@@ -39,7 +40,7 @@ layout_at tag.FieldTable = layout.Entries
 layout_at tag.ByteArray = layout.Counted
 layout_at tag.Void = layout.Fixed 0
 
--- what a byte that is read as this tag says
+-- what a byte that is decoded as this tag says
 abbrev pub read_as : ℕ → FieldTag → TagByte
 read_as byte t = record { layout = layout_at t; written = nat_eq (tag_byte t) byte }
 
@@ -66,56 +67,65 @@ MayRefuse error = error ≢ errors.NoMemory
 
 -- ---- the bytes are the canonical bytes of a thing
 
+-- the bytes are those that are written for a truth value
 abbrev pub IsCanonicalBoolean : List ℕ → Bool → Type 0
 IsCanonicalBoolean bytes b = bytes ≡ boolean_bytes b
 
+-- for a value, without its tag
 abbrev pub IsCanonicalAfterTag : List ℕ → FieldValue → Type 0
 IsCanonicalAfterTag bytes v = bytes ≡ value_bytes v
 
+-- for a value, with its tag
 abbrev pub IsCanonicalValue : List ℕ → FieldValue → Type 0
 IsCanonicalValue bytes v = bytes ≡ tagged_bytes v
 
+-- for values, one after another
 abbrev pub AreCanonicalValues : List ℕ → List FieldValue → Type 0
 AreCanonicalValues bytes vs = bytes ≡ values_bytes (values_of vs)
 
--- these entries, one after another, of which each key is above the one before it
+-- for entries, one after another, in ascending key order
 abbrev pub AreCanonicalEntries : List ℕ → List Entry → Type 0
 AreCanonicalEntries bytes es = (bytes ≡ entries_bytes (entries_of es)) × IsRising es
 
+-- for an array, with its length
 abbrev pub IsCanonicalArray : List ℕ → List FieldValue → Type 0
 IsCanonicalArray bytes vs = bytes ≡ with_length (values_bytes (values_of vs))
 
+-- for a table, with its length
 abbrev pub IsCanonicalTable : List ℕ → List Entry → Type 0
 IsCanonicalTable bytes es = bytes ≡ with_length (entries_bytes (entries_of es))
 
 -- ---- what is returned
 
--- Something is taken, in so many bytes, and it is told exactly whether they are its canonical bytes.
+-- A thing is decoded, and the judgement says how many bytes it uses and exactly whether they are canonical.
 pub record Takes {A : Type 0} (IsCanonical : List ℕ → A → Type 0) (judgement : ValueJudgement) (bytes : List ℕ) (judged : Judged A) : Type 0 where
   pub thing : A
   pub is : judged ≡ took thing judgement.used
   pub told : IsTrue judgement.canonical ↔ IsCanonical (take judgement.used bytes) thing
 
+-- a thing decoded at the front, or its fault
 abbrev pub Judges : {A : Type 0} → (List ℕ → A → Type 0) → List ℕ → Result ValueJudgement ParserError → Judged A → Type 0
 Judges IsCanonical bytes (Ok judgement) judged = Takes IsCanonical judgement bytes judged
 Judges IsCanonical bytes (Err error) judged = MayRefuse error × Refuses error judged
 
--- the same of an entry with this key
+-- an entry with this key is decoded, and the judgement says the same of it
 pub record TakesEntry (judgement : ValueJudgement) (key bytes : List ℕ) (judged : Judged Entry) : Type 0 where
   pub value : FieldValue
   pub is : judged ≡ took (key, value) judgement.used
   pub told : IsTrue judgement.canonical ↔ (take judgement.used bytes ≡ short_string_bytes key ++ tagged_bytes value)
 
+-- an entry decoded at the front, or its fault
 abbrev pub JudgesEntry : {K : Type 0} → (K → List ℕ) → List ℕ → Result (ValueJudgement × K) ParserError → Judged Entry → Type 0
 JudgesEntry view bytes (Ok found) judged = TakesEntry found.0 (view found.1) bytes judged
 JudgesEntry view bytes (Err error) judged = MayRefuse error × Refuses error judged
 
--- the same of what fills some bytes
+-- a thing fills the bytes, and it is said exactly whether they are canonical
 pub record Fills {A : Type 0} (IsCanonical : List ℕ → A → Type 0) (canonical : Bool) (bytes : List ℕ) (read : Result A Fault) : Type 0 where
   pub thing : A
   pub is : read ≡ Ok thing
   pub told : IsTrue canonical ↔ IsCanonical bytes thing
 
+-- all of the bytes decoded, or their fault
 abbrev pub JudgesWhole : {A : Type 0} → (List ℕ → A → Type 0) → List ℕ → Result Bool ParserError → Result A Fault → Type 0
 JudgesWhole IsCanonical bytes (Ok canonical) read = Fills IsCanonical canonical bytes read
 JudgesWhole IsCanonical bytes (Err error) read = MayRefuse error × RefusesWhole error read

@@ -1,4 +1,4 @@
--- The entries of a table in the order of their keys.
+-- The entries of a table in ascending key order.
 use Rattle.std.specs.Prelude.{◌≡◌, ◌≢◌, ◌<◌, ◌⊎◌, ℕ, suc, List, [], ◌∷◌, length, map, drop, slice_index_or, Bool, false, if◌then◌else◌, All, Option, Some, None}
 use Rattle.std.specs.declared.cmp.Ordering.TheVariants.{Greater}
 use Rattle.std.specs.Ordering.{nat_cmp}
@@ -18,11 +18,13 @@ use Rattle.amqp_canonical.specs.declared.marks.Mark.{Mark}
 abbrev pub entry_at : ℕ → List ℕ → ℕ → Judged Entry
 entry_at room content place = judge_entry (judge_value room) (drop place content)
 
+-- the entry that was decoded
 abbrev pub entry_of : Judged Entry → Entry
 entry_of (took e n) = e
 entry_of past = ([], void_value)
 entry_of (fault bad) = ([], void_value)
 
+-- the entry at a mark's place
 abbrev pub marked_entry : ℕ → List ℕ → Mark → Entry
 marked_entry room content mark = entry_of (entry_at room content mark.place)
 
@@ -43,7 +45,7 @@ pub record IsMarked (content : List ℕ) (mark : Mark) : Type 0 where
   pub next : mark.more ≡ leading 2 (drop 8 (key_at content mark))
   pub copied : mark.size ≢ 0 → (room : ℕ) → IsRead (entry_at room content mark.place) → IsCopied entry_bytes (drop mark.place content) mark.size (entry_at room content mark.place)
 
--- an entry was read at each mark's place
+-- an entry was decoded at each mark's place
 abbrev pub AreRead : ℕ → List ℕ → List Mark → Type 0
 AreRead room content marks = All (λ mark. IsRead (entry_at room content mark.place)) marks
 
@@ -84,7 +86,7 @@ pub record AreOfTable (room : ℕ) (content : List ℕ) (marks : List Mark) : Ty
 
 -- ---- the next key
 
--- the key comes after the last one, where there is a last one
+-- the key comes after `last`, where there is one
 abbrev pub IsAfter : Option (List ℕ) → List ℕ → Type 0
 IsAfter None key = Unit {0}
 IsAfter (Some last) key = IsBelow last key
@@ -94,13 +96,13 @@ abbrev pub ComesFirst : {K : Type 0} → (K → List ℕ) → List ℕ → Optio
 ComesFirst view key None = Unit {0}
 ComesFirst view key (Some found) = slice_cmp nat_cmp key (view found.1) ≢ Greater
 
--- The key is the least one after the last, and the value that of the last entry with this key.
+-- The key is the least one after `last`, and the value that of the last entry with this key.
 pub record IsNext (last : Option (List ℕ)) (es : List Entry) (key : List ℕ) (v : FieldValue) : Type 0 where
   pub after : IsAfter last key
   pub value : last_at key es ≡ Some v
   pub least : (other : List ℕ) (w : FieldValue) → IsAfter last other → last_at other es ≡ Some w → IsBelow other key → ⊥
 
--- no key comes after the last one
+-- no key comes after `last`
 abbrev pub HasNoNext : Option (List ℕ) → List Entry → Type 0
 HasNoNext last es = (other : List ℕ) (w : FieldValue) → IsAfter last other → last_at other es ≡ Some w → ⊥
 
@@ -110,6 +112,7 @@ pub record IsNextAt (room : ℕ) (content : List ℕ) (last : Option (List ℕ))
   pub key_is : (entry_of (entry_at room content place)).0 ≡ key
   pub next : IsNext last es key (entry_of (entry_at room content place)).1
 
+-- the next entry is found, or there is none
 abbrev pub FindsNext : {K : Type 0} → (K → List ℕ) → ℕ → List ℕ → Option (List ℕ) → List Entry → Option (ℕ × K) → Type 0
 FindsNext view room content last es None = HasNoNext last es
 FindsNext view room content last es (Some found) = IsNextAt room content last es found.0 (view found.1)

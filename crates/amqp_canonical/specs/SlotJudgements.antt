@@ -1,4 +1,4 @@
--- What judging slots, methods and content headers without memory returns.
+-- What decoding fields, methods and content headers without memory returns.
 use Rattle.std.specs.Prelude.{◌≡◌, ◌↔◌, ◌+◌, ◌&&◌, ℕ, Bool, true, List, take, IsTrue, Result, Ok, Err}
 use Rattle.amqp_types.specs.Levels.{Level, tidy, strict}
 use Rattle.amqp_types.specs.Judging.{Judged, took}
@@ -20,61 +20,69 @@ use Rattle.amqp_canonical.specs.Judgements.{MayRefuse}
 
 -- ---- the bytes are the canonical bytes of a thing
 
+-- the bytes are those that are written for fields
 abbrev pub AreCanonicalSlots : List Slot → List ℕ → List Item → Type 0
 AreCanonicalSlots slots bytes items = bytes ≡ slots_bytes slots items
 
+-- for a method, with both ids
 abbrev pub IsCanonicalPayload : List ℕ → Method → Type 0
 IsCanonicalPayload bytes m = bytes ≡ payload_bytes m
 
+-- for a content header
 abbrev pub IsCanonicalContentHeader : List ℕ → ContentHeader → Type 0
 IsCanonicalContentHeader bytes header = bytes ≡ content_header_bytes header
 
 -- ---- what is returned
 
--- Something is taken, in so many bytes, and it is told exactly whether they are its canonical bytes, and whether they spell it at level tidy.
+-- A thing is decoded, and the judgement says how many bytes it uses and exactly whether they are canonical, and whether they encode it at level tidy.
 pub record TakesTidily {A : Type 0} (IsCanonical IsTidy : List ℕ → A → Type 0) (judgement : Judgement) (bytes : List ℕ) (judged : Judged A) : Type 0 where
   pub thing : A
   pub is : judged ≡ took thing judgement.used
   pub canonical : IsTrue judgement.canonical ↔ IsCanonical (take judgement.used bytes) thing
   pub tidy : IsTrue judgement.tidy ↔ IsTidy (take judgement.used bytes) thing
 
+-- a thing decoded at the front, or its fault
 abbrev pub JudgesTidily : {A : Type 0} → (List ℕ → A → Type 0) → (List ℕ → A → Type 0) → List ℕ → Result Judgement ParserError → Judged A → Type 0
 JudgesTidily IsCanonical IsTidy bytes (Ok judgement) judged = TakesTidily IsCanonical IsTidy judgement bytes judged
 JudgesTidily IsCanonical IsTidy bytes (Err error) judged = MayRefuse error × Refuses error judged
 
--- the same, where to be canonical is to be spelled at level strict
+-- the same, where canonical bytes are those at level strict
 abbrev pub JudgesLevels : {A : Type 0} → (Level → List ℕ → A → Type 0) → List ℕ → Result Judgement ParserError → Judged A → Type 0
 JudgesLevels Spells bytes result judged = JudgesTidily (Spells strict) (Spells tidy) bytes result judged
 
--- what a form holds
+-- what a form holds, decoded
 abbrev pub JudgesForm : Form → List ℕ → Result Judgement ParserError → Type 0
 JudgesForm form bytes result = JudgesLevels (λ level. SpellsForm level form) bytes result (judge_form form bytes)
 
--- a reserved slot
+-- a reserved field, decoded
 abbrev pub JudgesReserved : Form → List Item → List ℕ → Result Judgement ParserError → Type 0
 JudgesReserved form constant bytes result = JudgesLevels (λ level. SpellsReserved level form constant) bytes result (judge_dropped form bytes)
 
--- a reserved slot whose constant is written in these bytes
+-- a reserved field whose constant is written in these bytes
 abbrev pub JudgesConstant : Form → List ℕ → List ℕ → Result Judgement ParserError → Type 0
 JudgesConstant form written bytes result = (constant : List Item) → is_least form constant ≡ true → written ≡ form_bytes form constant → JudgesReserved form constant bytes result
 
+-- a field, decoded
 abbrev pub JudgesSlot : Slot → List ℕ → Result Judgement ParserError → Type 0
 JudgesSlot slot bytes result = JudgesLevels (λ level. SpellsSlot level slot) bytes result (judge_slot slot bytes)
 
--- a property, where it is present
+-- a property, decoded where it is present
 abbrev pub JudgesOptional : Bool → Form → List ℕ → Result Judgement ParserError → Type 0
 JudgesOptional present form bytes result = JudgesLevels (λ level. SpellsOptional level present form) bytes result (judge_optional present form bytes)
 
--- the properties whose bits are set in the mask
+-- the properties whose bits are set in the mask, decoded
 abbrev pub JudgesSet : ℕ → List ℕ → Result Judgement ParserError → Type 0
 JudgesSet mask bytes result = JudgesLevels (λ level. SpellsSet level mask properties) bytes result (judge_set mask properties bytes)
 
+-- fields one after another, decoded
 abbrev pub JudgesSlots : List Slot → List ℕ → Result Judgement ParserError → Type 0
 JudgesSlots slots bytes result = JudgesTidily (AreCanonicalSlots slots) (SpellsSlots tidy slots) bytes result (judge_slots slots bytes)
 
+-- both ids and the fields of a method, decoded
 abbrev pub JudgesPayload : List ℕ → Result Judgement ParserError → Type 0
 JudgesPayload bytes result = JudgesTidily IsCanonicalPayload (SpellsPayload tidy) bytes result (judge_payload bytes)
 
+-- a content header, decoded
 abbrev pub JudgesContentHeader : List ℕ → Result Judgement ParserError → Type 0
 JudgesContentHeader bytes result = JudgesTidily IsCanonicalContentHeader (SpellsContentHeader tidy) bytes result (judge_content_header bytes)
 

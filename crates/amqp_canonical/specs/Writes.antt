@@ -1,4 +1,4 @@
--- What is written in place of bytes that were read.
+-- What is written in place of bytes that were decoded.
 use Rattle.std.specs.Prelude.{◌≡◌, ◌≤◌, ℕ, List, [], ◌∷◌, ◌++◌, length, take, drop, Result, Ok, Err}
 use Rattle.amqp_types.specs.Judging.{Judged, Fault, took, past, fault}
 use Rattle.amqp_types.specs.Strings.{short_string_bytes}
@@ -40,28 +40,31 @@ abbrev pub items_of : {A : Type 0} → Result (List A) Fault → List A
 items_of (Ok xs) = xs
 items_of (Err bad) = []
 
--- the canonical bytes of a key and its value, of the values of an array, and of the entries of a table
+-- the canonical bytes of a key and its value
 abbrev pub entry_bytes : Entry → List ℕ
 entry_bytes e = short_string_bytes e.0 ++ tagged_bytes e.1
 
+-- of the values of an array
 abbrev pub array_content : List FieldValue → List ℕ
 array_content vs = values_bytes (values_of vs)
 
+-- of the entries of a table
 abbrev pub table_content : List Entry → List ℕ
 table_content es = entries_bytes (entries_of es)
 
--- the canonical bytes of a slot that gives these items
+-- the canonical bytes of a field that gives these items
 abbrev pub slot_bytes : Slot → List Item → List ℕ
 slot_bytes (kept_slot form) items = form_bytes form items
 slot_bytes (reserved_slot form constant) items = form_bytes form constant
 
 -- ---- what stands at the front of an entry
 
--- the text of a short string
+-- the text of the short string at the front
 abbrev pub key_in : List ℕ → List ℕ
 key_in [] = []
 key_in (n ∷ bytes) = take n bytes
 
+-- what stands after it
 abbrev pub after_key : List ℕ → List ℕ
 after_key [] = []
 after_key (n ∷ bytes) = drop n bytes

@@ -1,4 +1,4 @@
--- What is written is no longer than what was read.
+-- Canonical bytes are no more than the bytes that were decoded.
 use Rattle.std.specs.Prelude.{◌≡◌, ◌≤◌, ℕ, List, length, true}
 use Rattle.amqp_types.specs.Judging.{Judge, IsBytes}
 use Rattle.amqp_types.specs.ValueBytes.{array_bytes, table_bytes, tagged_bytes}
@@ -15,21 +15,26 @@ use Rattle.amqp_canonical.specs.Writes.{IsRead, canonical_of, used_of}
 abbrev pub IsNoLonger : {A : Type 0} → Judge A → (A → List ℕ) → Type 0
 IsNoLonger judge canonical = (bytes : List ℕ) → IsBytes bytes → IsRead (judge bytes) → length (canonical_of canonical (judge bytes)) ≤ used_of (judge bytes)
 
+-- of values, for each number of levels that may nest
 abbrev pub ValuesAreNoLonger : Type 0
 ValuesAreNoLonger = (room : ℕ) → IsNoLonger (judge_value room) tagged_bytes
 
+-- of arrays
 abbrev pub ArraysAreNoLonger : Type 0
 ArraysAreNoLonger = (room : ℕ) → IsNoLonger (judge_array (judge_value room)) array_bytes
 
+-- of tables
 abbrev pub TablesAreNoLonger : Type 0
 TablesAreNoLonger = (room : ℕ) → IsNoLonger (judge_table (judge_value room)) table_bytes
 
--- where the constants of reserved slots are the least of their forms
+-- of fields, where the constants of reserved ones are the least of their forms
 abbrev pub SlotsAreNoLonger : Type 0
 SlotsAreNoLonger = (slots : List Slot) → are_least slots ≡ true → IsNoLonger (judge_slots slots) (slots_bytes slots)
 
+-- of methods
 abbrev pub PayloadsAreNoLonger : Type 0
 PayloadsAreNoLonger = IsNoLonger judge_payload payload_bytes
 
+-- of content headers
 abbrev pub ContentHeadersAreNoLonger : Type 0
 ContentHeadersAreNoLonger = IsNoLonger judge_content_header content_header_bytes

@@ -1,4 +1,4 @@
-//! Judging properties and content headers.
+//! Decoding properties and content headers.
 
 ghost use Rattle.std.specs.Prelude.{◌≡◌, ◌≤◌, ◌↔◌, false, length, IfOk, IsTrue};
 ghost use Rattle.amqp_types.specs.Flags.{flag_at};
@@ -18,14 +18,14 @@ pub fn has_bit(mask: u16, bit: u16) -> bool
     bit < 16 && (mask >> bit) & 1 == 1
 }
 
-/// Whether a mask has neither of the two bits that no property has.
+/// Whether a mask has neither of the two bits that are no property's.
 fn has_no_unused_bit(mask: u16) -> bool
     ensures { IsTrue result ↔ ((flag_at mask 1 ≡ false) × (flag_at mask 0 ≡ false)) }
 {
     mask & 3 == 0
 }
 
-/// Judges a property, where it is present.
+/// Decodes a property, where it is present.
 fn judge_property(present: bool, shape: Shape, i: &[u8]) -> Result<Judgement, ParserError>
     ensures judged { JudgesOptional present (form_of shape) i.now result }
     ensures used { IfOk result (λ j. j.used ≤ length i.now) }
@@ -41,7 +41,7 @@ fn judge_property(present: bool, shape: Shape, i: &[u8]) -> Result<Judgement, Pa
     }
 }
 
-/// Judges the properties whose bits are set in the mask, one after another.
+/// Decodes the properties whose bits are set in the mask, one after another.
 fn judge_set(mask: u16, i: &[u8]) -> Result<Judgement, ParserError>
     ensures judged { JudgesSet mask i.now result }
     ensures used { IfOk result (λ j. j.used ≤ length i.now) }
@@ -67,7 +67,7 @@ fn judge_set(mask: u16, i: &[u8]) -> Result<Judgement, ParserError>
     })
 }
 
-/// Judges a mask, and the properties whose bits are set in it.
+/// Decodes a mask, and the properties whose bits are set in it.
 fn judge_properties(i: &[u8]) -> Result<Judgement, ParserError>
     ensures judged { JudgesLevels SpellsProperties i.now result (judge_properties i.now) }
     ensures used { IfOk result (λ j. j.used ≤ length i.now) }
@@ -82,7 +82,7 @@ fn judge_properties(i: &[u8]) -> Result<Judgement, ParserError>
     })
 }
 
-/// Judges a content header: a class id, the weight, the size of the body in bytes, and the properties (AMQP 0-9-1,
+/// Decodes a content header: a class id, the weight, the size of the body in bytes, and the properties (AMQP 0-9-1,
 /// section 4.2.6.1).
 pub fn judge_content_header(payload: &[u8]) -> Result<Judgement, ParserError>
     ensures judged { JudgesContentHeader payload.now result }

@@ -3,7 +3,7 @@
 ghost use Rattle.std.specs.Prelude.{◌≡◌, ◌<◌, length, drop};
 ghost use Rattle.amqp_canonical.specs.Leads.{leading};
 
-/// The same of a key of fewer bytes.
+/// The bytes of a key of fewer than eight bytes as a number, with zeros after them.
 #[inline(never)]
 fn fewer_than_eight(key: &[u8]) -> u64
     requires { length key.now < 8 }

@@ -1,5 +1,5 @@
-//! Payloads, tables and values of AMQP 0-9-1 judged and written where they stand, without taking memory: how many
-//! bytes they use, which fault they have, whether they stand in their canonical bytes, and these bytes.
+//! AMQP 0-9-1 payloads, tables and values decoded and written where they stand, without memory: how many bytes they use,
+//! which fault they have, whether their bytes are canonical and tidy, and their canonical bytes.
 #![tactic(auto)]
 
 mod headers;

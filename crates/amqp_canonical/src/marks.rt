@@ -1,4 +1,4 @@
-//! Marks of the entries of a table, by which they are put in order.
+//! Marks of the entries of a table, by which they are put in ascending key order.
 
 ghost use Rattle.std.specs.Prelude.{◌≡◌, ◌≢◌, ◌≤◌, ◌<◌, ◌+◌, ◌↔◌, ℕ, length, map, take, drop, slice_index_or, All, IfSome, IsTrue};
 ghost use Rattle.std.specs.List.Sorted.{IsPermutation};
@@ -9,8 +9,8 @@ use crate::leads::{first_eight, next_two};
 use crate::spans::{Span, bytes_from, entry_span, split_key};
 use std::cmp::Ordering;
 
-/// What an entry of a table is sorted by, and where it stands. For n bytes the calls that write want n / 2 of them,
-/// and write a table of no order in quadratic time where they are given fewer. In C a mark has 16 bytes and is aligned
+/// What an entry of a table is sorted by, and where it stands. Calls that write n bytes need at most n / 2 of them, and
+/// write a table that is not in ascending key order in quadratic time where they are given fewer. In C a mark has 16 bytes and is aligned
 /// to 8, and zeros are one, so a caller there can lend a slice of them.
 #[repr(C)]
 #[derive(Clone, Copy, Debug, Default)]
@@ -91,7 +91,7 @@ fn order_keys(content: &[u8], a: Mark, b: Mark) -> Ordering {
     }
 }
 
-/// The same, by the first bytes of their keys where these differ.
+/// How two marks stand, by the first bytes of their keys where these differ.
 #[inline(always)]
 fn order(content: &[u8], a: &Mark, b: &Mark) -> Ordering {
     if a.lead != b.lead {
@@ -103,14 +103,14 @@ fn order(content: &[u8], a: &Mark, b: &Mark) -> Ordering {
     order_keys(content, *a, *b)
 }
 
-/// Sorts marks. Nothing rests on which order that is, since it is looked at again.
+/// Sorts marks. Split for the proof: nothing rests on which order that is, since it is tested after.
 fn sort(marks: &mut [Mark], content: &[u8])
     ensures { IsPermutation marks.old marks.new }
 {
     marks.sort_unstable_by(|a, b| order(content, a, b));
 }
 
-/// Whether a key comes after the previous one, or is the same at a later place, by both keys.
+/// Whether an entry comes after the previous one, by their keys, and where those are equal, by their places.
 #[inline(never)]
 fn key_follows(content: &[u8], previous: Mark, mark: Mark) -> bool
     ensures { IsTrue result → Follows content.now previous mark }
@@ -124,7 +124,7 @@ fn key_follows(content: &[u8], previous: Mark, mark: Mark) -> bool
     }
 }
 
-/// The same, by the first bytes of the keys where these differ.
+/// Whether an entry comes after the previous one, by the first bytes of their keys where these differ.
 #[inline(always)]
 fn follows(content: &[u8], previous: &Mark, mark: &Mark) -> bool
     requires { IsMarked content.now previous.now × IsMarked content.now mark.now }
@@ -164,8 +164,8 @@ fn put_in_order(marks: &mut [Mark], content: &[u8]) -> bool
     are_in_order(marks, content)
 }
 
-/// Marks the entries that fill a table in the order of their keys, and returns how many there are. None where there are
-/// more than marks.
+/// Marks the entries that fill a table in ascending key order, and returns how many there are. None where there are more
+/// than marks.
 pub(crate) fn mark_in_order(marks: &mut [Mark], content: &[u8]) -> Option<usize>
     ensures within { IfSome result (λ count. count ≤ length marks.new) }
     ensures each { IfSome result (λ count. All (IsMarked content.now) (take count marks.new)) }

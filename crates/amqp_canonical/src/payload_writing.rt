@@ -1,4 +1,4 @@
-//! Writing the canonical bytes of methods and content headers that were read, without taking memory.
+//! Writing the canonical bytes of methods and content headers that were decoded, without memory.
 
 ghost use Rattle.std.specs.Prelude.{◌≡◌, ◌≤◌, ◌+◌, ◌%◌, ◌-◌, length};
 ghost use Rattle.amqp_types.specs.Judging.{took};
@@ -28,7 +28,7 @@ fn short_at(i: &[u8]) -> u16
     }
 }
 
-/// Puts the canonical bytes of a class id, a method id and the slots of that method at a place of a slice, and returns the
+/// Puts the canonical bytes of a class id, a method id and the fields of that method at a place of a slice, and returns the
 /// place after them (AMQP 0-9-1, section 4.2.4).
 pub fn put_payload(buf: &mut [u8], at: usize, scratch: &mut [Mark], i: &[u8]) -> usize
     requires read { IsRead (judge_payload i.now) }

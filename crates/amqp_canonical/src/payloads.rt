@@ -1,4 +1,4 @@
-//! Judging methods in payloads.
+//! Decoding methods in payloads.
 
 ghost use Rattle.std.specs.Prelude.{◌≡◌, ◌≤◌, length, IfOk, is_some};
 ghost use Rattle.amqp_types.specs.Rows.{rows_of};
@@ -19,7 +19,7 @@ fn is_class(class: Identifier) -> bool
     }
 }
 
-/// Judges a class id, a method id and the slots of that method (AMQP 0-9-1, section 4.2.4).
+/// Decodes a class id, a method id and the fields of that method (AMQP 0-9-1, section 4.2.4).
 #[inline(always)]
 pub fn judge_payload(payload: &[u8]) -> Result<Judgement, ParserError>
     ensures judged { JudgesPayload payload.now result }

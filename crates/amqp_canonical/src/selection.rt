@@ -1,4 +1,4 @@
-//! The entries of a table one after another in the order of their keys, found without memory.
+//! The entries of a table one after another in ascending key order, found without memory.
 
 ghost use Rattle.std.specs.Prelude.{◌≡◌, ◌↔◌, ℕ, option_map, IsTrue};
 ghost use Rattle.amqp_canonical.specs.Marks.{AreEntries, ComesFirst, FindsNext, IsAfter, entries_in};
@@ -6,7 +6,7 @@ ghost use Rattle.amqp_canonical.specs.Marks.{AreEntries, ComesFirst, FindsNext, 
 use crate::spans::{entry_size, split_key};
 use std::cmp::Ordering;
 
-/// Whether a key comes after the last one, where there is a last one.
+/// Whether a key comes after `last`, where there is one.
 fn is_after(key: &[u8], last: Option<&[u8]>) -> bool
     ensures { IsTrue result ↔ IsAfter (option_map (λ k. k.now) last.entry) key.now }
 {
@@ -26,7 +26,7 @@ fn comes_first(key: &[u8], found: Option<(usize, &[u8])>) -> bool
     }
 }
 
-/// The place and the key of the entry with the least key after the last one. Of equal keys the last one counts.
+/// The place and the key of the entry with the least key after `last`. Of duplicate keys the last one wins.
 pub fn next_entry<'a>(content: &'a [u8], last: Option<&[u8]>) -> Option<(usize, &'a [u8])>
     ensures { (room : ℕ) → AreEntries room content.now
         → FindsNext (λ k. k.now) room content.now (option_map (λ k. k.now) last.entry) (entries_in room content.now) result }

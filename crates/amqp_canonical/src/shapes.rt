@@ -1,4 +1,4 @@
-//! The slots of each method, and the 14 properties of a message, as data.
+//! The fields of each method, and the 14 properties of a message, as data.
 #![tactic(auto, unfolding(amqp_types::specs::Rows::slots_at, amqp_types::specs::Rows::rows_of))]
 
 ghost use Rattle.std.specs.Prelude.{◌≡◌, map, option_copied, option_map};
@@ -13,7 +13,7 @@ use Shape::{
 };
 use amqp_types::Identifier;
 
-/// How a slot is spelled. A reserved slot is written as its constant.
+/// How a field is encoded. A reserved field is written as its constant.
 #[derive(Clone, Copy, Debug, PartialEq, Eq)]
 pub enum Shape {
     /// A number of 1 byte.
@@ -104,7 +104,7 @@ const BINDING: [Shape; 6] = [
     Table,
 ];
 
-/// The shapes of the slots of a method (AMQP 0-9-1, section 4.2.4), or `None` where the class has no such method.
+/// The shapes of the fields of a method (AMQP 0-9-1, section 4.2.4), or `None` where the class has no such method.
 #[inline(always)]
 pub fn shapes_of(class: Identifier, id: Identifier) -> Option<&'static [Shape]>
     ensures { option_map slots_of (option_copied result) ≡ slots_at class id }

@@ -1,4 +1,4 @@
-//! Writing the canonical bytes of slots that were read, without taking memory.
+//! Writing the canonical bytes of fields that were decoded, without memory.
 
 ghost use Rattle.std.specs.Prelude.{◌≡◌, ◌≤◌, ◌+◌, ◌∷◌, [], length};
 ghost use Rattle.amqp_types.specs.Flags.{flags_byte, flags_from};
@@ -14,10 +14,10 @@ use crate::spans::{bytes_from, long_size, split_key};
 use crate::writing::put_table;
 use amqp_types::{put_bytes, put_long_uint, put_short_uint};
 
-/// How deep tables and arrays may nest in the values of a table that is a slot.
+/// How deep tables and arrays may nest in the values of a table that is a field.
 const ROOM: usize = 63;
 
-/// How many bytes a slot of this shape takes at the front, where one was read there.
+/// How many bytes a field of this shape takes at the front, where one was decoded there.
 pub fn slot_size(shape: Shape, i: &[u8]) -> usize
     ensures used { IsRead (judge_form (form_of shape) i.now) → result ≡ used_of (judge_form (form_of shape) i.now) }
     ensures bound { result ≤ length i.now + 8 }
@@ -41,7 +41,7 @@ fn lowest_bits(count: u8, byte: u8) -> u8
     if count < 8 { byte % (1 << count) } else { byte }
 }
 
-/// Puts the canonical bytes of what is spelled as a slot of this shape, reserved or not.
+/// Puts the canonical bytes of what is encoded as a field of this shape, reserved or not.
 pub(crate) fn put_form(
     buf: &mut [u8],
     at: usize,
@@ -61,7 +61,7 @@ pub(crate) fn put_form(
     }
 }
 
-/// Puts the canonical bytes of a slot at a place of a slice, and returns the place after them.
+/// Puts the canonical bytes of a field at a place of a slice, and returns the place after them.
 fn put_slot(buf: &mut [u8], at: usize, scratch: &mut [Mark], shape: Shape, i: &[u8]) -> usize
     requires read { IsRead (judge_slot (slot_of shape) i.now) }
     requires room { at + length (canonical_of (slot_bytes (slot_of shape)) (judge_slot (slot_of shape) i.now)) ≤ length buf.old }
@@ -77,7 +77,7 @@ fn put_slot(buf: &mut [u8], at: usize, scratch: &mut [Mark], shape: Shape, i: &[
     }
 }
 
-/// Puts the canonical bytes of slots of these shapes at a place of a slice, and returns the place after them.
+/// Puts the canonical bytes of fields of these shapes at a place of a slice, and returns the place after them.
 pub fn put_slots(
     buf: &mut [u8],
     at: usize,

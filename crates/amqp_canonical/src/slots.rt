@@ -1,4 +1,4 @@
-//! Judging slots by their shapes.
+//! Decoding fields by their shapes.
 
 ghost use Rattle.std.specs.Prelude.{◌≡◌, ◌≤◌, ◌<◌, ◌^◌, ◌↔◌, [], ◌∷◌, true, length, IfOk, IsTrue};
 ghost use Rattle.amqp_types.specs.Numbers.{NumberWidth, bytes2, bytes4, byte_count};
@@ -12,7 +12,7 @@ use crate::texts::short_text;
 use crate::values::judge_table;
 use amqp_types::{ParserError, parse_long_bytes, parse_long_uint, parse_short_uint};
 
-/// Slots, a method or a content header that stand at the front of a slice.
+/// What was decoded at the front of a slice: fields, a method or a content header.
 #[derive(Clone, Copy, Debug, PartialEq, Eq)]
 pub struct Judgement {
     /// How many bytes it uses.
@@ -21,11 +21,11 @@ pub struct Judgement {
     /// Whether these bytes are its canonical bytes.
     pub canonical: bool,
 
-    /// Whether these bytes are tidy: reserved slots hold their constants, and no unused bit is set.
+    /// Whether these bytes are tidy: reserved fields hold their constants, and no unused bit is set.
     pub tidy: bool,
 }
 
-/// Judges a number of so many bytes.
+/// Decodes a number of so many bytes.
 #[inline(always)]
 fn judge_number(count: usize, i: &[u8]) -> Result<Judgement, ParserError>
     ensures judged { (width : NumberWidth) → byte_count width ≡ count → JudgesForm (number_form width) i.now result }
@@ -41,7 +41,7 @@ fn judge_number(count: usize, i: &[u8]) -> Result<Judgement, ParserError>
     })
 }
 
-/// Whether a byte has no bit above the first `count` ones.
+/// Whether a byte has no bit above its lowest `count` ones.
 #[inline(always)]
 fn fits_flags(count: u8, byte: u8) -> bool
     ensures { IsTrue result ↔ (byte < 2 ^ count) }
@@ -49,7 +49,7 @@ fn fits_flags(count: u8, byte: u8) -> bool
     count >= 8 || byte >> count == 0
 }
 
-/// Judges a byte of so many flags.
+/// Decodes a byte of so many flags.
 #[inline(always)]
 fn judge_flags(count: u8, i: &[u8]) -> Result<Judgement, ParserError>
     ensures judged { JudgesForm (flags_form count) i.now result }
@@ -68,7 +68,7 @@ fn judge_flags(count: u8, i: &[u8]) -> Result<Judgement, ParserError>
     }
 }
 
-/// Judges a short string.
+/// Decodes a short string.
 #[inline(always)]
 fn judge_short_string(i: &[u8]) -> Result<Judgement, ParserError>
     ensures judged { JudgesForm short_string_form i.now result }
@@ -82,7 +82,7 @@ fn judge_short_string(i: &[u8]) -> Result<Judgement, ParserError>
     })
 }
 
-/// Judges a long string.
+/// Decodes a long string.
 #[inline(always)]
 fn judge_long_string(i: &[u8]) -> Result<Judgement, ParserError>
     ensures judged { JudgesForm long_string_form i.now result }
@@ -96,7 +96,7 @@ fn judge_long_string(i: &[u8]) -> Result<Judgement, ParserError>
     })
 }
 
-/// Judges a table, at most 64 levels deep.
+/// Decodes a table, at most 64 levels deep.
 fn judge_field_table(i: &[u8]) -> Result<Judgement, ParserError>
     ensures judged { JudgesForm table_form i.now result }
     ensures used { IfOk result (λ j. j.used ≤ length i.now) }
@@ -109,7 +109,7 @@ fn judge_field_table(i: &[u8]) -> Result<Judgement, ParserError>
     })
 }
 
-/// Judges what a slot of this shape holds, whether it is reserved or not.
+/// Decodes what a field of this shape holds, whether it is reserved or not.
 #[inline(always)]
 pub(crate) fn judge_form(shape: Shape, i: &[u8]) -> Result<Judgement, ParserError>
     ensures judged { JudgesForm (form_of shape) i.now result }
@@ -128,7 +128,7 @@ pub(crate) fn judge_form(shape: Shape, i: &[u8]) -> Result<Judgement, ParserErro
     }
 }
 
-/// Judges a reserved number of 2 bytes.
+/// Decodes a reserved number of 2 bytes.
 #[inline(always)]
 fn judge_reserved_short(constant: u16, i: &[u8]) -> Result<Judgement, ParserError>
     ensures judged { JudgesReserved (number_form bytes2) (number_item constant ∷ []) i.now result }
@@ -143,7 +143,7 @@ fn judge_reserved_short(constant: u16, i: &[u8]) -> Result<Judgement, ParserErro
     })
 }
 
-/// Judges a reserved number of 4 bytes.
+/// Decodes a reserved number of 4 bytes.
 #[inline(always)]
 fn judge_reserved_long(constant: u32, i: &[u8]) -> Result<Judgement, ParserError>
     ensures judged { JudgesReserved (number_form bytes4) (number_item constant ∷ []) i.now result }
@@ -158,7 +158,7 @@ fn judge_reserved_long(constant: u32, i: &[u8]) -> Result<Judgement, ParserError
     })
 }
 
-/// Judges a reserved slot, whose constant is written in these bytes.
+/// Decodes a reserved field, whose constant is written in these bytes.
 #[inline(always)]
 fn judge_reserved(shape: Shape, constant: &[u8], i: &[u8]) -> Result<Judgement, ParserError>
     ensures judged { JudgesConstant (form_of shape) constant.now i.now result }
@@ -173,7 +173,7 @@ fn judge_reserved(shape: Shape, constant: &[u8], i: &[u8]) -> Result<Judgement, 
     })
 }
 
-/// Judges a slot of this shape.
+/// Decodes a field of this shape.
 #[inline(always)]
 fn judge_slot(shape: Shape, i: &[u8]) -> Result<Judgement, ParserError>
     ensures judged { JudgesSlot (slot_of shape) i.now result }
@@ -190,7 +190,7 @@ fn judge_slot(shape: Shape, i: &[u8]) -> Result<Judgement, ParserError>
     }
 }
 
-/// Judges slots of these shapes, one after another (AMQP 0-9-1, section 4.2.4).
+/// Decodes fields of these shapes, one after another (AMQP 0-9-1, section 4.2.4).
 pub fn judge_slots(shapes: &[Shape], i: &[u8]) -> Result<Judgement, ParserError>
     ensures judged { JudgesSlots (slots_of shapes.now) i.now result }
     ensures used { IfOk result (λ j. j.used ≤ length i.now) }

@@ -1,4 +1,4 @@
-//! Where the parts of values and entries lie, told by tags and lengths alone.
+//! Where the parts of values and entries lie, by tags and lengths alone, in bytes that were decoded.
 
 ghost use Rattle.std.specs.Prelude.{◌≡◌, ◌≤◌, ◌<◌, ◌+◌, ℕ, length, drop, IsTrue};
 ghost use Rattle.amqp_types.specs.Judging.{Judge};
@@ -15,14 +15,14 @@ use amqp_types::parse_long_bytes;
 /// How many bytes a value or an entry takes.
 #[derive(Clone, Copy)]
 pub(crate) struct Span {
-    /// So many.
+    /// How many.
     pub(crate) size: usize,
 
     /// Whether they are its canonical bytes by its tag alone, so that they can be copied.
     pub(crate) copied: bool,
 }
 
-/// How many bytes a length and what it covers take at the front, where both were read there.
+/// How many bytes a length and what it covers take at the front, where both were decoded there.
 #[inline(always)]
 pub(crate) fn long_size(i: &[u8]) -> usize
     ensures used { IsRead (judge_long_string i.now) → result ≡ used_of (judge_long_string i.now) }
@@ -34,7 +34,7 @@ pub(crate) fn long_size(i: &[u8]) -> usize
     }
 }
 
-/// How many bytes stand at the front after a tag that is laid out so, where its value was read there.
+/// How many bytes the value after a tag takes at the front, by its layout, where it was decoded there.
 #[inline(always)]
 pub(crate) fn size_in(layout: Layout, i: &[u8]) -> usize
     requires { IsShort layout }
@@ -49,7 +49,7 @@ pub(crate) fn size_in(layout: Layout, i: &[u8]) -> usize
     }
 }
 
-/// What the value after a tag takes at the front, where it was read there.
+/// What the value after a tag takes at the front, where it was decoded there.
 #[inline(always)]
 fn span_after(tag: TagByte, i: &[u8]) -> Span
     requires { IsShort tag.layout }
@@ -80,7 +80,7 @@ fn span_after(tag: TagByte, i: &[u8]) -> Span
     }
 }
 
-/// What a value takes at the front, with its tag, where one was read there.
+/// What a value takes at the front, with its tag, where one was decoded there.
 #[inline(always)]
 pub(crate) fn value_span(i: &[u8]) -> Span
     ensures used { (room : ℕ) → IsRead (judge_value room i.now) → result.size ≡ used_of (judge_value room i.now) }
@@ -108,7 +108,7 @@ pub(crate) fn value_span(i: &[u8]) -> Span
     }
 }
 
-/// How many bytes a value takes at the front, with its tag, where one was read there.
+/// How many bytes a value takes at the front, with its tag, where one was decoded there.
 #[inline(always)]
 pub fn value_size(i: &[u8]) -> usize
     ensures used { (room : ℕ) → IsRead (judge_value room i.now) → result ≡ used_of (judge_value room i.now) }
@@ -117,7 +117,7 @@ pub fn value_size(i: &[u8]) -> usize
     value_span(i).size
 }
 
-/// What an array or a table at the front holds, where one was read there.
+/// What an array or a table at the front holds, where one was decoded there.
 pub fn content_of(i: &[u8]) -> &[u8]
     ensures { IsRead (judge_long_string i.now) → result.now ≡ canonical_of (λ content. content) (judge_long_string i.now) }
 {
@@ -150,7 +150,7 @@ pub fn split_key(i: &[u8]) -> (&[u8], &[u8])
     }
 }
 
-/// What an entry takes at the front, where one was read there.
+/// What an entry takes at the front, where one was decoded there.
 #[inline(always)]
 pub(crate) fn entry_span(i: &[u8]) -> Span
     ensures used { (room : ℕ) → IsRead (judge_entry (judge_value room) i.now) → result.size ≡ used_of (judge_entry (judge_value room) i.now) }
@@ -167,7 +167,7 @@ pub(crate) fn entry_span(i: &[u8]) -> Span
     }
 }
 
-/// How many bytes an entry takes at the front, where one was read there.
+/// How many bytes an entry takes at the front, where one was decoded there.
 #[inline(always)]
 pub fn entry_size(i: &[u8]) -> usize
     ensures used { (room : ℕ) → IsRead (judge_entry (judge_value room) i.now) → result ≡ used_of (judge_entry (judge_value room) i.now) }

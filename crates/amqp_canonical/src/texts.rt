@@ -1,4 +1,4 @@
-//! Short strings that are read without memory. Most are ASCII, which is tested eight bytes at a time.
+//! Short strings decoded without memory. Most are ASCII, which is tested eight bytes at a time.
 
 ghost use Rattle.std.specs.Prelude.{◌≡◌, ◌≤◌, ◌<◌, length, IfOk};
 ghost use Rattle.std.specs.Str.{is_utf8};
@@ -8,7 +8,7 @@ ghost use Rattle.amqp_types.specs.Strings.{judge_short_string};
 use amqp_types::ParserError;
 use std::str;
 
-/// Whether bytes are UTF-8, which is seldom asked of bytes that are not ASCII.
+/// Whether bytes that are not all ASCII are UTF-8.
 #[inline(never)]
 fn is_utf8_text(bytes: &[u8]) -> bool
     ensures { result ≡ is_utf8 bytes.now }
@@ -19,7 +19,7 @@ fn is_utf8_text(bytes: &[u8]) -> bool
     }
 }
 
-/// The same, told at once of ASCII.
+/// Whether bytes are UTF-8, which ASCII is.
 #[inline(always)]
 fn is_text(bytes: &[u8]) -> bool
     ensures { result ≡ is_utf8 bytes.now }
@@ -30,7 +30,7 @@ fn is_text(bytes: &[u8]) -> bool
     is_utf8_text(bytes)
 }
 
-/// Reads a short string, and borrows its text.
+/// Decodes a short string, and borrows its text.
 #[inline(always)]
 #[tactic(auto, unfolding(amqp_types::specs::Strings::judge_short_string))]
 pub(crate) fn short_text(i: &[u8]) -> Result<(usize, &[u8]), ParserError>

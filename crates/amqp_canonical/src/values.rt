@@ -1,4 +1,4 @@
-//! Judging values, arrays and tables at the front of a slice.
+//! Decoding values, arrays and tables at the front of a slice.
 
 ghost use Rattle.std.specs.Prelude.{◌≡◌, ◌≤◌, ◌<◌, ◌↔◌, Some, true, false, length, IfOk, IfSome, IsTrue};
 ghost use Rattle.amqp_types.specs.Booleans.{judge_boolean};
@@ -9,7 +9,7 @@ use crate::texts::short_text;
 use amqp_types::{FieldTag, ParserError, parse_long_bytes};
 use std::cmp::Ordering;
 
-/// A value, an array or a table that stands at the front of a slice.
+/// What was decoded at the front of a slice: a value, an array or a table.
 #[derive(Clone, Copy, Debug, PartialEq, Eq)]
 pub struct ValueJudgement {
     /// How many bytes it uses.
@@ -58,17 +58,17 @@ pub(crate) fn layout_of(tag: FieldTag) -> Layout
     }
 }
 
-/// A tag byte that is read.
+/// What a tag byte says.
 #[derive(Clone, Copy)]
 pub(crate) struct TagByte {
     /// How what stands after it is laid out.
     pub(crate) layout: Layout,
 
-    /// Whether it is the one that is written for its tag.
+    /// Whether it is the byte that is written for its tag.
     pub(crate) written: bool,
 }
 
-/// A tag byte that is the one that is written for its tag.
+/// A tag byte that is written for its tag.
 #[inline(always)]
 fn written(layout: Layout) -> Option<TagByte>
     ensures { result ≡ Some (record { layout = layout; written = true }) }
@@ -79,7 +79,7 @@ fn written(layout: Layout) -> Option<TagByte>
     })
 }
 
-/// A tag byte in whose place another one is written.
+/// A tag byte that is decoded alone: another one is written in its place.
 #[inline(always)]
 fn only_read(layout: Layout) -> Option<TagByte>
     ensures { result ≡ Some (record { layout = layout; written = false }) }
@@ -90,8 +90,8 @@ fn only_read(layout: Layout) -> Option<TagByte>
     })
 }
 
-/// How what stands after a tag byte is laid out, and whether the byte is the one that is written for its tag: `U` and `L`
-/// are read, and never written. None where the byte is no tag.
+/// How what stands after a tag byte is laid out, and whether the byte is written for its tag: `U` and `L` are decoded, and
+/// never written. None where the byte is no tag.
 #[inline(always)]
 pub(crate) fn layout_after(byte: u8) -> Option<TagByte>
     ensures is { result ≡ layout_after_byte byte }
@@ -126,7 +126,7 @@ fn inside(error: ParserError) -> ParserError
     }
 }
 
-/// Whether the key comes after the previous one, in the order of their bytes.
+/// Whether a key comes after the previous one, in the order of their bytes.
 fn is_above(key: &[u8], previous: &[u8]) -> bool
     ensures { IsTrue result ↔ IsBelow previous.now key.now }
 {
@@ -144,7 +144,7 @@ fn is_next(at: usize, key: &[u8], previous: &[u8]) -> bool
     at == 0 || is_above(key, previous)
 }
 
-/// Judges a truth value.
+/// Decodes a truth value.
 fn judge_boolean(i: &[u8]) -> Result<ValueJudgement, ParserError>
     ensures judged { Judges IsCanonicalBoolean i.now result (judge_boolean i.now) }
     ensures used { IfOk result (λ w. w.used ≤ length i.now) }
@@ -158,7 +158,7 @@ fn judge_boolean(i: &[u8]) -> Result<ValueJudgement, ParserError>
     }
 }
 
-/// Judges a tag and its value, in which tables and arrays may nest `room` deep (AMQP 0-9-1, section 4.2.5.5).
+/// Decodes a tag and its value, in which tables and arrays may nest `room` deep (AMQP 0-9-1, section 4.2.5.5).
 #[inline(always)]
 #[cycle(judge)]
 pub fn judge_value(i: &[u8], room: usize) -> Result<ValueJudgement, ParserError>
@@ -180,7 +180,7 @@ pub fn judge_value(i: &[u8], room: usize) -> Result<ValueJudgement, ParserError>
     }
 }
 
-/// Judges the value after a tag that is laid out so.
+/// Decodes the value after a tag that is laid out so.
 #[inline(always)]
 #[cycle(judge)]
 fn judge_after_tag(layout: Layout, i: &[u8], room: usize) -> Result<ValueJudgement, ParserError>
@@ -220,7 +220,7 @@ fn judge_after_tag(layout: Layout, i: &[u8], room: usize) -> Result<ValueJudgeme
     }
 }
 
-/// Judges an array, in whose values tables and arrays may nest `room` deep.
+/// Decodes an array, in whose values tables and arrays may nest `room` deep.
 #[inline(always)]
 #[cycle(judge)]
 pub fn judge_array(i: &[u8], room: usize) -> Result<ValueJudgement, ParserError>
@@ -232,7 +232,7 @@ pub fn judge_array(i: &[u8], room: usize) -> Result<ValueJudgement, ParserError>
     Ok(ValueJudgement { used: n, canonical })
 }
 
-/// Judges a table, in whose values tables and arrays may nest `room` deep (AMQP 0-9-1, section 4.2.5.5).
+/// Decodes a table, in whose values tables and arrays may nest `room` deep (AMQP 0-9-1, section 4.2.5.5).
 #[inline(always)]
 #[cycle(judge)]
 pub fn judge_table(i: &[u8], room: usize) -> Result<ValueJudgement, ParserError>
@@ -244,7 +244,7 @@ pub fn judge_table(i: &[u8], room: usize) -> Result<ValueJudgement, ParserError>
     Ok(ValueJudgement { used: n, canonical })
 }
 
-/// Judges the values that fill an array, and returns whether these are their canonical bytes.
+/// Decodes the values that fill an array, and returns whether these are their canonical bytes.
 #[inline(never)]
 #[cycle(judge)]
 fn judge_values(content: &[u8], room: usize) -> Result<bool, ParserError>
@@ -263,7 +263,7 @@ fn judge_values(content: &[u8], room: usize) -> Result<bool, ParserError>
     Ok(canonical)
 }
 
-/// Judges the entries that fill a table, and returns whether these are their canonical bytes and each key is above the previous one.
+/// Decodes the entries that fill a table, and returns whether these are their canonical bytes and in ascending key order.
 #[inline(never)]
 #[cycle(judge)]
 fn judge_entries(content: &[u8], room: usize) -> Result<bool, ParserError>
@@ -281,7 +281,7 @@ fn judge_entries(content: &[u8], room: usize) -> Result<bool, ParserError>
         previous = key;
         at += item.used;
     }
-    // Where one is not canonical, the others are only read, and their keys are not compared.
+    // Where one is not canonical, the others are decoded alone, and their keys are not compared.
     while at < content.len() {
         at += match judge_entry(&content[at..], room) {
             Ok((item, _)) => item.used,
@@ -291,7 +291,7 @@ fn judge_entries(content: &[u8], room: usize) -> Result<bool, ParserError>
     Ok(canonical)
 }
 
-/// Judges a key and its value, and lends the key.
+/// Decodes a key and its value, and borrows the key.
 #[inline(always)]
 #[cycle(judge)]
 fn judge_entry(i: &[u8], room: usize) -> Result<(ValueJudgement, &[u8]), ParserError>

@@ -1,4 +1,4 @@
-//! Writing the canonical bytes of values, arrays and tables that were read, without taking memory.
+//! Writing the canonical bytes of values, arrays and tables that were decoded, without memory.
 
 ghost use Rattle.std.specs.Prelude.{◌≤◌, ◌<◌, ◌+◌, length, map, All};
 ghost use Rattle.amqp_types.specs.Settling.{settled};
@@ -15,7 +15,7 @@ use crate::values::{Layout, layout_of};
 use amqp_types::{FieldTag, put_boolean, put_bytes, put_long_uint};
 
 /// Puts the canonical bytes of a value at a place of a slice, and returns the place after them. Tables and arrays may
-/// nest `room` deep in it. Its tag stands in front of it, in what is read and in what is put.
+/// nest `room` deep in it. Its tag stands in front of it, in the bytes that were decoded and in those that are put.
 #[cycle(write)]
 pub fn put_value(buf: &mut [u8], at: usize, scratch: &mut [Mark], i: &[u8], room: usize) -> usize
     requires read { IsRead (judge_value room i.now) }
@@ -125,7 +125,7 @@ fn put_entries(
     }
 }
 
-/// Puts the canonical bytes of marked entries, of neighbours with one key those of the last.
+/// Puts the canonical bytes of marked entries. Of duplicate keys, which are neighbours here, the last one wins.
 #[cycle(write)]
 fn put_marked(
     buf: &mut [u8],
@@ -151,7 +151,7 @@ fn put_marked(
     end
 }
 
-/// Puts the canonical bytes of a marked entry. Most stand in them, and are copied in one piece.
+/// Puts the canonical bytes of a marked entry. Most entries are canonical, and are copied in one piece.
 #[inline(always)]
 #[cycle(write)]
 fn put_mark(
@@ -176,7 +176,7 @@ fn put_mark(
 }
 
 /// Puts the canonical bytes of the entries that fill a table, each found by its key. This takes quadratic time, and no
-/// marks for the entries of this table.
+/// marks but those of tables inside.
 #[cycle(write)]
 fn put_selected(
     buf: &mut [u8],

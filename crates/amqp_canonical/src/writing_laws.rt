@@ -1,8 +1,8 @@
-//! What is written is no longer than what was read, as the contract of a function that does nothing.
+//! Canonical bytes are no more than the bytes that were decoded: a law, as the contract of a function that does nothing.
 
 ghost use Rattle.amqp_canonical.specs.WritingLaws.{ValuesAreNoLonger, ArraysAreNoLonger, TablesAreNoLonger, SlotsAreNoLonger, PayloadsAreNoLonger, ContentHeadersAreNoLonger};
 
-/// Canonical bytes are no more than the bytes that were read, so a slice with room for these has room for them.
+/// Canonical bytes are no more than the bytes that were decoded, so a slice with room for these has room for them.
 pub fn written_is_no_longer()
     ensures values { ValuesAreNoLonger }
     ensures arrays { ArraysAreNoLonger }

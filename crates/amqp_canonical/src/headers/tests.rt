@@ -1,4 +1,4 @@
-//! Content headers and properties that are judged: canonical, tidy, neither, and faulty ones.
+//! Content headers and properties that are decoded: canonical, tidy, neither, and faulty ones.
 
 use super::*;
 

@@ -1,4 +1,4 @@
-//! Slots of each shape that are judged.
+//! Fields of each shape that are decoded.
 
 use super::*;
 use Shape::{
@@ -6,7 +6,7 @@ use Shape::{
     ReservedShort, ReservedShortString, Short, ShortString, Table,
 };
 
-/// A slot of each shape.
+/// A field of each shape.
 const SHAPES: [Shape; 13] = [
     Octet,
     Short,
@@ -23,7 +23,7 @@ const SHAPES: [Shape; 13] = [
     ReservedLongString,
 ];
 
-/// Such slots, as they are written, and one byte more.
+/// Such fields, as they are written, and one byte more.
 const BYTES: [u8; 44] = [
     1, // a number of 1 byte
     0, 2, // 2 bytes
@@ -41,7 +41,7 @@ const BYTES: [u8; 44] = [
     9, // what follows
 ];
 
-/// The slots with one byte changed.
+/// The fields with one byte changed.
 fn judged_with(at: usize, byte: u8) -> Result<Judgement, ParserError> {
     let mut bytes = BYTES;
     match bytes.get_mut(at) {
@@ -51,7 +51,7 @@ fn judged_with(at: usize, byte: u8) -> Result<Judgement, ParserError> {
     judge_slots(&SHAPES, &bytes)
 }
 
-/// Places where any such byte leaves slots, and whether they are canonical and tidy then.
+/// Places where any such byte leaves fields, and whether they are canonical and tidy then.
 const TAKEN: [(usize, u8, bool, bool); 12] = [
     (0, 9, true, true),
     (15, 7, true, true),
@@ -63,7 +63,7 @@ const TAKEN: [(usize, u8, bool, bool); 12] = [
     (15, 8, false, false),
     (15, 133, false, false),
     (37, 2, false, false),
-    // reserved slots that do not hold their constants
+    // reserved fields that do not hold their constants
     (31, 1, false, false),
     (32, 0, false, false),
     (36, 8, false, false),
@@ -82,7 +82,7 @@ fn slots_are_told(rt: HostRuntime) {
     }
 }
 
-/// Places and bytes that leave no slots, and the fault.
+/// Places and bytes that leave no fields, and the fault.
 const REFUSED: [(usize, u8, ParserError); 9] = [
     // lengths: of a short string, a long string and a table
     (16, 255, ParserError::Incomplete),
@@ -105,7 +105,7 @@ fn faults_are_told(rt: HostRuntime) {
     }
 }
 
-/// Reserved strings that hold something are read over, and so is what comes after a slot that is not tidy.
+/// Reserved strings that hold something are skipped, and what comes after a field that is not tidy is decoded.
 #[test]
 fn reserved_strings_are_read_over(rt: HostRuntime) {
     let shapes = [ReservedShortString, ReservedLongString, Octet];

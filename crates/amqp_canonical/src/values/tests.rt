@@ -1,4 +1,4 @@
-//! Values, arrays and tables that are judged.
+//! Values, arrays and tables that are decoded.
 
 use super::*;
 
@@ -90,7 +90,7 @@ fn faults_are_told(rt: HostRuntime) {
     }
 }
 
-/// What is not canonical is judgement over to the first fault behind it.
+/// After what is not canonical the rest is decoded alone, up to its first fault.
 #[test]
 fn faults_behind_falling_keys_are_told(rt: HostRuntime) {
     let fault = [0, 0, 0, 9, 1, 98, 116, 1, 1, 97, 116, 0, 1];
