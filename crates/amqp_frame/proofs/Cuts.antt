@@ -1,4 +1,4 @@
--- How the front of some bytes goes on behind its first frame.
+-- How the front of some bytes goes on after its first frame.
 use Rattle.std.proofs.Common.{◌≡◌, ◌≢◌, ℕ, zero, suc, ◌≤◌, Bool, true, false, List, [], ◌∷◌, ◌++◌, length, take, drop, append_assoc, Option, Result, Ok, Err, refl, sym, ap, subst, ◌∙◌, arith}
 use Rattle.std.proofs.lemmas.List.{length-drop, drop_at, length-take-le, nil_from_length}
 use Rattle.amqp_types.specs.Levels.{Level}
@@ -65,7 +65,7 @@ cut-enough level m zero k bytes h g = rw (nil_from_length bytes (omega arith)) (
 cut-enough level m (suc n) zero bytes h g = rw (nil_from_length bytes (omega arith)) (cut-none level m (suc n) ∙ sym (cut-none level m zero))
 cut-enough level m (suc n) (suc k) bytes h g = cut-step level m n k bytes h g (λ rest. cut-enough level m n k rest) (verdict level m bytes) refl
 
--- behind a frame at the front
+-- after a frame at the front
 pub record GoesOn (level : Level) (m : Option ℕ) (bytes : List ℕ) (f : Frame) (rest : List ℕ) : Type 0 where
   pub row : front level m bytes ≡ f ∷ front level m rest
   pub after : place level m bytes ≡ place level m rest
@@ -127,7 +127,7 @@ pub verdict-none : (level : Level) (m : Option ℕ) → verdict level m [] ≡ p
 unfolding verdict
 verdict-none level m = ap (judged level) (outer-none m)
 
--- no bytes are the empty row
+-- no bytes are the empty sequence
 pub stop-none : (level : Level) (m : Option ℕ) → IsStop (verdict level m [])
 stop-none level m = rw (verdict-none level m) tt
 
@@ -137,7 +137,7 @@ front-none level m = (front-stop level m [] (stop-none level m)).0
 pub place-none : (level : Level) (m : Option ℕ) → place level m [] ≡ []
 place-none level m = (front-stop level m [] (stop-none level m)).1
 
--- what the parts of a judgement say of the whole of it
+-- what the parts of a decoding say of the whole of it
 pub verdict-more : (level : Level) (m : Option ℕ) (bytes : List ℕ) → outer m bytes ≡ past → verdict level m bytes ≡ past
 unfolding verdict
 verdict-more level m bytes e = ap (judged level) e

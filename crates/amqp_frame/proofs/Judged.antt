@@ -1,19 +1,19 @@
--- Whole payloads that are judged without memory.
-use Rattle.std.proofs.Common.{◌≡◌, ◌≢◌, ◌≤◌, ◌<◌, ℕ, Bool, true, false, List, [], length, take, append-nil, Result, Ok, Err, refl, sym, ap, subst, ◌∙◌, arith, IsTrue, ◌∷◌, inl, inr}
+-- Whole payloads that are decoded without memory.
+use Rattle.std.proofs.Common.{◌≡◌, ◌≤◌, ◌<◌, ℕ, Bool, true, false, List, [], length, take, Result, Ok, Err, refl, sym, ap, subst, ◌∙◌, arith, IsTrue, ◌∷◌, inl, inr}
 use Rattle.std.specs.Str.{bytes_eq}
 use Rattle.std.specs.Prelude.{eqb, ◌↔◌, ◌^◌}
 use Rattle.std.proofs.lemmas.Bool.{cases_eq, eq-eqb, ne_eqb}
 use Rattle.std.proofs.lemmas.List.{take_all}
 use Rattle.std.proofs.lemmas.Slice.Eq.{bytes_eq-Decides}
-use Rattle.amqp_types.specs.Levels.{Level, plain, tidy, strict}
-use Rattle.amqp_types.specs.Judging.{Fault, Judged, Judge, fault, IsBytes}
-use Rattle.amqp_types.specs.Answers.{Refuses, RefusesWhole}
+use Rattle.amqp_types.specs.Levels.{Level, tidy}
+use Rattle.amqp_types.specs.Judging.{Judge, IsBytes}
+use Rattle.amqp_types.specs.Answers.{Refuses}
 use Rattle.amqp_types.specs.FormLaws.{IsLawful}
 use Rattle.amqp_types.specs.Tidiness.{IsToldBy, is_tidy_payload, is_tidy_content_header}
 use Rattle.amqp_types.specs.ValueJudging.{inside_error, read_map}
-use Rattle.amqp_types.specs.Methods.{Method, judge_payload, payload_bytes}
+use Rattle.amqp_types.specs.Methods.{judge_payload, payload_bytes}
 use Rattle.amqp_types.specs.MethodSpelling.{SpellsPayload}
-use Rattle.amqp_types.specs.ContentHeaders.{ContentHeader, judge_content_header, SpellsContentHeader, content_header_bytes}
+use Rattle.amqp_types.specs.ContentHeaders.{judge_content_header, SpellsContentHeader, content_header_bytes}
 use Rattle.amqp_types.specs.declared.errors.ParserError.{ParserError}
 use Rattle.amqp_types.specs.declared.errors.ParserError.TheVariants as errors
 use Rattle.amqp_values.proofs.MethodLaws.{payloads_lawful}
@@ -29,15 +29,15 @@ use Rattle.amqp_canonical.specs.SlotJudgements.{TakesTidily, JudgesPayload, Judg
 use Rattle.amqp_frame.specs.declared.frame_type.AMQPFrameType.{AMQPFrameType}
 use Rattle.amqp_frame.specs.declared.frame_type.AMQPFrameType.TheVariants as kinds
 use Rattle.amqp_frame.specs.declared.judging.FrameJudgement.{FrameJudgement}
-use Rattle.amqp_frame.specs.Frames.{Frame, Proto, Meth, Head, Body, Raw, beat_on}
+use Rattle.amqp_frame.specs.Frames.{Frame, Proto, Meth, Head, Body, beat_on}
 use Rattle.amqp_frame.specs.Canonical.{payload_of}
 use Rattle.amqp_frame.specs.Spelling.{Spells, bytes_as}
 use Rattle.amqp_frame.proofs.Spelled.{raw_as}
 use Rattle.amqp_frame.proofs.Tidied.{frame_told}
-use Rattle.amqp_frame.specs.Judgements.{IsPayloadFault, IsAll, JudgesAll, IsJudged, JudgesFrame}
-use Rattle.amqp_frame.specs.Verdicts.{all_of, filling, whole_as, is_tidy_as}
+use Rattle.amqp_frame.specs.Judgements.{IsAll, JudgesAll, IsJudged, JudgesFrame}
+use Rattle.amqp_frame.specs.Verdicts.{all_of, whole_as, is_tidy_as}
 use Rattle.amqp_frame.proofs.Payloads as payloads
-use Rattle.amqp_frame.proofs.Within.{IsWhole, filling_fails, error_whole}
+use Rattle.amqp_frame.proofs.Within.{filling_fails, error_whole}
 
 -- two tests that hold of the same
 same_test : (a b : Bool) → (a ≡ true → b ≡ true) → (b ≡ true → a ≡ true) → a ≡ b
@@ -59,7 +59,7 @@ inside_fault errors.UnknownTag h = h
 inside_fault errors.TooDeep h = h
 inside_fault errors.NoMemory h = h
 
--- ---- what a whole payload is, where judging it is lawful
+-- ---- what a whole payload is, where decoding it is lawful
 
 module _ {A : Type 0} (judge : Judge A) (Spells : Level → List ℕ → A → Type 0) (canonical : A → List ℕ) (is_tidy : List ℕ → Bool) (lawful : IsLawful judge Spells canonical) (told : IsToldBy judge (Spells tidy) is_tidy) (inside : FailsInside judge) where
   -- all of the payload was used
@@ -78,7 +78,7 @@ module _ {A : Type 0} (judge : Judge A) (Spells : Level → List ℕ → A → T
             (λ e. h.tidy.1 (subst (λ bytes. Spells tidy bytes h.thing) (sym used) (payloads.whole_spells judge Spells canonical is_tidy lawful told tidy payload h.thing fits is e)));
       }
 
-  -- a refusal of what is judged
+  -- a refusal of what is decoded
   is_refused : (payload : List ℕ) (error : ParserError) → MayRefuse error × Refuses error (judge payload) → JudgesAll judge canonical is_tidy payload (Err (inside_error error))
   is_refused payload error h =
       let refused = payloads.refused_all error (length payload) (judge payload) h.1 in
@@ -181,7 +181,7 @@ proto_trailing channel (a ∷ b ∷ c ∷ d ∷ more) long = ((tt, λ e. cc), re
 pub judged_as : (kind other : AMQPFrameType) (channel : ℕ) (payload : List ℕ) (r : Result FrameJudgement ParserError) → kind ≡ other → JudgesFrame (raw_as other channel payload) r → JudgesFrame (raw_as kind channel payload) r
 judged_as kind other channel payload r is h = let P : AMQPFrameType → Type 0 = λ k. JudgesFrame (raw_as k channel payload) r in subst P (sym is) h
 
--- a test that tells what is tidy, as it was judged
+-- a test says exactly what is tidy, as it was decoded
 pub tidy_told : (kind : AMQPFrameType) (channel : ℕ) (payload : List ℕ) (frame : Frame) (found : FrameJudgement) → IsBytes payload → channel < 2 ^ 16 → length payload < 2 ^ 32 → whole_as kind channel payload ≡ Ok frame → IsJudged (raw_as kind channel payload) found
     → IsTrue found.tidy ↔ Spells tidy (bytes_as kind channel payload) frame
 tidy_told kind channel payload frame found fits on few is h =

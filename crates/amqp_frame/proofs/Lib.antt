@@ -11,6 +11,7 @@ pub mod Rows
 pub mod Strictness
 pub mod ReadingBack
 pub mod Sizes
+pub mod Holding
 pub mod Parts
 pub mod Within
 pub mod Judged

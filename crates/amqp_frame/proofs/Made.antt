@@ -1,4 +1,4 @@
--- What is judged to be a frame spells it.
+-- What is decoded to be a frame encodes it.
 use Rattle.std.proofs.Common.{◌≡◌, ◌≢◌, ℕ, suc, ◌+◌, ◌≤◌, Bool, true, false, eqb, List, [], ◌∷◌, ◌++◌, length, get_or, take, drop, Option, Some, None, Result, Ok, Err, refl, sym, ap, subst, ◌∙◌, arith, inl, inr}
 use Rattle.std.proofs.lemmas.Bool.{cases_lt, cases_eq, cases_Bool, le-ltb, lt-ltb, ltb-false, eq-eqb, eqb-true, ne_eqb, and_parts}
 use Rattle.std.proofs.lemmas.List.{length-drop, length-take-le, get_or-append-add, take_more, nil_from_length}
@@ -48,7 +48,7 @@ type_of-is b kind e = elim (cases_eq b 65) [
   ]
 ]
 
--- ---- a frame that is no protocol header, behind its type byte
+-- ---- a frame that is no protocol header, after its type byte
 
 record IsMadeOf (m : Option ℕ) (kind : AMQPFrameType) (bytes : List ℕ) (raw : Raw) (n : ℕ) : Type 0 where
   raw_is : raw ≡ raw_as kind (from_be_bytes w16 (take 2 bytes)) (take (payload_length bytes) (drop 6 bytes))
@@ -83,7 +83,7 @@ within_from : (m : Option ℕ) (n : ℕ) (bytes : List ℕ) → is_above n m ≡
 within_from None n bytes h e = tt
 within_from (Some m) n bytes h e = omega (arith, ltb-false m n h)
 
--- its bytes are its spelling
+-- its bytes are its encoding
 framed-made : (m : Option ℕ) (kind : AMQPFrameType) (b : ℕ) (bytes : List ℕ) (raw : Raw) (n : ℕ) → IsBytes bytes → IsMadeOf m kind bytes raw n → IsFramed (b ∷ take n bytes) b raw.channel raw.payload × IsWithin m (b ∷ take n bytes)
 framed-made m kind b [] raw n fits h = absurd (omega (arith, h.enough))
 framed-made m kind b (c1 ∷ []) raw n fits h = absurd (omega (arith, h.enough))
@@ -115,7 +115,7 @@ framed-made m kind b (c1 ∷ c0 ∷ n3 ∷ n2 ∷ n1 ∷ n0 ∷ tail) raw n fits
 
 -- ---- a protocol header
 
--- behind its `A`
+-- after its `A`
 record IsHeader (bytes : List ℕ) (raw : Raw) (n : ℕ) : Type 0 where
   raw_is : raw ≡ raw_as kinds.ProtocolHeader 0 (get_or bytes 4 0 ∷ get_or bytes 5 0 ∷ get_or bytes 6 0 ∷ [])
   spelled : 65 ∷ take n bytes ≡ proto (get_or bytes 4 0) (get_or bytes 5 0) (get_or bytes 6 0)
@@ -176,7 +176,7 @@ at_header plain channel payload header w e = refl
 at_header tidy channel payload header w e = e
 at_header strict channel payload header w e = ap (λ read. is_written_for (read_map (λ x. Head channel x) read) payload) (sym w) ∙ e
 
--- what spells a frame, by its type
+-- what encodes a frame, by its type
 pub spells_as : (level : Level) (bytes : List ℕ) (kind : AMQPFrameType) (channel : ℕ) (payload : List ℕ) (f : Frame) → IsBytes payload → IsFramed bytes (byte_of kind) channel payload → whole_as kind channel payload ≡ Ok f → is_at level (raw_as kind channel payload) ≡ true → kind ≢ kinds.ProtocolHeader → Spells level bytes f
 unfolding whole_as
 spells_as level bytes kinds.ProtocolHeader channel payload f fits is_framed is_whole at_level other = absurd (other refl)

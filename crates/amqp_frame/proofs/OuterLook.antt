@@ -1,4 +1,4 @@
--- The outer look, where more bytes come and where there are just enough.
+-- The header scan, where more bytes come and where there are just enough.
 use Rattle.std.proofs.Common.{◌≡◌, ◌≢◌, ℕ, zero, suc, ◌+◌, ◌<◌, ◌≤◌, true, false, ◌&&◌, eqb, ltb, List, [], ◌∷◌, ◌++◌, length, get_or, take, drop, Option, Some, None, refl, sym, ap, subst, ◌∙◌, arith, inl, inr, max}
 use Rattle.std.proofs.lemmas.Bool.{cases_lt, cases_Bool, le-ltb, lt-ltb, ltb-false}
 use Rattle.std.proofs.lemmas.List.{length-append, take-append-le, drop-append-le, length-drop, length-take-le, take-append-drop, get_or_append_left}
@@ -9,13 +9,13 @@ use Rattle.amqp_frame.specs.declared.frame_type.AMQPFrameType.TheVariants as kin
 use Rattle.amqp_frame.specs.Frames.{Raw}
 use Rattle.amqp_frame.specs.Outer.{type_of, begins_as, is_above, payload_length, judge_version, version_raw, version_at, ended_payload, judge_raw, behind_type, outer}
 
--- ---- the first byte, and what is behind it
+-- ---- the first byte, and what is after it
 
 -- the byte in front is counted too
 abbrev pub behind_byte : Judged Raw → Judged Raw
 behind_byte j = j >>= λ raw. took raw.0 (1 + raw.1)
 
--- what is behind a byte that names this type
+-- what is after a byte that names this type
 abbrev pub typed : Option ℕ → Option AMQPFrameType → List ℕ → Judged Raw
 typed m (Some kind) bytes = behind_byte (behind_type m kind bytes)
 typed m None bytes = fault unknown_frame_type
@@ -32,7 +32,7 @@ pub outer-none : (m : Option ℕ) → outer m [] ≡ past
 unfolding outer
 outer-none m = refl
 
--- what was taken behind the byte
+-- what was taken after the byte
 pub record IsOneMore (j : Judged Raw) (raw : Raw) (n : ℕ) : Type 0 where
   pub used : ℕ
   pub found : j ≡ took raw used
@@ -80,7 +80,7 @@ begins_as-false (b ∷ bytes) more (w ∷ wanted) h = elim (eqb b w) as (λ t. (
   | false ↦ λ e. refl
 ] h
 
--- what stands behind the `A` of a protocol header
+-- what stands after the `A` of a protocol header
 abbrev pub mark : List ℕ
 mark = 77 ∷ 81 ∷ 80 ∷ 0 ∷ []
 
@@ -150,14 +150,14 @@ outer-append m (b ∷ bytes) more h =
 
 -- ---- a frame lies within the bytes, and within the limit
 
--- a frame behind its first byte
+-- a frame after its first byte
 record IsBounded (m : Option ℕ) (bytes : List ℕ) (raw : Raw) (n : ℕ) : Type 0 where
   least : 7 ≤ n
   within : n ≤ length bytes
   payload : (k : ℕ) → m ≡ Some k → length raw.payload ≤ max 3 k
   limit : (k : ℕ) → m ≡ Some k → n ≤ k + 7
 
--- whatever is told behind the first byte, it fits
+-- whatever is found after the first byte, it fits
 abbrev Fits_in : Option ℕ → List ℕ → Judged Raw → Type 0
 Fits_in m bytes past = (k : ℕ) → m ≡ Some k → length bytes < k + 7
 Fits_in m bytes (fault bad) = Unit {0}
@@ -297,7 +297,7 @@ pub never_large : (bytes : List ℕ) → outer None bytes ≡ fault too_large �
 never_large [] e = absurd (let none = outer-none None in cc)
 never_large (b ∷ bytes) e = (subst IsNotLarge (sym (outer-typed None b bytes) ∙ e) (typed-not_large (type_of b) bytes)) refl
 
--- ---- a frame needs no byte behind it
+-- ---- a frame needs no byte after it
 
 version_at-enough : (bytes : List ℕ) → 7 ≤ length bytes → version_at bytes ≢ past
 unfolding judge_version

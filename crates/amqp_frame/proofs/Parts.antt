@@ -1,4 +1,4 @@
--- The outer look by its parts.
+-- The header scan by its parts.
 use Rattle.std.proofs.Common.{◌≡◌, ◌≢◌, ℕ, List, [], ◌∷◌, Some, None, Option, refl, ap, ◌∙◌}
 use Rattle.amqp_types.specs.Judging.{Fault, took, fault}
 use Rattle.amqp_frame.specs.declared.frame_type.AMQPFrameType.{AMQPFrameType}

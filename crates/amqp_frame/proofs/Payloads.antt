@@ -1,4 +1,4 @@
--- Whole payloads: how they are refused, and at which level they are spelled.
+-- Whole payloads: how they are refused, and at which level they are encoded.
 use Rattle.std.proofs.Common.{◌≡◌, ℕ, ◌<◌, Bool, true, List, [], length, append-nil, Result, Ok, Err, refl, sym, ap, subst, ◌∙◌, arith, inl, inr}
 use Rattle.std.specs.Str.{bytes_eq}
 use Rattle.std.proofs.lemmas.Bool.{cases_eq, eq-eqb, ne_eqb}
@@ -34,7 +34,7 @@ refused_frame errors.UnknownTag read n h = ap (λ r. judged_frame true r n) h
 refused_frame errors.TooDeep read n h = ap (λ r. judged_frame true r n) h
 refused_frame errors.NoMemory read n h = tt
 
--- a refusal of what is judged is one of the whole payload
+-- a refusal of what is decoded is one of the whole payload
 pub refused_all : {A : Type 0} (error : ParserError) (n : ℕ) (j : Judged A) → Refuses error j → RefusesWhole (inside_error error) (filling n j)
 refused_all errors.Incomplete n j h = ap (filling n) h
 refused_all errors.UnknownFrameType n j h = ap (filling n) h
@@ -52,7 +52,7 @@ refused_all errors.NoMemory n j h = tt
 pub refused_map : {A B : Type 0} (error : ParserError) (make : A → B) (read : Result A Fault) → RefusesWhole error read → RefusesWhole error (read_map make read)
 refused_map = RefusesWhole-map
 
--- what was judged used less than all, or all
+-- what was decoded used less than all, or all
 pub fills_less : {A : Type 0} (n used : ℕ) (j : Judged A) (x : A) → j ≡ took x used → used < n → filling n j ≡ Err trailing_bytes
 fills_less n used j x e less = ap (filling n) e ∙ rw (ne_eqb used n (λ h. absurd (omega arith))) refl
 
@@ -67,13 +67,13 @@ filled_took n (took y used) x h = elim (cases_eq used n) [
   | inr other ↦ absurd (let e = rw (ne_eqb used n other) at h in cc)
 ]
 
--- ---- what a whole payload spells, where judging it is lawful
+-- ---- what a whole payload encodes, where decoding it is lawful
 
 abbrev pub same_bytes : List ℕ → List ℕ → Bool
 same_bytes = bytes_eq
 
 module _ {A : Type 0} (judge : Judge A) (Spells : Level → List ℕ → A → Type 0) (canonical : A → List ℕ) (is_tidy : List ℕ → Bool) (lawful : IsLawful judge Spells canonical) (told : IsToldBy judge (Spells tidy) is_tidy) where
-  -- whether a payload that is judged to be x is spelled at the level
+  -- whether a payload that is decoded to be x is encoded at the level
   abbrev pub spells_at : Level → List ℕ → A → Bool
   spells_at plain payload x = true
   spells_at tidy payload x = is_tidy payload

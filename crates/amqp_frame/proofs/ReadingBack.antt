@@ -1,9 +1,9 @@
 -- Canonical bytes are read as the frame that they were written for.
-use Rattle.std.proofs.Common.{◌≡◌, ◌≢◌, ℕ, ◌<◌, ◌^◌, false, Ok, List, [], ◌++◌, length, append-nil, None, refl, sym, subst, ◌∙◌, arith, inl, inr}
+use Rattle.std.proofs.Common.{◌≡◌, ◌≢◌, ℕ, false, Result, Ok, Err, IsOk, List, [], ◌++◌, length, append-nil, None, refl, sym, ap, subst, ◌∙◌, arith, inl, inr}
 use Rattle.std.proofs.lemmas.Bool.{cases_eq, eq-eqb, ne_eqb}
-use Rattle.std.proofs.lemmas.Bool.Decides.{nat_tests}
 use Rattle.std.proofs.lemmas.List.{length-append, nil_from_length}
 use Rattle.amqp_types.specs.Levels.{Level, strict}
+use Rattle.amqp_types.specs.declared.errors.GenError.{GenError}
 use Rattle.amqp_types.specs.Judging.{Judged, past, fault, took}
 use Rattle.amqp_types.proofs.Exact.{took_count}
 use Rattle.amqp_types.specs.SlotBytes.{any_long}
@@ -20,12 +20,9 @@ use Rattle.amqp_frame.specs.Spelling.{framed, Spells}
 use Rattle.amqp_frame.specs.Canonical.{canon, is_deep, is_long, is_long_for, size_of, read_back}
 use Rattle.amqp_frame.specs.Laws.{IsFrameHeld, ReadsBack}
 use Rattle.amqp_frame.proofs.Cuts.{verdict-append, verdict-got_within}
+use Rattle.amqp_frame.proofs.Sizes.{countable, SizeIs, size_is_length}
 use Rattle.amqp_frame.proofs.Spelled.{verdict-spelled_before}
 use Rattle.amqp_frame.proofs.Strictness.{empty_beat, frame_from_strict}
-
--- a length that four bytes hold
-countable : (bytes : List ℕ) → is_long_for bytes ≡ false → length bytes < 2 ^ 32
-countable bytes h = grind (arith, nat_tests)
 
 canon_spells : (f : Frame) → IsFrameHeld f → is_deep f ≡ false → is_long f ≡ false → Spells strict (canon f) (read_back f)
 unfolding canon
@@ -51,7 +48,7 @@ canon_spells (BadBeat channel) held deep long = elim (cases_eq channel 0) [
   | inr some ↦ rw (ne_eqb channel 0 some) (omega arith, empty_beat channel held)
 ]
 
--- a front that is judged is not shorter than what all the bytes are judged to be
+-- a front that is decoded is not shorter than what all the bytes are decoded to be
 judged_front : (level : Level) (first rest : List ℕ) (f : Frame) (j : Judged Frame) → verdict level None first ≡ j → verdict level None (first ++ rest) ≡ took f (length (first ++ rest)) → rest ≢ [] → j ≡ past
 judged_front level first rest f past e whole some = refl
 judged_front level first rest f (fault bad) e whole some = absurd (let same = verdict-append level None first rest (λ h. absurd cc) in cc)
@@ -73,3 +70,11 @@ reads_back level f held size =
           let all : verdict level None (first ++ rest) ≡ took (read_back f) (length (first ++ rest)) = subst (λ (xs : List ℕ). verdict level None xs ≡ took (read_back f) (length xs)) parts (subst (λ (xs : List ℕ). verdict level None xs ≡ took (read_back f) (length (canon f))) (append-nil (canon f)) (whole [])) in
           judged_front level first rest (read_back f) (verdict level None first) refl all some;
     }
+
+sized_ok : (size : Result ℕ GenError) (bytes : List ℕ) → SizeIs size bytes → IsOk size → size ≡ Ok (length bytes)
+sized_ok (Ok n) bytes is fits = ap Ok is
+sized_ok (Err error) bytes is fits = absurd cc
+
+-- of a frame that can be written
+pub written_reads_back : (level : Level) (f : Frame) → IsFrameHeld f → IsOk (size_of f) → ReadsBack level f
+written_reads_back level f held fits = reads_back level f held (sized_ok (size_of f) (canon f) (size_is_length f).1 fits)

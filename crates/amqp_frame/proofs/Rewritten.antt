@@ -1,53 +1,32 @@
 -- Canonical bytes of frames, put where a payload stands or in place of one.
-use Rattle.std.proofs.Common.{◌≡◌, ◌≤◌, ◌<◌, ℕ, ◌+◌, ◌-◌, ◌^◌, Bool, true, List, [], ◌∷◌, ◌++◌, length, Result, Ok, Err, refl, sym, ap, subst, ◌∙◌, append_assoc, arith, inl, inr}
-use Rattle.std.specs.Str.{bytes_eq}
+use Rattle.std.proofs.Common.{◌≡◌, ◌≤◌, ℕ, ◌+◌, true, List, [], ◌∷◌, length, Result, Ok, Err, refl, sym, ap, subst, ◌∙◌, arith, inl, inr}
 use Rattle.std.proofs.lemmas.Bool.{cases_eq, eq-eqb, ne_eqb}
-use Rattle.std.proofs.lemmas.List.{length-append}
 use Rattle.std.proofs.lemmas.Slice.Eq.{bytes_eq-Decides}
 use Rattle.amqp_types.specs.Levels.{Level, plain}
 use Rattle.amqp_types.specs.Judging.{Fault, Judged, Judge, IsExact, took, past, fault, IsBytes}
 use Rattle.amqp_types.specs.MethodSpelling.{SpellsPayload}
 use Rattle.amqp_types.specs.ValueJudging.{read_map}
-use Rattle.amqp_types.specs.Writing.{written, Puts}
-use Rattle.amqp_types.specs.Methods.{Method, judge_payload, payload_bytes}
-use Rattle.amqp_types.specs.ContentHeaders.{ContentHeader, SpellsContentHeader, judge_content_header, content_header_bytes}
+use Rattle.amqp_types.specs.Writing.{Puts}
+use Rattle.amqp_types.specs.Methods.{judge_payload, payload_bytes}
+use Rattle.amqp_types.specs.ContentHeaders.{SpellsContentHeader, judge_content_header, content_header_bytes}
 use Rattle.amqp_values.proofs.MethodLaws.{payloads_lawful}
 use Rattle.amqp_properties.proofs.HeaderLaws.{content_headers_lawful}
 use Rattle.amqp_types.proofs.Puts.{puts_then}
 use Rattle.amqp_canonical.specs.Writes.{IsRead, canonical_of, used_of}
 use Rattle.amqp_canonical.specs.WritingLaws.{IsNoLonger}
 use Rattle.amqp_canonical.proofs.NoLonger.{payloads_no_longer, content_headers_no_longer}
-use Rattle.amqp_canonical.proofs.PutParts.{written_before}
 use Rattle.amqp_frame.specs.declared.frame_type.AMQPFrameType.{AMQPFrameType}
 use Rattle.amqp_frame.specs.declared.frame_type.AMQPFrameType.TheVariants as kinds
 use Rattle.amqp_frame.specs.declared.judging.FrameJudgement.{FrameJudgement}
 use Rattle.amqp_frame.specs.Frames.{Frame, Proto, Meth, Head, Body, Raw, beat_on}
-use Rattle.amqp_frame.specs.Spelling.{head, framed, proto}
+use Rattle.amqp_frame.specs.Spelling.{framed}
 use Rattle.amqp_frame.specs.Canonical.{canon, payload_of}
 use Rattle.amqp_frame.specs.Judgements.{IsJudged}
 use Rattle.amqp_frame.specs.Rewrites.{Rewrites}
-use Rattle.amqp_frame.specs.Verdicts.{all_of, filling, is_written_for, whole, whole_as}
+use Rattle.amqp_frame.specs.Verdicts.{all_of, is_written_for, whole, whole_as}
 use Rattle.amqp_frame.proofs.Payloads.{filled_took}
-use Rattle.amqp_frame.proofs.Sizes.{framed_length}
 
--- ---- a frame around a payload that was put first
-
-pub puts_around : (before mid front_put new : List ℕ) (at end place final type channel : ℕ) (front payload : List ℕ) → front ≡ head type channel (end - at - 7) → at + length (framed type channel payload) ≤ length before
-    → Puts before mid (at + 7) payload end → Puts mid front_put at front place → Puts front_put new end (206 ∷ []) final → Puts before new at (framed type channel payload) final
-puts_around before mid front_put new at end place final type channel front payload is room inner first last =
-    let count : end - at - 7 ≡ length payload = omega (arith, inner.behind) in
-    let front_is : front ≡ head type channel (length payload) = is ∙ ap (head type channel) count in
-    let seven : length front ≡ 7 = ap length front_is in
-    let fits : at + (length payload + 8) ≤ length before = omega (arith, framed_length type channel payload, room) in
-    let both : Puts before front_put at (front ++ payload) end = record {
-      put = first.put ∙ ap (λ buf. written buf at front) inner.put ∙ written_before before front payload at (at + 7) (omega (arith, seven)) (omega (arith, fits));
-      behind = omega (arith, inner.behind, seven, length-append front payload);
-    } in
-    let all : Puts before new at ((front ++ payload) ++ 206 ∷ []) final = puts_then before front_put new at end final (front ++ payload) (206 ∷ []) (omega (arith, fits, seven, length-append front payload, length-append (front ++ payload) (206 ∷ []))) both last in
-    let P : List ℕ → Type 0 = λ bs. Puts before new at bs final in
-    subst P (append_assoc front payload (206 ∷ []) ∙ ap (λ (xs : List ℕ). xs ++ (payload ++ 206 ∷ [])) front_is) all
-
--- ---- what a payload was judged to be
+-- ---- what a payload was decoded to be
 
 mapped : {A : Type 0} (make : A → Frame) (r : Result A Fault) (f : Frame) → read_map make r ≡ Ok f → (x : A) × (r ≡ Ok x) × (make x ≡ f)
 mapped make (Ok x) f h = (x, refl, cc)
@@ -100,7 +79,7 @@ method_shorter payload fits read = omega (arith, payloads_no_longer payload fits
 pub header_shorter : (payload : List ℕ) → IsBytes payload → IsRead (judge_content_header payload) → length (canonical_of content_header_bytes (judge_content_header payload)) ≤ length payload
 header_shorter payload fits read = omega (arith, content_headers_no_longer payload fits read, used_within judge_content_header SpellsContentHeader payload fits content_headers_lawful.exact read)
 
--- ---- the frame that was judged, put
+-- ---- the frame that was decoded, put
 
 -- a payload that stands in its canonical bytes is the one that is written
 written_of : (raw : Raw) (found : FrameJudgement) (h : IsJudged raw found) → found.canonical ≡ true → raw.payload ≡ payload_of h.frame

@@ -1,4 +1,4 @@
--- Rows are what is cut from the front, and the longest of them.
+-- Sequences are what is cut from the front, and the longest of them.
 use Rattle.std.proofs.Common.{◌≡◌, ℕ, zero, suc, ◌≤◌, List, [], ◌∷◌, ◌++◌, length, take, drop, append_assoc, append-nil, Option, None, refl, sym, ap, subst, ◌∙◌, arith}
 use Rattle.std.proofs.lemmas.List.{length-drop, length-append, take-append-drop, take_all, drop_at, length-take-le, nil_from_length}
 use Rattle.amqp_types.specs.Levels.{Level}
@@ -25,7 +25,7 @@ verdict_exact level m = record {
 pub no_frame_begins : (level : Level) (bytes rest : List ℕ) (f g : Frame) → Spells level bytes f → Spells level (bytes ++ rest) g → rest ≡ []
 no_frame_begins level bytes rest f g s t = none_begins (verdict level None) (SpellsWithin level None) (verdict_exact level None) bytes rest f g (s, tt) (t, tt)
 
--- ---- a row is what is cut from the front, whatever follows it
+-- ---- a sequence is what is cut from the front, whatever follows it
 
 Precedes-first : (level : Level) (m : Option ℕ) (first rest : List ℕ) (f : Frame) (frames : List Frame) → verdict level m first ≡ took f (length first) → Precedes level m rest frames → Precedes level m (first ++ rest) (f ∷ frames)
 Precedes-first level m first rest f frames e p =
@@ -43,7 +43,7 @@ Row-precedes level m bytes (f ∷ fs) r =
     let found = verdict-spelled level m first f r.3 r.4 in
     subst (λ (xs : List ℕ). Precedes level m xs (f ∷ fs)) (sym r.2) (Precedes-first level m first r.1 f fs found (Row-precedes level m r.1 fs r.5))
 
--- the front of a row is the row, and nothing follows it
+-- the front of a sequence is the sequence, and nothing follows it
 pub row_front : (level : Level) (m : Option ℕ) (bytes : List ℕ) (frames : List Frame) → Row level m bytes frames → front level m bytes ≡ frames
 row_front level m bytes frames r = ap (front level m) (sym (append-nil bytes)) ∙ (Row-precedes level m bytes frames r).row [] ∙ ap (λ (fs : List Frame). frames ++ fs) (front-none level m) ∙ append-nil frames
 
@@ -71,7 +71,7 @@ splits_stop level m bytes s =
       stop = subst (λ (xs : List ℕ). IsStop (verdict level m xs)) (sym at.1) s;
     }
 
--- the front and what was used behind a first frame
+-- the front and what was used after a first frame
 parts_behind : (level : Level) (m : Option ℕ) (bytes used : List ℕ) (f : Frame) (k : ℕ) → GoesOn level m bytes f (drop k bytes) → drop k bytes ≡ used ++ place level m (drop k bytes) → bytes ≡ (take k bytes ++ used) ++ place level m bytes
 parts_behind level m bytes used f k goes parts =
     sym (take-append-drop k bytes) ∙ ap (λ (xs : List ℕ). take k bytes ++ xs) parts ∙ sym (append_assoc (take k bytes) used (place level m (drop k bytes))) ∙ ap (λ (xs : List ℕ). (take k bytes ++ used) ++ xs) (sym goes.after)
@@ -101,7 +101,7 @@ splits_of level m bytes = splits_by level m (length bytes) bytes (omega arith)
 place-length : (level : Level) (m : Option ℕ) (bytes : List ℕ) → length (place level m bytes) ≤ length bytes
 place-length level m bytes = let s = splits_of level m bytes in omega (arith, ap length s.parts, length-append s.used (place level m bytes))
 
--- ---- the front is a row, and the longest
+-- ---- the front is a sequence, and the longest
 
 pub record FrontIsRow (level : Level) (m : Option ℕ) (bytes : List ℕ) : Type 0 where
   pub used : List ℕ

@@ -1,4 +1,4 @@
--- What spells a frame is judged to be it.
+-- What encodes a frame is decoded to be it.
 use Rattle.std.proofs.Common.{◌≡◌, ℕ, ◌+◌, ◌^◌, ◌<◌, true, false, List, [], ◌∷◌, ◌++◌, length, get_or, take, drop, append_assoc, Option, Some, None, Ok, refl, sym, ap, subst, ◌∙◌, arith}
 use Rattle.std.proofs.lemmas.Bool.{le-ltb, ne_eqb}
 use Rattle.std.proofs.lemmas.List.{length-append, take_at, take_all, get_or_at}
@@ -51,7 +51,7 @@ judge_raw-spelled m kind type channel payload channel_fits length_fits within =
     let content : take (length payload) (drop 6 rest) ≡ payload = take_at payload (206 ∷ []) (length payload) refl in
     rw (le-ltb (length rest) 6 (omega arith), size, low, le-ltb (length rest) (length payload + 7) (omega arith), end, on, content) refl
 
--- a frame of this type stands at the front of its spelling
+-- a frame of this type stands at the front of its encoding
 outer-spelled : (m : Option ℕ) (kind : AMQPFrameType) (type channel : ℕ) (bytes payload : List ℕ) → type_of type ≡ Some kind → ((rest : List ℕ) → behind_type m kind rest ≡ judge_raw m kind rest) → IsFramed bytes type channel payload → IsWithin m bytes → outer m bytes ≡ took (raw_as kind channel payload) (length bytes)
 outer-spelled m kind type channel bytes payload is_type is_raw f within =
     let in_limit : IsWithin m (framed type channel payload) = subst (IsWithin m) f.bytes_are within in
@@ -137,7 +137,7 @@ header_at plain channel payload header s = refl
 header_at tidy channel payload header s = header_is_at tidy payload header s
 header_at strict channel payload header s = ap (λ read. is_written_for read payload) (header_as_whole strict channel payload header s) ∙ header_is_at strict payload header s
 
--- a judgement by its parts
+-- a decoding by its parts
 judged-parts : (level : Level) (raw : Raw) (n : ℕ) (f : Frame) → is_at level raw ≡ true → whole_as raw.kind raw.channel raw.payload ≡ Ok f → judged level (took raw n) ≡ took f n
 judged-parts level raw n f at_level is_whole = ap (λ t. judged_frame t (whole_as raw.kind raw.channel raw.payload) n) at_level ∙ ap (λ r. judged_frame true r n) is_whole
 

@@ -1,4 +1,4 @@
--- The levels, the one strict spelling, and that it is shortest.
+-- The levels, the one strict encoding, and that it is shortest.
 use Rattle.std.proofs.Common.{◌≡◌, subst, sym, ◌↔◌, ℕ, ◌-◌, ◌^◌, ◌<◌, ◌≤◌, Bool, true, false, ◌||◌, List, [], ◌∷◌, ◌++◌, length, Option, Some, None, Ok, refl, ap, ap₂, ◌∙◌, arith}
 use Rattle.std.proofs.lemmas.Bool.{le-ltb}
 use Rattle.std.proofs.lemmas.List.{length-append}
@@ -28,7 +28,7 @@ beat_strict_tidy bytes channel s = record { payload = s.payload; is_framed = s.i
 beat_tidy_plain : (bytes : List ℕ) (channel : ℕ) → IsBeat tidy bytes channel → IsBeat plain bytes channel
 beat_tidy_plain bytes channel s = record { payload = s.payload; is_framed = s.is_framed; at_level = tt }
 
--- what carries something at a level carries it at another, where its payload spells it there
+-- what carries something at a level carries it at another, where its payload encodes it there
 carries_too : {A : Type 0} (One Other : List ℕ → A → Type 0) (type : ℕ) (bytes : List ℕ) (channel : ℕ) (x : A) → ((payload : List ℕ) → One payload x → Other payload x) → Carries One type bytes channel x → Carries Other type bytes channel x
 carries_too One Other type bytes channel x into s = record { payload = s.payload; is_framed = s.is_framed; spelled = into s.payload s.spelled }
 
@@ -150,7 +150,7 @@ not_long bytes (BadBeat channel) s = refl
 has_size : (deep long : Bool) (bytes : List ℕ) → deep ≡ false → long ≡ false → measured deep long bytes ≡ Ok (length bytes)
 has_size deep long bytes p q = rw (p, q) refl
 
--- what was spelled has a size, which is no more than its spelling's
+-- what was encoded has a size, which is no more than its encoding's
 pub spelled_sized : (bytes : List ℕ) (f : Frame) → Spells plain bytes f → IsSizedWithin (size_of f) (canon f) (length bytes)
 unfolding size_of
 spelled_sized bytes f s = record { sized = has_size (is_deep f) (is_long f) (canon f) (not_deep bytes f s) (not_long bytes f s); shorter = canon_short bytes f s }
@@ -159,7 +159,7 @@ within_short : (m : Option ℕ) (short bytes : List ℕ) → length short ≤ le
 within_short None short bytes h w = tt
 within_short (Some m) short bytes h w = omega arith
 
--- ---- rows
+-- ---- sequences
 
 row_is_plain : (level : Level) (m : Option ℕ) (bytes : List ℕ) (frames : List Frame) → Row level m bytes frames → Row plain m bytes frames
 row_is_plain level m bytes [] r = r
@@ -209,7 +209,7 @@ gives_itself level m bytes fits =
       same = ap canon_row (row_front plain m (canon_row frames) frames again);
     }
 
--- rows with equal canonical bytes are spelled by them strictly, and so are one
+-- sequences with equal canonical bytes are encoded by them strictly, and so are one
 pub same_frames : (level : Level) (m : Option ℕ) (a b : List ℕ) (fs gs : List Frame) → Row level m a fs → Row level m b gs → (canon_row fs ≡ canon_row gs) ↔ (fs ≡ gs)
 same_frames level m a b fs gs r s =
     (λ e. one_row strict m (canon_row fs) fs gs (one_strict level m a fs r).canonical (subst (λ (bytes : List ℕ). Row strict m bytes gs) (sym e) (one_strict level m b gs s).canonical), λ e. ap canon_row e)

@@ -18,7 +18,7 @@ outer-bytes kinds.Header channel payload other on few = outer-header None (frame
 outer-bytes kinds.Body channel payload other on few = outer-body None (framed 3 channel payload) channel payload (record { channel_fits = on; length_fits = few; bytes_are = refl }) tt
 outer-bytes kinds.Heartbeat channel payload other on few = outer-beat None (framed 8 channel payload) channel payload (record { channel_fits = on; length_fits = few; bytes_are = refl }) tt
 
--- a frame is spelled tidily by its bytes exactly where the test holds
+-- a frame is encoded tidily by its bytes exactly where the test holds
 framed_told : (kind : AMQPFrameType) (channel : ℕ) (payload : List ℕ) (frame : Frame) → kind ≢ kinds.ProtocolHeader → IsBytes payload → channel < 2 ^ 16 → length payload < 2 ^ 32
     → IsFramed (bytes_as kind channel payload) (byte_of kind) channel payload → whole_as kind channel payload ≡ Ok frame
     → (is_at tidy (raw_as kind channel payload) ≡ true) ↔ Spells tidy (bytes_as kind channel payload) frame

@@ -29,7 +29,7 @@ use Rattle.amqp_frame.proofs.Strictness.{spelled_sized}
 
 -- ---- sizes
 
--- a frame around the payload is spelled by eight bytes more
+-- a frame around the payload is encoded by eight bytes more
 around : (kind : AMQPFrameType) (channel : ℕ) (payload : List ℕ) (f : Frame) → (kind ≡ kinds.ProtocolHeader → ⊥) → channel < 2 ^ 16 → IsBytes payload → length payload < 2 ^ 32 → whole_as kind channel payload ≡ Ok f → IsSizedWithin (size_of f) (canon f) (length payload + 8)
 around kind channel payload f other on fits few e =
     let bytes = framed (byte_of kind) channel payload in
@@ -68,7 +68,7 @@ frame_within bytes (Err error) fits h = tt
 
 -- ---- errors
 
--- a fault of what stands in a whole payload, or behind it
+-- a fault of what stands in a whole payload, or after it
 abbrev pub IsWhole : Fault → Type 0
 IsWhole trailing_bytes = Unit {0}
 IsWhole bad = IsInside bad

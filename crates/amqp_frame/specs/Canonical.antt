@@ -1,4 +1,4 @@
--- The one spelling of a frame that is written, and what refuses to be written.
+-- The canonical bytes of frames, how many they are, and which frames are not written.
 use Rattle.std.specs.Prelude.{◌≡◌, ℕ, ◌-◌, ◌+◌, ◌^◌, ◌<◌, nat_lt, Bool, false, ◌||◌, List, [], ◌∷◌, length, if◌then◌else◌, Result, Ok, Err}
 use Rattle.std.specs.List.{flat_map}
 use Rattle.amqp_types.specs.Sizes.{measured}
@@ -12,7 +12,7 @@ use Rattle.amqp_types.specs.declared.errors.GenError.TheVariants as errors
 use Rattle.amqp_frame.specs.Frames.{Frame, Proto, Meth, Head, Body, Beat, BadBeat, beat_on}
 use Rattle.amqp_frame.specs.Spelling.{framed, proto}
 
--- the payload as it is written: a heartbeat carries none
+-- the payload as it is written: a heartbeat has none
 abbrev pub payload_of : Frame → List ℕ
 payload_of (Proto major minor revision) = major ∷ minor ∷ revision ∷ []
 payload_of (Meth channel m) = payload_bytes m
@@ -21,7 +21,7 @@ payload_of (Body channel content) = content
 payload_of Beat = []
 payload_of (BadBeat channel) = []
 
--- the canonical bytes
+-- the canonical bytes of a frame
 unfoldable pub canon : Frame → List ℕ
 canon (Proto major minor revision) = proto major minor revision
 canon (Meth channel m) = framed 1 channel (payload_bytes m)
@@ -30,10 +30,11 @@ canon (Body channel content) = framed 3 channel content
 canon Beat = framed 8 0 []
 canon (BadBeat channel) = framed 8 channel []
 
+-- the canonical bytes of a sequence
 abbrev pub canon_row : List Frame → List ℕ
 canon_row frames = flat_map canon frames
 
--- tables and arrays nest more than 64 deep in it
+-- tables and arrays nest more than 64 deep in the frame
 abbrev pub is_deep : Frame → Bool
 is_deep (Meth channel m) = any_deep m.items
 is_deep (Head channel header) = any_deep_option header.options
@@ -43,7 +44,7 @@ is_deep frame = false
 abbrev pub is_long_for : List ℕ → Bool
 is_long_for bytes = nat_lt (2 ^ 32 - 1) (length bytes)
 
--- such a length is that of something in it, or of its payload
+-- something in the frame has such a length, or its payload has
 abbrev pub is_long : Frame → Bool
 is_long (Meth channel m) = any_long m.items || is_long_for (payload_bytes m)
 is_long (Head channel header) = any_long_option header.options || is_long_for (content_header_bytes header)
@@ -59,12 +60,12 @@ abbrev pub framed_size : Result ℕ GenError → Result ℕ GenError
 framed_size (Ok n) = if nat_lt (2 ^ 32 - 1) n then Err errors.TooLong else Ok (n + 8)
 framed_size (Err error) = Err error
 
--- The frame that is read back: a bad heartbeat on channel 0 is written as a heartbeat.
+-- The frame that the canonical bytes are decoded to: a bad heartbeat on channel 0 is written as a heartbeat.
 abbrev pub read_back : Frame → Frame
 read_back (BadBeat channel) = beat_on channel
 read_back frame = frame
 
--- What a call that puts canonical bytes at the front of a slice answers and leaves.
+-- What a call that puts canonical bytes at the front of a slice returns, and what it leaves in the slice.
 abbrev pub SliceAnswers : List ℕ → List ℕ → Result ℕ GenError → List ℕ → Result ℕ GenError → Type 0
 SliceAnswers old new size bytes (Ok n) = (size ≡ Ok n) × (n ≡ length bytes) × (new ≡ written old 0 bytes)
 SliceAnswers old new size bytes (Err errors.BufferTooSmall) = (size ≡ Ok (length bytes)) × (length old < length bytes) × (new ≡ old)

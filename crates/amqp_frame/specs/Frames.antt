@@ -20,15 +20,17 @@ pub data Frame : Type 0 where
   Beat : Frame
   BadBeat : (channel : ℕ) → Frame
 
--- a whole frame whose payload has not been looked into
+-- a whole frame whose payload is not decoded
 pub record Raw : Type 0 where
   pub kind : AMQPFrameType
   pub channel : ℕ
   pub payload : List ℕ
 
+-- a content header as contracts see it
 abbrev pub header_of : AMQPContentHeader → ContentHeader
 header_of header = record { class_id = header.class_id; body_size = header.body_size; options = options header.properties }
 
+-- a frame as contracts see it
 abbrev pub frame_of : AMQPFrame → Frame
 frame_of (frames.ProtocolHeader version) = Proto version.major version.minor version.revision
 frame_of (frames.Method channel class) = Meth channel (method_of class)
@@ -37,9 +39,11 @@ frame_of (frames.Body channel content) = Body channel content
 frame_of frames.Heartbeat = Beat
 frame_of (frames.InvalidHeartbeat channel) = BadBeat channel
 
+-- a borrowed frame as contracts see it
 abbrev pub raw_of : AMQPRawFrame → Raw
 raw_of raw = record { kind = raw.frame_type; channel = raw.channel_id; payload = raw.payload.now }
 
+-- the channel, 0 for a protocol header and a heartbeat
 abbrev pub channel_id_of : Frame → ℕ
 channel_id_of (Proto major minor revision) = 0
 channel_id_of (Meth channel m) = channel
@@ -48,7 +52,7 @@ channel_id_of (Body channel content) = channel
 channel_id_of Beat = 0
 channel_id_of (BadBeat channel) = channel
 
--- a content header
+-- the frame is a content header
 abbrev pub IsHeader : Frame → Type 0
 IsHeader (Head channel header) = Unit {0}
 IsHeader frame = ⊥
@@ -65,7 +69,7 @@ IsTyped kinds.ProtocolHeader = ⊥
 IsTyped kinds.Body = ⊥
 IsTyped kinds.Heartbeat = ⊥
 
--- what is read of such a frame holds memory of its own
+-- what such a frame is decoded to owns memory
 abbrev pub OwnsMemory : AMQPFrameType → Type 0
 OwnsMemory kinds.Body = Unit {0}
 OwnsMemory kind = IsTyped kind

@@ -1,4 +1,4 @@
--- Laws of frames and rows.
+-- Laws of frames and sequences.
 use Rattle.std.specs.Prelude.{◌≡◌, ◌≢◌, ◌↔◌, ℕ, ◌+◌, ◌≤◌, ◌<◌, ◌^◌, false, List, [], ◌∷◌, ◌++◌, length, Option, Some, None, Ok}
 use Rattle.std.specs.List.{AllByRecursion}
 use Rattle.amqp_types.specs.Levels.{Level, plain, tidy, strict}
@@ -17,23 +17,23 @@ use Rattle.amqp_frame.specs.Canonical.{canon, canon_row, is_deep, is_long, size_
 use Rattle.amqp_frame.specs.Verdicts.{verdict}
 use Rattle.amqp_frame.specs.Fronts.{front, place}
 
--- no bytes spell two rows at one level
+-- no bytes encode two sequences at one level
 abbrev pub OneMeaning : Type 0
 OneMeaning = (level : Level) (m : Option ℕ) (bytes : List ℕ) (fs gs : List Frame) → Row level m bytes fs → Row level m bytes gs → fs ≡ gs
 
--- no spelling of a frame is a proper front of a spelling of a frame
+-- no encoding of a frame is a proper front of an encoding of a frame
 abbrev pub NoFrameBeginsAnother : Type 0
 NoFrameBeginsAnother = (level : Level) (bytes rest : List ℕ) (f g : Frame) → Spells level bytes f → Spells level (bytes ++ rest) g → rest ≡ []
 
--- a frame that is spelled within a limit
+-- a frame that is encoded within a limit
 abbrev pub SpellsWithin : Level → Option ℕ → List ℕ → Frame → Type 0
 SpellsWithin level m bytes frame = Spells level bytes frame × IsWithin m bytes
 
--- a verdict is a frame exactly where the first bytes spell it within the limit
+-- a verdict is a frame exactly where the first bytes encode it within the limit
 abbrev pub VerdictsAreSpellings : Type 0
 VerdictsAreSpellings = (level : Level) (m : Option ℕ) → IsExact (verdict level m) (SpellsWithin level m)
 
--- a verdict other than that more is wanted stays, whatever follows
+-- a verdict other than incomplete stays, whatever follows
 abbrev pub VerdictsAreStable : Type 0
 VerdictsAreStable = (level : Level) (m : Option ℕ) (bytes rest : List ℕ) → verdict level m bytes ≢ past → verdict level m (bytes ++ rest) ≡ verdict level m bytes
 
@@ -42,21 +42,23 @@ pub record LevelsNest : Type 0 where
   pub strict_is_tidy : (m : Option ℕ) (bytes : List ℕ) (frames : List Frame) → Row strict m bytes frames → Row tidy m bytes frames
   pub tidy_is_plain : (m : Option ℕ) (bytes : List ℕ) (frames : List Frame) → Row tidy m bytes frames → Row plain m bytes frames
 
--- what is spelled at any level has one strict spelling, its canonical bytes, within the same limit
+-- the canonical bytes are the one strict encoding of these frames, within the limit
 pub record HasOneStrict (m : Option ℕ) (frames : List Frame) : Type 0 where
   pub canonical : Row strict m (canon_row frames) frames
   pub only : (bytes : List ℕ) → Row strict m bytes frames → bytes ≡ canon_row frames
 
+-- what is encoded at any level has one strict encoding
 abbrev pub OneCanonicalSpelling : Type 0
 OneCanonicalSpelling = (level : Level) (m : Option ℕ) (bytes : List ℕ) (frames : List Frame) → Row level m bytes frames → HasOneStrict m frames
 
--- What programs hold: a method of the table with items of its slots, a content header with items of its properties, and numbers that
+-- What programs hold: a method of the table with items of its fields, a content header with items of its properties, and numbers that
 -- fit the bytes in which they are written.
 pub record IsMethodHeld (m : Method) : Type 0 where
   pub slots : List Slot
   pub known : slots_at m.class m.id ≡ Some slots
   pub held : AreSlotsHeld slots m.items
 
+-- what programs hold in a frame
 abbrev pub IsFrameHeld : Frame → Type 0
 IsFrameHeld (Proto major minor revision) = (major < 2 ^ 8) × (minor < 2 ^ 8) × (revision < 2 ^ 8)
 IsFrameHeld (Meth channel m) = (channel < 2 ^ 16) × IsMethodHeld m
@@ -65,50 +67,54 @@ IsFrameHeld (Body channel content) = channel < 2 ^ 16
 IsFrameHeld Beat = Unit {0}
 IsFrameHeld (BadBeat channel) = channel < 2 ^ 16
 
--- two rows, each read within a limit, have equal canonical bytes exactly where they are the same frames
+-- two sequences, each encoded within a limit, have equal canonical bytes exactly where they are the same frames
 abbrev pub EqualBytesAreEqualFrames : Type 0
 EqualBytesAreEqualFrames = (level : Level) (m : Option ℕ) (a b : List ℕ) (fs gs : List Frame) → Row level m a fs → Row level m b gs → (canon_row fs ≡ canon_row gs) ↔ (fs ≡ gs)
 
--- the canonical bytes of a frame are judged to be it, whatever follows, and no fewer bytes are
+-- the canonical bytes of a frame are decoded to it, whatever follows, and fewer bytes are incomplete
 pub record ReadsBack (level : Level) (frame : Frame) : Type 0 where
   pub whole : (rest : List ℕ) → verdict level None (canon frame ++ rest) ≡ took (read_back frame) (length (canon frame))
   pub fewer : (first rest : List ℕ) → canon frame ≡ first ++ rest → rest ≢ [] → verdict level None first ≡ past
 
+-- of each frame that is held, and neither too deep nor long
 abbrev pub CanonicalBytesReadBack : Type 0
 CanonicalBytesReadBack = (level : Level) (frame : Frame) → IsFrameHeld frame → size_of frame ≡ Ok (length (canon frame)) → ReadsBack level frame
 
--- canonical bytes are as short as any spelling, and no frame that was read is long or too deep
+-- canonical bytes are as short as these bytes, and no frame is long or too deep
 pub record IsShortest (bytes : List ℕ) (frames : List Frame) : Type 0 where
   pub shortest : length (canon_row frames) ≤ length bytes
   pub none_is_deep : AllByRecursion (λ frame. is_deep frame ≡ false) frames
   pub none_is_long : AllByRecursion (λ frame. is_long frame ≡ false) frames
 
+-- canonical bytes are as short as any encoding of the same frames
 abbrev pub CanonicalBytesAreShortest : Type 0
 CanonicalBytesAreShortest = (level : Level) (m : Option ℕ) (bytes : List ℕ) (frames : List Frame) → Row level m bytes frames → IsShortest bytes frames
 
--- the bytes begin with a row of these frames, as long as any, and then comes the rest
+-- the bytes begin with a sequence of these frames, as long as any, and then comes the rest
 pub record IsLongestRow (level : Level) (m : Option ℕ) (bytes : List ℕ) (frames : List Frame) (rest : List ℕ) : Type 0 where
   pub spelled : List ℕ
   pub parts : bytes ≡ spelled ++ rest
   pub row : Row level m spelled frames
   pub longest : (other more : List ℕ) (fs : List Frame) → bytes ≡ other ++ more → Row level m other fs → length other ≤ length spelled
 
+-- the front of some bytes is the longest sequence that they begin with
 abbrev pub FrontIsLongest : Type 0
 FrontIsLongest = (level : Level) (m : Option ℕ) (bytes : List ℕ) → IsBytes bytes → IsLongestRow level m bytes (front level m bytes) (place level m bytes)
 
--- what was written, given again, is taken whole and gives itself
+-- the bytes are decoded whole, and are the canonical bytes of their frames
 pub record GivesItself (m : Option ℕ) (bytes : List ℕ) : Type 0 where
   pub whole : place plain m bytes ≡ []
   pub same : canon_row (front plain m bytes) ≡ bytes
 
+-- what was written, given again, is decoded whole and written as itself
 abbrev pub WrittenAgain : Type 0
 WrittenAgain = (level : Level) (m : Option ℕ) (bytes : List ℕ) → IsBytes bytes → GivesItself m (canon_row (front level m bytes))
 
--- what was judged behind the first byte, with that byte
+-- what was decoded after the first byte, with that byte
 abbrev pub behind_first : Judged Raw → Judged Raw
 behind_first judged = judged >>= λ raw. took raw.0 (1 + raw.1)
 
--- The outer look without a limit is put together of its parts: the type byte, and behind it a version or a raw frame.
+-- The header scan without a limit is put together of its parts: the type byte, and after it a version or a raw frame.
 pub record OuterLookIsItsParts : Type 0 where
   pub none : outer None [] ≡ past
   pub unknown : (bytes : List ℕ) (bad : Fault) → judge_frame_type bytes ≡ fault bad → outer None bytes ≡ fault bad

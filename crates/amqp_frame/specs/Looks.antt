@@ -1,4 +1,4 @@
--- What a look at the front of some bytes says.
+-- What a header scan returns.
 use Rattle.std.specs.Prelude.{ℕ, ◌+◌, ◌-◌, ◌≤◌, List, length, take, drop}
 use Rattle.amqp_types.specs.Judging.{Judged, took, past, fault, unknown_frame_type, bad_protocol_header, too_large, bad_frame_end}
 use Rattle.amqp_frame.specs.declared.looking.Look.{Look}
@@ -6,7 +6,7 @@ use Rattle.amqp_frame.specs.declared.looking.Look.TheVariants as looks
 use Rattle.amqp_frame.specs.declared.looking.FrameLayout.{FrameLayout}
 use Rattle.amqp_frame.specs.Frames.{Raw}
 
--- what is judged, where a whole frame is judged by its layout
+-- what a scan says, where `frame` says it of a whole frame by its layout
 abbrev pub looked_by : (FrameLayout → Judged Raw) → Look → Judged Raw
 looked_by frame looks.Incomplete = past
 looked_by frame looks.UnknownFrameType = fault unknown_frame_type
@@ -15,10 +15,11 @@ looked_by frame looks.TooLarge = fault too_large
 looked_by frame looks.BadFrameEnd = fault bad_frame_end
 looked_by frame (looks.Whole layout) = frame layout
 
--- the frame that lies so in some bytes
+-- the frame with this layout in some bytes
 abbrev pub laid_out : FrameLayout → List ℕ → Raw
 laid_out layout bytes = record { kind = layout.frame_type; channel = layout.channel_id; payload = take layout.payload_len (drop layout.payload_start bytes) }
 
+-- what a scan of these bytes says
 abbrev pub looked : Look → List ℕ → Judged Raw
 looked look bytes = looked_by (λ layout. took (laid_out layout bytes) layout.frame_len) look
 
@@ -26,6 +27,7 @@ looked look bytes = looked_by (λ layout. took (laid_out layout bytes) layout.fr
 abbrev pub IsWithinBytes : ℕ → FrameLayout → Type 0
 IsWithinBytes count layout = (layout.payload_start + layout.payload_len ≤ layout.frame_len) × (layout.frame_len ≤ count)
 
+-- a frame that was found lies within the bytes
 abbrev pub IsInside : Look → List ℕ → Type 0
 IsInside (looks.Whole layout) bytes = IsWithinBytes (length bytes) layout
 IsInside looks.Incomplete bytes = Unit {0}
@@ -34,13 +36,15 @@ IsInside looks.BadProtocolHeader bytes = Unit {0}
 IsInside looks.TooLarge bytes = Unit {0}
 IsInside looks.BadFrameEnd bytes = Unit {0}
 
--- the same, of bytes whose first one is left out
+-- the frame with this layout, of bytes whose first one is left out
 abbrev pub laid_out_behind : FrameLayout → List ℕ → Raw
 laid_out_behind layout rest = record { kind = layout.frame_type; channel = layout.channel_id; payload = take layout.payload_len (drop (layout.payload_start - 1) rest) }
 
+-- what a scan says of bytes whose first one is left out
 abbrev pub looked_behind : Look → List ℕ → Judged Raw
 looked_behind look rest = looked_by (λ layout. took (laid_out_behind layout rest) (layout.frame_len - 1)) look
 
+-- a frame that was found lies within the bytes and the first one, which is not in its payload
 abbrev pub IsBehind : Look → List ℕ → Type 0
 IsBehind (looks.Whole layout) rest = (1 ≤ layout.payload_start) × IsWithinBytes (1 + length rest) layout
 IsBehind looks.Incomplete rest = Unit {0}

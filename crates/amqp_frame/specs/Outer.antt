@@ -1,4 +1,4 @@
--- The outer look: what stands at the front of some bytes, whatever its payload is (AMQP 0-9-1, sections 4.2.2 and 4.2.3).
+-- The header scan: what stands at the front of some bytes, whatever its payload is (AMQP 0-9-1, sections 4.2.2 and 4.2.3).
 use Rattle.std.specs.Prelude.{◌≡◌, ℕ, ◌+◌, ◌==◌, ◌&&◌, Bool, true, false, List, [], ◌∷◌, length, take, drop, slice_index, nat_lt, if◌then◌else◌, Option, Some, None}
 use Rattle.std.specs.Int.{w16, w32, from_be_bytes}
 use Rattle.amqp_types.specs.Judging.{Judged, Judge, took, past, fault, ◌>>=◌, unknown_frame_type, bad_protocol_header, too_large, bad_frame_end}
@@ -16,20 +16,23 @@ type_of b =
     else (if b == 3 then Some kinds.Body
     else (if b == 8 then Some kinds.Heartbeat else None))))
 
+-- a type byte is taken where it names a type
 abbrev pub known_type : Option AMQPFrameType → Judged AMQPFrameType
 known_type (Some kind) = took kind 1
 known_type None = fault unknown_frame_type
 
+-- the first byte of a frame, decoded
 abbrev pub judge_frame_type : Judge AMQPFrameType
 judge_frame_type [] = past
 judge_frame_type (b ∷ bytes) = known_type (type_of b)
 
--- each byte that is there is the one that is wanted
+-- the bytes begin as expected, as far as both go
 abbrev pub begins_as : List ℕ → List ℕ → Bool
 begins_as [] wanted = true
 begins_as (b ∷ bytes) [] = true
 begins_as (b ∷ bytes) (w ∷ wanted) = (b == w) && begins_as bytes wanted
 
+-- a version by its numbers
 abbrev pub version : ℕ → ℕ → ℕ → ProtocolVersion
 version major minor revision = record { major = major; minor = minor; revision = revision }
 
@@ -49,7 +52,7 @@ is_above n (Some m) = nat_lt m n
 abbrev pub payload_length : List ℕ → ℕ
 payload_length bytes = from_be_bytes w32 (take 4 (drop 2 bytes))
 
--- n bytes of payload behind channel and length, and then the end byte
+-- n bytes of payload after channel and length, and then the end byte 206
 unfoldable pub ended_payload : AMQPFrameType → List ℕ → ℕ → Judged Raw
 ended_payload kind bytes n =
     if nat_lt (length bytes) (n + 7) then past
@@ -67,6 +70,7 @@ judge_raw m kind bytes =
 abbrev pub version_raw : ProtocolVersion → Raw
 version_raw v = record { kind = kinds.ProtocolHeader; channel = 0; payload = v.major ∷ v.minor ∷ v.revision ∷ [] }
 
+-- what follows the `A` of a protocol header, seen as a frame
 abbrev pub version_at : Judge Raw
 version_at bytes = do
   v ← judge_version bytes

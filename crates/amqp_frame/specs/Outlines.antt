@@ -8,7 +8,7 @@ use Rattle.amqp_frame.specs.declared.outline.FrameOutline.{FrameOutline}
 use Rattle.amqp_frame.specs.declared.outline.FrameOutline.TheVariants as outlines
 use Rattle.amqp_frame.specs.Frames.{Frame, Proto, Meth, Head, Body, Beat, BadBeat}
 
--- the kind, channel, ids and sizes
+-- the kind, channel, ids and sizes of a frame
 abbrev pub outline_of : Frame → FrameOutline
 outline_of (Proto major minor revision) = outlines.ProtocolHeader
 outline_of (Meth channel m) = outlines.Method channel m.class m.id
@@ -29,7 +29,7 @@ outline_channel (outlines.Heartbeat channel) = channel
 abbrev pub long_long_at : ℕ → List ℕ → ℕ
 long_long_at place bytes = from_be_bytes w64 (take 8 (drop place bytes))
 
--- the outline of a frame of this type, out of its payload
+-- the outline of a frame of this type, by its payload
 abbrev pub outline_at : AMQPFrameType → ℕ → List ℕ → FrameOutline
 outline_at kinds.ProtocolHeader channel payload = outlines.ProtocolHeader
 outline_at kinds.Method channel payload = outlines.Method channel (short_at 0 payload) (short_at 2 payload)

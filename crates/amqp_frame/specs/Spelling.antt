@@ -1,4 +1,4 @@
--- All the bytes that are read as a frame, and as a row of frames (AMQP 0-9-1, sections 4.2.2 to 4.2.7).
+-- All the bytes that encode a frame, and a sequence of frames (AMQP 0-9-1, sections 4.2.2 to 4.2.7).
 use Rattle.std.specs.Prelude.{◌≡◌, ℕ, ◌+◌, ◌^◌, ◌<◌, ◌≤◌, List, [], ◌∷◌, ◌++◌, length, Option, Some, None}
 use Rattle.amqp_types.specs.Levels.{Level, plain, tidy, strict}
 use Rattle.amqp_types.specs.Numbers.{bytes2, bytes4, number_bytes}
@@ -8,7 +8,7 @@ use Rattle.amqp_frame.specs.declared.frame_type.AMQPFrameType.{AMQPFrameType}
 use Rattle.amqp_frame.specs.declared.frame_type.AMQPFrameType.TheVariants as kinds
 use Rattle.amqp_frame.specs.Frames.{Frame, Proto, Meth, Head, Body, Beat, BadBeat, Raw}
 
--- what stands in front of n bytes of payload
+-- type, channel and length, which come before n bytes of payload
 abbrev pub head : ℕ → ℕ → ℕ → List ℕ
 head type channel n = type ∷ (number_bytes bytes2 channel ++ number_bytes bytes4 n)
 
@@ -36,7 +36,7 @@ bytes_as kinds.Header channel payload = framed (byte_of kinds.Header) channel pa
 bytes_as kinds.Body channel payload = framed (byte_of kinds.Body) channel payload
 bytes_as kinds.Heartbeat channel payload = framed (byte_of kinds.Heartbeat) channel payload
 
--- all bytes of a lent frame
+-- all bytes of a borrowed frame
 abbrev pub raw_bytes : Raw → List ℕ
 raw_bytes raw = bytes_as raw.kind raw.channel raw.payload
 
@@ -46,24 +46,25 @@ pub record IsFramed (bytes : List ℕ) (type channel : ℕ) (payload : List ℕ)
   pub length_fits : length payload < 2 ^ 32
   pub bytes_are : bytes ≡ framed type channel payload
 
--- A heartbeat may carry bytes, which mean nothing. Only at plain are they taken.
+-- A heartbeat may have bytes, which mean nothing. Only at plain are they taken.
 abbrev pub IsBeatPayload : Level → List ℕ → Type 0
 IsBeatPayload plain payload = Unit {0}
 IsBeatPayload tidy payload = payload ≡ []
 IsBeatPayload strict payload = payload ≡ []
 
+-- a heartbeat on this channel
 pub record IsBeat (level : Level) (bytes : List ℕ) (channel : ℕ) : Type 0 where
   pub payload : List ℕ
   pub is_framed : IsFramed bytes 8 channel payload
   pub at_level : IsBeatPayload level payload
 
--- a frame of this type, whose payload spells what it carries
+-- a frame of this type, whose payload encodes what it carries
 pub record Carries {A : Type 0} (Spelled : List ℕ → A → Type 0) (type : ℕ) (bytes : List ℕ) (channel : ℕ) (carried : A) : Type 0 where
   pub payload : List ℕ
   pub is_framed : IsFramed bytes type channel payload
   pub spelled : Spelled payload carried
 
--- these bytes spell the frame
+-- these bytes encode the frame
 abbrev pub Spells : Level → List ℕ → Frame → Type 0
 Spells level bytes (Proto major minor revision) = bytes ≡ proto major minor revision
 Spells level bytes (Meth channel m) = Carries (SpellsPayload level) 1 bytes channel m
@@ -77,7 +78,7 @@ abbrev pub IsWithin : Option ℕ → List ℕ → Type 0
 IsWithin None bytes = Unit {0}
 IsWithin (Some m) bytes = length bytes ≤ m + 8
 
--- the bytes spell these frames, one after another, each within the limit
+-- the bytes encode these frames, one after another, each within the limit
 abbrev pub Row : Level → Option ℕ → List ℕ → List Frame → Type 0
 Row level m bytes [] = bytes ≡ []
 Row level m bytes (f ∷ fs) = (first rest : List ℕ) × (bytes ≡ first ++ rest) × Spells level first f × IsWithin m first × Row level m rest fs

@@ -1,4 +1,4 @@
--- What a whole payload is, and what stands at the front of some bytes once it is read.
+-- Verdicts: what a whole payload encodes, and what stands at the front of some bytes, with its payload.
 use Rattle.std.specs.Prelude.{ℕ, ◌==◌, Bool, true, false, List, [], ◌∷◌, length, Option, Result, Ok, Err, if◌then◌else◌}
 use Rattle.std.specs.Str.{bytes_eq}
 use Rattle.amqp_types.specs.Levels.{Level, plain, tidy, strict}
@@ -21,17 +21,17 @@ IsTaken (took x n) = Unit {0}
 IsTaken past = ⊥
 IsTaken (fault bad) = ⊥
 
--- What is read of a payload of n bytes that are all there: what would want more is short, and bytes behind what was taken trail.
+-- What a payload of n bytes encodes, all of which are there: what is incomplete is short, and bytes after what was taken trail.
 abbrev pub filling : {A : Type 0} → ℕ → Judged A → Result A Fault
 filling n past = Err short_payload
 filling n (fault bad) = Err bad
 filling n (took x used) = if used == n then Ok x else Err trailing_bytes
 
--- what is judged of all of the payload
+-- all of the payload, decoded
 abbrev pub all_of : {A : Type 0} → Judge A → List ℕ → Result A Fault
 all_of judge payload = filling (length payload) (judge payload)
 
--- the frame that a payload is, or why it is none
+-- the frame that a payload of this type encodes, or its fault
 unfoldable pub whole_as : AMQPFrameType → ℕ → List ℕ → Result Frame Fault
 whole_as kinds.ProtocolHeader channel [] = Err short_payload
 whole_as kinds.ProtocolHeader channel (a ∷ []) = Err short_payload
@@ -43,10 +43,11 @@ whole_as kinds.Header channel payload = read_map (λ header. Head channel header
 whole_as kinds.Body channel payload = Ok (Body channel payload)
 whole_as kinds.Heartbeat channel payload = Ok (beat_on channel)
 
+-- the frame that a whole payload encodes, or its fault
 abbrev pub whole : Raw → Result Frame Fault
 whole raw = whole_as raw.kind raw.channel raw.payload
 
--- the errors of a whole payload: none is of the frame around it, and none wants more
+-- the errors of a whole payload: none is of the frame around it, or incomplete
 abbrev pub IsPayloadError : ParserError → Type 0
 IsPayloadError errors.Incomplete = ⊥
 IsPayloadError errors.UnknownFrameType = ⊥
@@ -54,7 +55,7 @@ IsPayloadError errors.BadProtocolHeader = ⊥
 IsPayloadError errors.BadFrameEnd = ⊥
 IsPayloadError error = Unit {0}
 
--- what reading drops of a whole payload stands as it is written
+-- what decoding drops of a whole payload stands as it is written
 unfoldable pub is_tidy_as : AMQPFrameType → List ℕ → Bool
 is_tidy_as kinds.ProtocolHeader payload = true
 is_tidy_as kinds.Method payload = is_tidy_payload payload
@@ -67,18 +68,19 @@ abbrev pub is_written_for : Result Frame Fault → List ℕ → Bool
 is_written_for (Ok frame) payload = bytes_eq payload (payload_of frame)
 is_written_for (Err bad) payload = true
 
--- a whole frame is spelled at this level
+-- a whole frame is encoded at this level
 abbrev pub is_at : Level → Raw → Bool
 is_at plain raw = true
 is_at tidy raw = is_tidy_as raw.kind raw.payload
 is_at strict raw = is_written_for (whole raw) raw.payload
 
--- A fault of the payload comes before that of not being tidy.
+-- the verdict on a whole frame: a fault of the payload comes before that of not being tidy
 abbrev pub judged_frame : Bool → Result Frame Fault → ℕ → Judged Frame
 judged_frame true (Ok frame) used = took frame used
 judged_frame false (Ok frame) used = fault not_tidy
 judged_frame at_level (Err bad) used = fault bad
 
+-- the verdict, by the header scan
 abbrev pub judged : Level → Judged Raw → Judged Frame
 judged level past = past
 judged level (fault bad) = fault bad

@@ -1,4 +1,6 @@
-ghost use Rattle.std.specs.Prelude.{◌≡◌};
+//! Channels by their numbers (AMQP 0-9-1, section 4.2.3).
+
+ghost use Rattle.std.specs.Prelude.{◌≡◌, ℕ};
 ghost use Rattle.amqp_frame.specs.Channels.{channel_of, channel_number};
 
 use amqp_types::ChannelId;
@@ -16,7 +18,10 @@ pub enum AMQPChannel {
 impl AMQPChannel {
     /// The number on the wire, 0 for the connection itself.
     pub fn get_id(self) -> ChannelId
-        ensures { result ≡ channel_number self }
+        ensures number { result ≡ channel_number self }
+
+        // The channel that `from` makes of an id gives back that id.
+        ensures given { (id : ℕ) → self ≡ channel_of id → result ≡ id }
     {
         match self {
             AMQPChannel::Global => 0,
@@ -26,7 +31,7 @@ impl AMQPChannel {
 }
 
 impl From<ChannelId> for AMQPChannel {
-    ghost from_gives = { λ id channel. channel ≡ channel_of id };
+    ghost from_gives = { λ id channel. (channel ≡ channel_of id) × (channel_number channel ≡ id) };
 
     fn from(id: ChannelId) -> AMQPChannel {
         if id == 0 {

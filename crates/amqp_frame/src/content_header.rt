@@ -1,4 +1,5 @@
-//! Content headers: what a message says of itself, between the method that carries it and its body.
+//! Content headers (AMQP 0-9-1, section 4.2.6.1): what a message says of itself, between the method that carries it and its
+//! body.
 
 ghost use Rattle.std.specs.Prelude.{◌≡◌, ◌^◌, ◌≤◌, ◌∷◌, [], length, IfOk};
 ghost use Rattle.amqp_types.specs.Calls.{Parses, Measures, HasRoom};
@@ -14,10 +15,10 @@ use amqp_types::{GenError, Identifier, NoMemory, ParserError, PayloadSize, put_b
 use amqp_values::SlotReader;
 use std::alloc::Global;
 
-/// What a message says of itself.
+/// What a message says of itself: class, body size and properties.
 #[derive(Debug, PartialEq, Drop)]
 pub struct AMQPContentHeader {
-    /// The class of the method that carries the message. Any number is taken.
+    /// The class of the method that carries the message. Any number is decoded.
     pub class_id: Identifier,
 
     /// The size in bytes of the whole body.
@@ -28,7 +29,7 @@ pub struct AMQPContentHeader {
 }
 
 impl AMQPContentHeader {
-    /// An equal content header of its own.
+    /// A deep copy.
     pub fn copy(&self, alloc: Global) -> Result<AMQPContentHeader, NoMemory>
         ensures { IfOk result (λ copied. copied ≡ self.now) }
     {
@@ -40,8 +41,7 @@ impl AMQPContentHeader {
     }
 }
 
-/// Reads what stands in front of the properties: a class id, a weight, which is dropped, and the size
-/// of the body.
+/// Decodes what comes before the properties: a class id, a weight, which is dropped, and the size of the body in bytes.
 #[tactic(auto, using(amqp_types::proofs::Judged::refuses_next), unfolding(amqp_types::specs::SlotJudging::judge_slots, amqp_types::specs::ContentHeaders::header_slots))]
 fn read_start(slots: &mut SlotReader<'_>) -> Result<(Identifier, PayloadSize), ParserError>
     ensures step { Steps (λ start. number_item start.0 ∷ number_item start.1 ∷ []) result slots.old.rest.now slots.new.rest.now (judge_slots header_slots) }
@@ -53,7 +53,7 @@ fn read_start(slots: &mut SlotReader<'_>) -> Result<(Identifier, PayloadSize), P
     Ok((class_id, body_size))
 }
 
-/// Reads a class id, a weight, which is dropped, the size of the body, and properties.
+/// Decodes a content header at the front: a class id, a weight, which is dropped, the size of the body, and properties.
 #[tactic(auto, using(amqp_types::proofs::Judged::refuses_next), unfolding(amqp_types::specs::ContentHeaders::judge_content_header))]
 pub fn parse_content_header(
     alloc: Global,
@@ -73,7 +73,7 @@ pub fn parse_content_header(
     Ok((used + n, header))
 }
 
-/// What stands in front of the properties: the class id, a weight of 0, the size of the body.
+/// What comes before the properties: the class id, a weight of 0, the size of the body.
 #[tactic(auto, unfolding(amqp_types::specs::SlotBytes::slots_bytes, amqp_types::specs::SlotBytes::form_bytes, amqp_types::specs::ContentHeaders::header_slots))]
 fn header_start(class_id: Identifier, body_size: PayloadSize) -> [u8; 12]
     ensures { result ≡ slots_bytes header_slots (number_item class_id ∷ number_item body_size ∷ []) }
@@ -95,7 +95,7 @@ pub(crate) fn size_content_header(header: &AMQPContentHeader) -> Result<u64, Gen
     Ok(12 + size_properties(&header.properties)?)
 }
 
-/// Puts a content header's payload at a place of a slice, and answers the place behind it.
+/// Puts a content header's payload at a place of a slice, and returns the place after it.
 #[tactic(auto, unfolding(amqp_types::specs::PropertyBytes::properties_size, amqp_types::specs::ContentHeaders::content_header_bytes, amqp_types::specs::ContentHeaders::content_header_size))]
 pub(crate) fn put_content_header(buf: &mut [u8], at: usize, header: &AMQPContentHeader) -> usize
     requires { HasRoom buf.old at (content_header_size (header_of header.now)) (content_header_bytes (header_of header.now)) }

@@ -1,3 +1,5 @@
+//! Frames that own what they were decoded to.
+
 ghost use Rattle.std.specs.Prelude.{◌≡◌, ◌↔◌, IfOk, IsTrue, Some};
 ghost use Rattle.amqp_frame.specs.Frames.{frame_of, channel_id_of, IsHeader};
 ghost use Rattle.amqp_frame.specs.Display.{frame_text};
@@ -9,7 +11,7 @@ use amqp_types::{ByteArray, ChannelId, NoMemory};
 use std::alloc::Global;
 use std::fmt;
 
-/// A frame, read whole.
+/// A frame with its payload decoded.
 #[derive(Debug, PartialEq, Drop)]
 pub enum AMQPFrame {
     /// The eight bytes with which a connection begins.
@@ -32,7 +34,7 @@ pub enum AMQPFrame {
 }
 
 impl AMQPFrame {
-    /// An equal frame of its own.
+    /// A deep copy.
     pub fn copy(&self, alloc: Global) -> Result<AMQPFrame, NoMemory>
         ensures { IfOk result (λ copied. copied ≡ self.now) }
     {
@@ -104,6 +106,6 @@ impl fmt::Display for AMQPFrame {
     }
 }
 
-/// Lets a frame go. A caller that matches on what it did with a frame lets it go before, so that
-/// the frame's parts do not come into each arm of its proof.
+/// Drops a frame. Split for the proof: a caller that matches on what it did with a frame drops it before, so that the
+/// frame's parts do not come into each arm.
 pub fn release(_frame: AMQPFrame) {}

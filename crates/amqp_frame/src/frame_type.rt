@@ -1,3 +1,5 @@
+//! Frame types (AMQP 0-9-1, section 4.2.3).
+
 /// What the first byte of a frame names.
 #[derive(Clone, Copy, Debug, PartialEq, Eq)]
 pub enum AMQPFrameType {

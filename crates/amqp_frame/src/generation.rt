@@ -1,6 +1,6 @@
-//! Writing frames: their size, their bytes at a place of a slice, and behind a vector.
+//! Writing frames: the number of their canonical bytes, these bytes at a place of a slice, and appended to a vector.
 
-ghost use Rattle.std.specs.Prelude.{◌≡◌, ◌+◌, ◌^◌, ◌<◌, ◌≤◌, [], length, Ok, IsOk, IfOk};
+ghost use Rattle.std.specs.Prelude.{◌≡◌, ℕ, ◌+◌, ◌^◌, ◌<◌, ◌≤◌, List, [], length, IsOk};
 ghost use Rattle.amqp_types.specs.Writing.{Puts, Appends};
 ghost use Rattle.amqp_types.specs.Methods.{payload_bytes, payload_size};
 ghost use Rattle.amqp_types.specs.ContentHeaders.{content_header_bytes, content_header_size};
@@ -16,7 +16,7 @@ use amqp_protocol::{AMQPClass, put_class, size_class};
 use amqp_types::{ChannelId, ChunkSize, GenError, grow, put_bytes, put_long_uint, put_short_uint};
 use std::alloc::Global;
 
-/// What stands in front of a payload of this length: type, channel, length.
+/// Type, channel and length, which come before a payload of this length.
 pub fn frame_head(frame_type: u8, channel_id: ChannelId, len: ChunkSize) -> [u8; 7]
     ensures { result ≡ head frame_type channel_id len }
 {
@@ -51,7 +51,7 @@ pub fn heartbeat_bytes(channel_id: ChannelId) -> [u8; 8]
     [8, channel[0], channel[1], 0, 0, 0, 0, 206]
 }
 
-/// The size of a frame by that of its payload.
+/// The number of bytes of a frame, by that of its payload.
 fn size_framed(payload: Result<u64, GenError>) -> Result<u64, GenError>
     ensures { result ≡ framed_size payload }
 {
@@ -62,7 +62,7 @@ fn size_framed(payload: Result<u64, GenError>) -> Result<u64, GenError>
     }
 }
 
-/// The number of canonical bytes.
+/// The number of canonical bytes. Nothing but `TooDeep` or `TooLong` is returned as an error.
 #[tactic(auto, using(crate::proofs::Sizes::framed_length), unfolding(crate::specs::Canonical::size_of, crate::specs::Canonical::canon))]
 pub fn frame_size(frame: &AMQPFrame) -> Result<u64, GenError>
     ensures { result ≡ size_of (frame_of frame.now) }
@@ -75,42 +75,6 @@ pub fn frame_size(frame: &AMQPFrame) -> Result<u64, GenError>
         AMQPFrame::Heartbeat => Ok(8),
         AMQPFrame::InvalidHeartbeat(_) => Ok(8),
     }
-}
-
-/// Puts a method frame whose payload has this many bytes.
-fn put_method(
-    buf: &mut [u8],
-    at: usize,
-    channel_id: ChannelId,
-    class: &AMQPClass,
-    len: ChunkSize,
-) -> usize
-    requires fits { IsOk (payload_size (method_of class.now)) }
-    requires counted { length (payload_bytes (method_of class.now)) ≡ len }
-    requires room { at + length (framed 1 channel_id (payload_bytes (method_of class.now))) ≤ length buf.old }
-    ensures { Puts buf.old buf.new at (framed 1 channel_id (payload_bytes (method_of class.now))) result }
-{
-    let at = put_bytes(buf, at, &frame_head(1, channel_id, len));
-    let at = put_class(buf, at, class);
-    put_bytes(buf, at, &[206])
-}
-
-/// Puts a content header frame whose payload has this many bytes.
-fn put_header(
-    buf: &mut [u8],
-    at: usize,
-    channel_id: ChannelId,
-    header: &AMQPContentHeader,
-    len: ChunkSize,
-) -> usize
-    requires fits { IsOk (content_header_size (header_of header.now)) }
-    requires counted { length (content_header_bytes (header_of header.now)) ≡ len }
-    requires room { at + length (framed 2 channel_id (content_header_bytes (header_of header.now))) ≤ length buf.old }
-    ensures { Puts buf.old buf.new at (framed 2 channel_id (content_header_bytes (header_of header.now))) result }
-{
-    let at = put_bytes(buf, at, &frame_head(2, channel_id, len));
-    let at = put_content_header(buf, at, header);
-    put_bytes(buf, at, &[206])
 }
 
 /// Puts an array at a place of a slice, and returns the place after it. The length is a constant, so
@@ -126,8 +90,7 @@ fn put_array<const N: usize>(buf: &mut [u8], at: usize, bytes: [u8; N]) -> usize
     end
 }
 
-/// Puts what stands in front of a payload of this length. Each number is stored on its own, so that no array
-/// goes through memory.
+/// Puts type, channel and length. Each number is stored by itself, so that no array goes through memory.
 #[inline(always)]
 fn put_head(
     buf: &mut [u8],
@@ -144,7 +107,28 @@ fn put_head(
     put_long_uint(buf, at, &len)
 }
 
-/// Puts a frame of this type around a payload.
+/// Puts a frame of this type around a payload that stands from 7 bytes after a place to `end`, and returns the place
+/// after the frame.
+#[inline(always)]
+pub fn put_around(
+    buf: &mut [u8],
+    at: usize,
+    end: usize,
+    frame_type: u8,
+    channel_id: ChannelId,
+) -> usize
+    requires payload { at + 7 ≤ end }
+    requires few { end < at + 7 + 2 ^ 32 }
+    requires room { end < length buf.old }
+    ensures { (before payload : List ℕ) → Puts before buf.old (at + 7) payload end
+        → at + length (framed frame_type channel_id payload) ≤ length before
+        → Puts before buf.new at (framed frame_type channel_id payload) result }
+{
+    put_head(buf, at, frame_type, channel_id, (end - at - 7) as u32);
+    put_array(buf, end, [206])
+}
+
+/// Puts a frame of this type with a payload, and returns the place after it.
 #[inline(always)]
 pub fn put_framed(
     buf: &mut [u8],
@@ -157,26 +141,43 @@ pub fn put_framed(
     requires room { at + length (framed frame_type channel_id payload.now) ≤ length buf.old }
     ensures { Puts buf.old buf.new at (framed frame_type channel_id payload.now) result }
 {
-    let at = put_head(buf, at, frame_type, channel_id, payload.len() as u32);
-    let at = put_bytes(buf, at, payload);
-    put_array(buf, at, [206])
+    let end = put_bytes(buf, at + 7, payload);
+    put_around(buf, at, end, frame_type, channel_id)
 }
 
-/// Puts the canonical bytes, which are this many, at a place of a slice.
+/// Puts the frame of a method.
+fn put_method(buf: &mut [u8], at: usize, channel_id: ChannelId, class: &AMQPClass) -> usize
+    requires fits { IsOk (payload_size (method_of class.now)) }
+    requires few { length (payload_bytes (method_of class.now)) < 2 ^ 32 }
+    requires room { at + length (framed 1 channel_id (payload_bytes (method_of class.now))) ≤ length buf.old }
+    ensures { Puts buf.old buf.new at (framed 1 channel_id (payload_bytes (method_of class.now))) result }
+{
+    let end = put_class(buf, at + 7, class);
+    put_around(buf, at, end, 1, channel_id)
+}
+
+/// Puts the frame of a content header.
+fn put_header(buf: &mut [u8], at: usize, channel_id: ChannelId, header: &AMQPContentHeader) -> usize
+    requires fits { IsOk (content_header_size (header_of header.now)) }
+    requires few { length (content_header_bytes (header_of header.now)) < 2 ^ 32 }
+    requires room { at + length (framed 2 channel_id (content_header_bytes (header_of header.now))) ≤ length buf.old }
+    ensures { Puts buf.old buf.new at (framed 2 channel_id (content_header_bytes (header_of header.now))) result }
+{
+    let end = put_content_header(buf, at + 7, header);
+    put_around(buf, at, end, 2, channel_id)
+}
+
+/// Puts the canonical bytes at a place of a slice, and returns the place after them.
 #[tactic(auto, unfolding(crate::specs::Canonical::canon))]
-fn put_measured(buf: &mut [u8], at: usize, frame: &AMQPFrame, size: u64) -> usize
-    requires measured { size_of (frame_of frame.now) ≡ Ok size }
+pub fn put_frame(buf: &mut [u8], at: usize, frame: &AMQPFrame) -> usize
+    requires fits { IsOk (size_of (frame_of frame.now)) }
     requires room { at + length (canon (frame_of frame.now)) ≤ length buf.old }
     ensures { Puts buf.old buf.new at (canon (frame_of frame.now)) result }
 {
     match frame {
         AMQPFrame::ProtocolHeader(version) => put_bytes(buf, at, &header_bytes(*version)),
-        AMQPFrame::Method(channel_id, class) => {
-            put_method(buf, at, *channel_id, class, (size - 8) as u32)
-        }
-        AMQPFrame::Header(channel_id, header) => {
-            put_header(buf, at, *channel_id, header, (size - 8) as u32)
-        }
+        AMQPFrame::Method(channel_id, class) => put_method(buf, at, *channel_id, class),
+        AMQPFrame::Header(channel_id, header) => put_header(buf, at, *channel_id, header),
         AMQPFrame::Body(channel_id, content) => {
             put_framed(buf, at, 3, *channel_id, content.as_slice())
         }
@@ -187,18 +188,6 @@ fn put_measured(buf: &mut [u8], at: usize, frame: &AMQPFrame, size: u64) -> usiz
     }
 }
 
-/// Puts the canonical bytes at a place of a slice, and answers the place behind them.
-pub fn put_frame(buf: &mut [u8], at: usize, frame: &AMQPFrame) -> usize
-    requires fits { IsOk (size_of (frame_of frame.now)) }
-    requires room { at + length (canon (frame_of frame.now)) ≤ length buf.old }
-    ensures { Puts buf.old buf.new at (canon (frame_of frame.now)) result }
-{
-    match frame_size(frame) {
-        Ok(size) => put_measured(buf, at, frame, size),
-        Err(_) => unreachable!(),
-    }
-}
-
 /// Appends the canonical bytes to a vector.
 #[tactic(auto, using(crate::proofs::Sizes::size_is_length))]
 pub fn gen_frame(_alloc: Global, out: &mut Vec<u8>, frame: &AMQPFrame) -> Result<(), GenError>
@@ -206,11 +195,11 @@ pub fn gen_frame(_alloc: Global, out: &mut Vec<u8>, frame: &AMQPFrame) -> Result
 {
     let size = frame_size(frame)?;
     let at = grow(out, size)?;
-    put_measured(out, at, frame, size);
+    put_frame(out, at, frame);
     Ok(())
 }
 
-/// Puts the canonical bytes at the front of a slice, and answers how many they are.
+/// Puts the canonical bytes at the front of a slice, and returns how many they are.
 #[tactic(auto, using(crate::proofs::Sizes::size_is_length, crate::proofs::Sizes::slice_refused))]
 pub fn gen_frame_slice(buf: &mut [u8], frame: &AMQPFrame) -> Result<usize, GenError>
     ensures { SliceAnswers buf.old buf.new (size_of (frame_of frame.now)) (canon (frame_of frame.now)) result }
@@ -219,7 +208,7 @@ pub fn gen_frame_slice(buf: &mut [u8], frame: &AMQPFrame) -> Result<usize, GenEr
         Err(refusal) => Err(refusal),
         Ok(size) if size > buf.len() as u64 => Err(GenError::BufferTooSmall),
         Ok(size) => {
-            put_measured(buf, 0, frame, size);
+            put_frame(buf, 0, frame);
             Ok(size as usize)
         }
     }

@@ -1,4 +1,4 @@
-//! Judging whole payloads without memory: whether they are frames, and at which levels these are spelled.
+//! Decoding whole payloads without memory: whether they are frames, and at which levels these are encoded.
 
 ghost use Rattle.std.specs.Prelude.{length};
 ghost use Rattle.amqp_types.specs.Judging.{Judge};
@@ -14,18 +14,18 @@ use crate::raw_frame::AMQPRawFrame;
 use amqp_canonical::{judge_content_header, judge_payload};
 use amqp_types::{ChannelId, ParserError};
 
-/// A whole frame, by what its bytes are.
+/// At which levels the bytes of a whole frame encode it.
 #[derive(Clone, Copy, Debug, PartialEq, Eq)]
 pub struct FrameJudgement {
     /// Whether these bytes are its canonical bytes.
     pub canonical: bool,
 
-    /// Whether these bytes are tidy: reserved slots, the weight and unused bits stand at their constants, and a
+    /// Whether these bytes are tidy: reserved fields, the weight and unused bits stand at their constants, and a
     /// heartbeat is empty.
     pub tidy: bool,
 }
 
-/// Judges the method that a whole payload is.
+/// Decodes the method that fills a payload.
 #[inline(always)]
 fn judge_method(payload: &[u8]) -> Result<FrameJudgement, ParserError>
     ensures { JudgesAll judge_payload payload_bytes is_tidy_payload payload.now result }
@@ -40,7 +40,7 @@ fn judge_method(payload: &[u8]) -> Result<FrameJudgement, ParserError>
     }
 }
 
-/// Judges the content header that a whole payload is.
+/// Decodes the content header that fills a payload.
 fn judge_header(payload: &[u8]) -> Result<FrameJudgement, ParserError>
     ensures { JudgesAll judge_content_header content_header_bytes is_tidy_content_header payload.now result }
 {
@@ -54,7 +54,7 @@ fn judge_header(payload: &[u8]) -> Result<FrameJudgement, ParserError>
     }
 }
 
-/// The same of a whole payload of this type.
+/// Decodes a whole payload of this type.
 #[inline(always)]
 fn judge_as(
     frame_type: AMQPFrameType,
@@ -88,7 +88,7 @@ fn judge_as(
     }
 }
 
-/// Judges a whole payload, and refuses it as `parse_payload` does. No memory is taken.
+/// Says at which levels a whole payload encodes a frame, or has a fault as `parse_payload` has. No memory is taken.
 #[inline(always)]
 pub fn judge_frame(raw: AMQPRawFrame<'_>) -> Result<FrameJudgement, ParserError>
     ensures { JudgesFrame (raw_of raw.entry) result }

@@ -1,23 +1,30 @@
-//! Laws of frames and rows, each the contract of a function that does nothing.
+//! Laws of frames and sequences, each the contract of a function that does nothing.
 
-ghost use Rattle.amqp_frame.specs.Laws.{OneMeaning, NoFrameBeginsAnother, VerdictsAreSpellings, VerdictsAreStable, LevelsNest, OneCanonicalSpelling, EqualBytesAreEqualFrames, CanonicalBytesReadBack, CanonicalBytesAreShortest, FrontIsLongest, WrittenAgain, OuterLookIsItsParts};
+ghost use Rattle.std.specs.Prelude.{IsOk};
+ghost use Rattle.amqp_types.specs.Levels.{Level};
+ghost use Rattle.amqp_frame.specs.Canonical.{size_of};
+ghost use Rattle.amqp_frame.specs.Frames.{frame_of};
+ghost use Rattle.amqp_frame.specs.Laws.{OneMeaning, NoFrameBeginsAnother, VerdictsAreSpellings, VerdictsAreStable, LevelsNest, OneCanonicalSpelling, EqualBytesAreEqualFrames, CanonicalBytesReadBack, CanonicalBytesAreShortest, FrontIsLongest, ReadsBack, WrittenAgain, OuterLookIsItsParts};
 
-/// No bytes spell two rows of frames.
+use crate::frame::AMQPFrame;
+use crate::held::frame_held;
+
+/// No bytes encode two sequences of frames.
 pub fn one_meaning()
     ensures { OneMeaning }
 {}
 
-/// No spelling of a frame begins another.
+/// No encoding of a frame begins another.
 pub fn no_frame_begins_another()
     ensures { NoFrameBeginsAnother }
 {}
 
-/// A verdict is a frame exactly where the first bytes spell it.
+/// A verdict is a frame exactly where the first bytes encode it.
 pub fn verdicts_are_spellings()
     ensures { VerdictsAreSpellings }
 {}
 
-/// A verdict other than that more is wanted stays, whatever follows.
+/// A verdict other than incomplete stays, whatever follows.
 pub fn verdicts_are_stable()
     ensures { VerdictsAreStable }
 {}
@@ -27,37 +34,45 @@ pub fn levels_nest()
     ensures { LevelsNest }
 {}
 
-/// What is read has one strict spelling, its canonical bytes, within the same limit.
+/// What was decoded has one strict encoding, its canonical bytes, within the same limit.
 pub fn one_canonical_spelling()
     ensures { OneCanonicalSpelling }
 {}
 
-/// Two rows have equal canonical bytes exactly where they are the same frames.
+/// Two sequences have equal canonical bytes exactly where they are the same frames.
 pub fn equal_bytes_are_equal_frames()
     ensures { EqualBytesAreEqualFrames }
 {}
 
-/// Canonical bytes are read as the frame that they were written for.
+/// Canonical bytes are decoded to the frame that they were written for.
 pub fn canonical_bytes_read_back()
     ensures { CanonicalBytesReadBack }
 {}
 
-/// Canonical bytes are as short as any spelling of the same frames.
+/// The bytes that are written for a frame are decoded to that frame at each level, whatever follows them, but that
+/// `InvalidHeartbeat(0)` is decoded to `Heartbeat`; and fewer of them are incomplete.
+pub fn frame_reads_back(frame: &AMQPFrame)
+    ensures { (level : Level) → IsOk (size_of (frame_of frame.now)) → ReadsBack level (frame_of frame.now) }
+{
+    frame_held(frame);
+}
+
+/// Canonical bytes are as short as any encoding of the same frames.
 pub fn canonical_bytes_are_shortest()
     ensures { CanonicalBytesAreShortest }
 {}
 
-/// The front of some bytes is the longest row that they begin with, and the place is what follows.
+/// The front of some bytes is the longest sequence that they begin with, and the place is what follows.
 pub fn front_is_longest()
     ensures { FrontIsLongest }
 {}
 
-/// What was written, given again, is taken whole and gives itself.
+/// What was written, given again, is decoded whole and written as itself.
 pub fn written_again()
     ensures { WrittenAgain }
 {}
 
-/// The outer look without a limit is a type byte, and behind it a version or a raw frame.
+/// The header scan without a limit is a type byte, and after it a version or a raw frame.
 pub fn outer_look_is_its_parts()
     ensures { OuterLookIsItsParts }
 {}

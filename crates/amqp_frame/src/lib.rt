@@ -1,16 +1,18 @@
-//! AMQP 0-9-1 frames: what stands at the front of some bytes, and the one spelling that is written.
+//! AMQP 0-9-1 frames: decoding them from the front of a slice, and writing them in their canonical bytes.
 #![tactic(auto)]
 
 mod channel;
 mod content_header;
+mod equality;
 mod frame;
 mod frame_type;
-mod generation;
+pub mod generation;
+mod held;
 mod judging;
 mod laws;
 mod looking;
 mod outline;
-mod parsing;
+pub mod parsing;
 mod raw_frame;
 mod rewriting;
 mod tidiness;
@@ -20,17 +22,23 @@ pub use amqp_canonical::Mark;
 pub use amqp_types::{GenError, ParserError};
 pub use channel::AMQPChannel;
 pub use content_header::{AMQPContentHeader, parse_content_header};
+pub use equality::{
+    channels_are_equal, frame_types_are_equal, judgements_are_equal, layouts_are_equal,
+    looks_are_equal, outlines_are_equal, raw_frames_are_equal, versions_are_equal,
+};
 pub use frame::{AMQPFrame, release};
 pub use frame_type::AMQPFrameType;
 pub use generation::{
-    frame_head, frame_size, gen_frame, gen_frame_slice, header_bytes, heartbeat_bytes, put_frame,
-    put_framed,
+    frame_head, frame_size, gen_frame, gen_frame_slice, header_bytes, heartbeat_bytes, put_around,
+    put_frame, put_framed,
 };
+pub use held::{content_header_held, frame_held};
 pub use judging::{FrameJudgement, judge_frame};
 pub use laws::{
     canonical_bytes_are_shortest, canonical_bytes_read_back, equal_bytes_are_equal_frames,
-    front_is_longest, levels_nest, no_frame_begins_another, one_canonical_spelling, one_meaning,
-    outer_look_is_its_parts, verdicts_are_spellings, verdicts_are_stable, written_again,
+    frame_reads_back, front_is_longest, levels_nest, no_frame_begins_another,
+    one_canonical_spelling, one_meaning, outer_look_is_its_parts, verdicts_are_spellings,
+    verdicts_are_stable, written_again,
 };
 pub use looking::{FrameLayout, Look, look_at};
 pub use outline::{FrameOutline, outline_front, outline_raw};

@@ -1,4 +1,4 @@
-//! The outer look: what stands at the front of some bytes, whatever its payload is.
+//! The header scan: what stands at the front of some bytes, whatever its payload is.
 
 ghost use Rattle.std.specs.Prelude.{◌≡◌};
 ghost use Rattle.amqp_frame.specs.Looks.{looked, looked_behind, IsInside, IsBehind};
@@ -17,10 +17,10 @@ pub struct FrameLayout {
     pub frame_len: usize,
 }
 
-/// What stands at the front of some bytes.
+/// What a header scan finds at the front of some bytes.
 #[derive(Clone, Copy, Debug, PartialEq, Eq)]
 pub enum Look {
-    /// More bytes are wanted.
+    /// The bytes end inside a frame, or there are none.
     Incomplete,
 
     /// The first byte names no frame type.
@@ -32,14 +32,14 @@ pub enum Look {
     /// A payload above the limit.
     TooLarge,
 
-    /// The byte behind the payload is not 206.
+    /// The byte after the payload is not 206.
     BadFrameEnd,
 
     /// A whole frame.
     Whole(FrameLayout),
 }
 
-/// Looks at the front of some bytes for a frame, with a limit in bytes on its payload.
+/// Scans the header of the frame at the front of some bytes, with a limit in bytes on its payload.
 #[inline(always)]
 #[tactic(auto, using(crate::proofs::Looked::looked_behind_one), unfolding(crate::specs::Outer::outer, crate::specs::Outer::behind_type))]
 pub fn look_at(max_payload: Option<u32>, bytes: &[u8]) -> Look
@@ -57,7 +57,7 @@ pub fn look_at(max_payload: Option<u32>, bytes: &[u8]) -> Look
     }
 }
 
-/// Each byte that is there is the one that is wanted.
+/// Whether the bytes begin as expected, as far as both go.
 pub(crate) fn agrees(bytes: &[u8], wanted: &[u8]) -> bool
     ensures { result ≡ begins_as bytes.now wanted.now }
 {
@@ -70,7 +70,7 @@ pub(crate) fn agrees(bytes: &[u8], wanted: &[u8]) -> bool
     }
 }
 
-/// Looks for the rest of a protocol header, behind its first byte.
+/// Scans a protocol header after its first byte.
 #[tactic(auto, using(crate::proofs::Looked::version_payload), unfolding(crate::specs::Outer::judge_version))]
 fn look_version(rest: &[u8]) -> Look
     ensures value { version_at rest.now ≡ looked_behind result rest.now }
@@ -91,7 +91,7 @@ fn look_version(rest: &[u8]) -> Look
     })
 }
 
-/// Looks for the rest of any other frame, behind its type byte.
+/// Scans any other frame after its type byte.
 #[tactic(auto, unfolding(crate::specs::Outer::judge_raw, crate::specs::Outer::ended_payload))]
 pub(crate) fn look_raw(max_payload: Option<u32>, frame_type: AMQPFrameType, rest: &[u8]) -> Look
     ensures value { judge_raw max_payload frame_type rest.now ≡ looked_behind result rest.now }

@@ -1,4 +1,4 @@
-//! What rules and trackers ask of a frame, read without its fields and without memory.
+//! Outlines of frames: kind, channel, ids and sizes, read without the other fields and without memory.
 
 ghost use Rattle.std.specs.Prelude.{◌≡◌, ◌≤◌, ◌↔◌, Some, length, IsOk, IsTrue};
 ghost use Rattle.amqp_types.specs.Tidiness.{short_at};
@@ -87,7 +87,7 @@ impl AMQPFrame {
     }
 }
 
-/// The outline of a method, out of the front of its payload.
+/// The outline of a method, by the front of its payload.
 fn method_outline(channel_id: ChannelId, payload: &[u8]) -> FrameOutline
     requires { 4 ≤ length payload.now }
     ensures { result ≡ FrameOutline.Method channel_id (short_at 0 payload.now) (short_at 2 payload.now) }
@@ -99,7 +99,7 @@ fn method_outline(channel_id: ChannelId, payload: &[u8]) -> FrameOutline
     }
 }
 
-/// The outline of a content header, out of the front of its payload. The weight is passed over.
+/// The outline of a content header, by the front of its payload. The weight is skipped.
 fn header_outline(channel_id: ChannelId, payload: &[u8]) -> FrameOutline
     requires { 12 ≤ length payload.now }
     ensures { result ≡ FrameOutline.Header channel_id (short_at 0 payload.now) (long_long_at 4 payload.now) }
@@ -120,7 +120,7 @@ fn header_outline(channel_id: ChannelId, payload: &[u8]) -> FrameOutline
     }
 }
 
-/// The outline of a frame of this type, out of the front of its payload.
+/// The outline of a frame of this type, by the front of its payload.
 fn outline_at(frame_type: AMQPFrameType, channel_id: ChannelId, payload: &[u8]) -> FrameOutline
     requires { IsEnough frame_type payload.now }
     ensures { result ≡ outline_at frame_type channel_id payload.now }
@@ -148,7 +148,7 @@ fn is_enough(frame_type: AMQPFrameType, payload: &[u8]) -> bool
     }
 }
 
-/// The same, where the ids and sizes are there.
+/// The outline of a frame of this type, where its ids and sizes are there.
 fn outline_if_enough(
     frame_type: AMQPFrameType,
     channel_id: ChannelId,
@@ -163,15 +163,15 @@ fn outline_if_enough(
     }
 }
 
-/// The outline of the frame that a whole payload is, where it is one. Of a payload with a fault nothing is promised: None
-/// is returned where its ids and sizes are not there.
+/// The outline of the frame that a whole payload encodes. Of a payload with a fault it may be any outline, and is None where
+/// the ids and sizes are not there.
 pub fn outline_front(raw: AMQPRawFrame<'_>) -> Option<FrameOutline>
     ensures { (frame : Frame) → whole (raw_of raw.entry) ≡ Ok frame → result ≡ Some (outline_of frame) }
 {
     outline_if_enough(raw.frame_type, raw.channel_id, raw.payload)
 }
 
-/// The outline of the frame that a whole payload of this type is.
+/// The outline of the frame that a whole payload of this type encodes.
 fn outline_whole(frame_type: AMQPFrameType, channel_id: ChannelId, payload: &[u8]) -> FrameOutline
     requires { IsOk (whole_as frame_type channel_id payload.now) }
     ensures { (frame : Frame) → whole_as frame_type channel_id payload.now ≡ Ok frame → result ≡ outline_of frame }
@@ -179,8 +179,8 @@ fn outline_whole(frame_type: AMQPFrameType, channel_id: ChannelId, payload: &[u8
     outline_at(frame_type, channel_id, payload)
 }
 
-/// The outline of the frame that a whole payload is. Only ids and sizes are read of the payload,
-/// and no memory is taken.
+/// The outline of the frame that a whole payload encodes. Only ids and sizes are read of the payload, and no memory is
+/// taken.
 pub fn outline_raw(raw: AMQPRawFrame<'_>) -> FrameOutline
     requires whole { IsOk (whole (raw_of raw)) }
     ensures { (frame : Frame) → whole (raw_of raw.entry) ≡ Ok frame → result ≡ outline_of frame }

@@ -1,4 +1,4 @@
-//! Reading frames and their parts from the front of a slice.
+//! Decoding frames and their parts from the front of a slice.
 
 ghost use Rattle.std.specs.Prelude.{◌≡◌, ◌≤◌, ◌<◌, ◌+◌, ◌^◌, length, None, Err, IfOk, IfErr};
 ghost use Rattle.amqp_types.specs.Levels.{plain};
@@ -15,7 +15,8 @@ ghost use Rattle.amqp_frame.specs.Outer.{judge_frame_type, judge_version, judge_
 ghost use Rattle.amqp_frame.specs.Verdicts.{IsPayloadError, all_of, verdict, whole, whole_as};
 
 use crate::channel::AMQPChannel;
-use crate::content_header::{AMQPContentHeader, parse_content_header};
+use crate::content_header::AMQPContentHeader;
+pub use crate::content_header::parse_content_header;
 use crate::frame::AMQPFrame;
 use crate::frame_type::AMQPFrameType;
 use crate::looking::{Look, agrees, look_at, look_raw};
@@ -25,7 +26,7 @@ use amqp_protocol::{AMQPClass, parse_class};
 use amqp_types::{ByteArray, ChannelId, ParserError, parse_id};
 use std::alloc::Global;
 
-/// Reads a channel's number, 2 bytes.
+/// Decodes a channel's number, 2 bytes.
 #[tactic(auto, using(amqp_types::proofs::Judged::refuses_next))]
 pub fn parse_channel(i: &[u8]) -> Result<(usize, AMQPChannel), ParserError>
     ensures judged { AnswersFully (λ channel. channel) result (judge_channel i.now) }
@@ -37,7 +38,7 @@ pub fn parse_channel(i: &[u8]) -> Result<(usize, AMQPChannel), ParserError>
     }
 }
 
-/// Reads the first byte of a frame.
+/// Decodes the first byte of a frame.
 pub fn parse_frame_type(i: &[u8]) -> Result<(usize, AMQPFrameType), ParserError>
     ensures judged { AnswersFully (λ kind. kind) result (judge_frame_type i.now) }
     ensures used { IfOk result (λ found. found.0 ≤ length i.now) }
@@ -53,7 +54,7 @@ pub fn parse_frame_type(i: &[u8]) -> Result<(usize, AMQPFrameType), ParserError>
     }
 }
 
-/// Reads the seven bytes of a protocol header that follow its `A`.
+/// Decodes the seven bytes of a protocol header that follow its `A`. Any version is decoded.
 #[tactic(auto, unfolding(crate::specs::Outer::judge_version))]
 pub fn parse_protocol_header(i: &[u8]) -> Result<(usize, ProtocolVersion), ParserError>
     ensures judged { AnswersFully (λ version. version) result (judge_version i.now) }
@@ -73,8 +74,8 @@ pub fn parse_protocol_header(i: &[u8]) -> Result<(usize, ProtocolVersion), Parse
     Ok((7, version))
 }
 
-/// Reads what follows a type byte: channel, length, payload and the end byte 206. The payload is
-/// lent. `ProtocolHeader` is taken as a type like the others.
+/// Decodes what follows a type byte: channel, length, payload and the end byte 206. The payload is borrowed, and not
+/// decoded. `ProtocolHeader` is a type like the others here.
 #[tactic(auto, using(crate::proofs::OuterLook::raw_never_large))]
 pub fn parse_raw_frame<'a>(
     frame_type: AMQPFrameType,
@@ -112,7 +113,7 @@ fn heartbeat(channel_id: ChannelId) -> AMQPFrame
     }
 }
 
-/// A refusal of what stands inside a payload whose bytes are all there.
+/// An error of what stands inside a payload whose bytes are all there.
 pub(crate) fn inside(error: ParserError) -> ParserError
     ensures { result ≡ inside_error error }
 {
@@ -122,7 +123,7 @@ pub(crate) fn inside(error: ParserError) -> ParserError
     }
 }
 
-/// Reads the method that a whole payload is.
+/// Decodes the method that fills a payload.
 #[tactic(auto, using(crate::proofs::Payloads::refused_all))]
 fn parse_method(alloc: Global, payload: &[u8]) -> Result<AMQPClass, ParserError>
     ensures { AnswersWhole method_of result (all_of judge_payload payload.now) }
@@ -134,7 +135,7 @@ fn parse_method(alloc: Global, payload: &[u8]) -> Result<AMQPClass, ParserError>
     }
 }
 
-/// Reads the content header that a whole payload is.
+/// Decodes the content header that fills a payload.
 #[tactic(auto, using(crate::proofs::Payloads::refused_all))]
 fn parse_header(alloc: Global, payload: &[u8]) -> Result<AMQPContentHeader, ParserError>
     ensures { AnswersWhole header_of result (all_of judge_content_header payload.now) }
@@ -146,7 +147,7 @@ fn parse_header(alloc: Global, payload: &[u8]) -> Result<AMQPContentHeader, Pars
     }
 }
 
-/// Reads the frame that a whole payload of this type is.
+/// Decodes the frame that a whole payload of this type encodes.
 #[tactic(auto, using(crate::proofs::Payloads::refused_map), unfolding(crate::specs::Verdicts::whole_as))]
 fn read_as(
     alloc: Global,
@@ -183,7 +184,7 @@ fn read_as(
     }
 }
 
-/// The same, with what follows from the bytes that were read.
+/// Decodes it, and says what follows from the bytes that it was decoded from. Split for the proof.
 fn read_whole(
     alloc: Global,
     frame_type: AMQPFrameType,
@@ -199,20 +200,20 @@ fn read_whole(
     read_as(alloc, frame_type, channel_id, payload)
 }
 
-/// Reads a whole payload. A body is copied; a heartbeat's payload is dropped.
+/// Decodes a whole payload. A body is copied; a heartbeat's payload is dropped.
 pub fn parse_payload(alloc: Global, raw: AMQPRawFrame<'_>) -> Result<AMQPFrame, ParserError>
     ensures whole { AnswersWhole frame_of result (whole (raw_of raw.entry)) }
     ensures inside { IfErr result IsPayloadError }
     ensures memory { result ≡ Err ParserError.NoMemory → OwnsMemory raw.entry.frame_type }
 
-    // What was read is neither long nor too deep, and is written in no more bytes than it was read from.
+    // The frame is neither long nor too deep, and is written in no more bytes than it was decoded from.
     ensures within { length raw.entry.payload.now < 2 ^ 32
         → IfOk result (λ frame. IsSizedWithin (size_of (frame_of frame)) (canon (frame_of frame)) (length raw.entry.payload.now + 8)) }
 {
     read_whole(alloc, raw.frame_type, raw.channel_id, raw.payload)
 }
 
-/// Reads the frame at the front.
+/// Decodes the frame at the front. Split for the proof.
 #[tactic(auto, using(crate::proofs::Payloads::refused_frame, crate::proofs::OuterLook::never_large), unfolding(crate::specs::Verdicts::verdict))]
 fn read_frame(alloc: Global, i: &[u8]) -> Result<(usize, AMQPFrame), ParserError>
     ensures judged { Answers frame_of result (verdict plain None i.now) }
@@ -233,13 +234,13 @@ fn read_frame(alloc: Global, i: &[u8]) -> Result<(usize, AMQPFrame), ParserError
     }
 }
 
-/// Reads one frame at the front, with no limit on its payload.
+/// Decodes one frame at the front, with no limit on its payload. No bytes are `Incomplete`.
 pub fn parse_frame(alloc: Global, i: &[u8]) -> Result<(usize, AMQPFrame), ParserError>
     ensures judged { Answers frame_of result (verdict plain None i.now) }
     ensures used { IfOk result (λ found. found.0 ≤ length i.now) }
     ensures memory { result ≡ Err ParserError.NoMemory → BeginsWith OwnsMemory None i.now }
 
-    // What was read is neither long nor too deep, and is written in no more bytes than were used.
+    // The frame is neither long nor too deep, and is written in no more bytes than were used.
     ensures within { IfOk result (λ found. IsSizedWithin (size_of (frame_of found.1)) (canon (frame_of found.1)) found.0) }
 {
     read_frame(alloc, i)

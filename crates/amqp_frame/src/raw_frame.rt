@@ -1,8 +1,10 @@
+//! Frames whose payloads are borrowed.
+
 use crate::frame_type::AMQPFrameType;
 use amqp_types::ChannelId;
 
-/// A whole frame whose payload is lent, and not yet looked into. A protocol header has channel 0
-/// and its three version bytes as payload.
+/// A whole frame with its payload as bytes, borrowed from the input. A protocol header has channel 0 and its three version
+/// bytes as payload.
 #[derive(Clone, Copy, Debug, PartialEq, Eq)]
 pub struct AMQPRawFrame<'a> {
     pub frame_type: AMQPFrameType,

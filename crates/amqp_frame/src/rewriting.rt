@@ -12,30 +12,13 @@ ghost use Rattle.amqp_frame.specs.Spelling.{framed};
 ghost use Rattle.amqp_frame.specs.Verdicts.{IsPayloadError, whole, whole_as};
 
 use crate::frame_type::AMQPFrameType;
-use crate::generation::{frame_head, heartbeat_bytes, put_framed};
+use crate::generation::{heartbeat_bytes, put_around, put_framed};
 use crate::judging::{FrameJudgement, judge_frame};
 use crate::raw_frame::AMQPRawFrame;
 use amqp_canonical::{Mark, put_content_header, put_payload};
 use amqp_types::{ChannelId, ParserError, put_bytes};
 
-/// Puts a frame around a payload that stands from 7 bytes behind a place to `end`.
-fn put_around(buf: &mut [u8], at: usize, end: usize, frame_type: u8, channel_id: ChannelId) -> usize
-    requires payload { at + 7 ≤ end }
-    requires few { end < at + 7 + 2 ^ 32 }
-    requires room { end < length buf.old }
-    ensures { (before payload : List ℕ) → Puts before buf.old (at + 7) payload end
-        → at + length (framed frame_type channel_id payload) ≤ length before
-        → Puts before buf.new at (framed frame_type channel_id payload) result }
-{
-    put_bytes(
-        buf,
-        at,
-        &frame_head(frame_type, channel_id, (end - at - 7) as u32),
-    );
-    put_bytes(buf, end, &[206])
-}
-
-/// Puts the frame of a method in its canonical bytes.
+/// Puts the canonical bytes of a method's frame.
 fn put_method(
     buf: &mut [u8],
     at: usize,
@@ -52,7 +35,7 @@ fn put_method(
     put_around(buf, at, end, 1, channel_id)
 }
 
-/// Puts the frame of a content header in its canonical bytes.
+/// Puts the canonical bytes of a content header's frame.
 fn put_header(
     buf: &mut [u8],
     at: usize,
@@ -69,7 +52,7 @@ fn put_header(
     put_around(buf, at, end, 2, channel_id)
 }
 
-/// Puts the canonical bytes of the frame that a judged payload of this type is.
+/// Puts the canonical bytes of the frame that a payload of this type encodes.
 #[inline(always)]
 fn put_judged(
     buf: &mut [u8],
@@ -100,9 +83,9 @@ fn put_judged(
     }
 }
 
-/// Puts the canonical bytes of the frame that a whole payload is at a place of a slice, and returns the place after
-/// them. No memory is taken: entries of tables in no order are sorted in the scratch, of which a payload of n bytes wants
-/// n / 2 marks, and takes quadratic time where there are fewer.
+/// Puts the canonical bytes of the frame that a whole payload encodes at a place of a slice, and returns the place after
+/// them. No memory is taken: entries of tables that are not in ascending key order are sorted in the scratch. A payload of
+/// n bytes has at most n / 2 of them, and takes quadratic time where there are fewer marks.
 #[inline(always)]
 pub fn put_canonical(
     buf: &mut [u8],

@@ -11,7 +11,7 @@ use crate::judging::judge_frame;
 use crate::raw_frame::AMQPRawFrame;
 use amqp_types::ChannelId;
 
-/// The same of a whole payload of this type.
+/// Whether a whole payload of this type is tidy.
 fn is_tidy_whole(frame_type: AMQPFrameType, channel_id: ChannelId, payload: &[u8]) -> bool
     requires whole { IsOk (whole_as frame_type channel_id payload.now) }
     requires few { length payload.now < 2 ^ 32 }
@@ -30,7 +30,7 @@ fn is_tidy_whole(frame_type: AMQPFrameType, channel_id: ChannelId, payload: &[u8
     }
 }
 
-/// Whether a whole frame is tidy: reserved slots, the weight, spare flag bits and bits 1 and 0 of the mask of properties
+/// Whether a whole frame is tidy: reserved fields, the weight, spare flag bits and bits 1 and 0 of the mask of properties
 /// stand at their constants, and a heartbeat is empty. No memory is taken.
 pub fn is_tidy(raw: AMQPRawFrame<'_>) -> bool
     requires whole { IsOk (whole (raw_of raw)) }

@@ -1,3 +1,5 @@
+//! Versions of the protocol, as protocol headers name them (AMQP 0-9-1, section 4.2.2).
+
 ghost use Rattle.std.specs.Prelude.{◌≡◌, Some};
 ghost use Rattle.amqp_frame.specs.Display.{version_text};
 
@@ -13,7 +15,7 @@ pub struct ProtocolVersion {
 }
 
 impl ProtocolVersion {
-    /// The version that these crates are about.
+    /// Version 0.9.1, which these crates are about.
     pub fn amqp_0_9_1() -> Self
         ensures { result ≡ record { major = 0; minor = 9; revision = 1 } }
     {
