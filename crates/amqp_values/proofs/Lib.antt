@@ -4,6 +4,7 @@ pub mod Filling
 pub mod Walk
 pub mod Pieces
 pub mod Conversions
+pub mod Deciding
 pub mod Tags
 pub mod Settling
 pub mod Filled

@@ -3,3 +3,4 @@ pub mod Falls
 pub mod Sameness
 pub mod Fields
 pub mod MethodFields
+pub mod HeldMethods
