@@ -1,5 +1,4 @@
 //! Methods of the class exchange that declare and delete exchanges.
-#![tactic(auto, using(amqp_types::proofs::Judged::refuses_next), unfolding(amqp_types::specs::Rows::rows_of, amqp_types::specs::Rows::slots_at, amqp_types::specs::SlotJudging::judge_slots, amqp_types::specs::Methods::judge_method, amqp_values::specs::Fields::field_bytes, amqp_values::specs::Fields::is_deep_field, amqp_values::specs::Fields::is_long_field, amqp_values::specs::Fields::fields_bytes, amqp_values::specs::Fields::any_deep_field, amqp_values::specs::Fields::any_long_field, amqp_values::specs::Fields::fields_size, amqp_types::specs::SlotBytes::form_bytes, amqp_types::specs::SlotBytes::slots_bytes, amqp_types::specs::SlotBytes::items_size, amqp_types::specs::Methods::method_bytes, amqp_types::specs::Methods::method_size, amqp_types::specs::Methods::payload_bytes, amqp_types::specs::Methods::payload_size))]
 
 ghost use Rattle.std.specs.Prelude.{◌≡◌, ◌∷◌, [], false, IfOk};
 ghost use Rattle.amqp_types.specs.Slots.{flag_item, text_item, entries_item};
@@ -59,7 +58,7 @@ impl Declare {
         }
     }
 
-    /// An equal method of its own.
+    /// A deep copy.
     pub fn copy(&self, alloc: Global) -> Result<Declare, NoMemory>
         ensures { IfOk result (λ copied. copied ≡ self.now) }
     {
@@ -76,7 +75,7 @@ impl Declare {
     }
 }
 
-/// Reads the slots of `Declare`.
+/// Decodes the fields of `Declare`.
 pub fn parse_declare(alloc: Global, i: &[u8]) -> Result<(usize, Declare), ParserError>
     ensures { Parses declare_method result i.now (judge_method 40 10) }
 {
@@ -96,10 +95,10 @@ pub fn parse_declare(alloc: Global, i: &[u8]) -> Result<(usize, Declare), Parser
         nowait: flag_of_byte(flags, 4),
         arguments,
     };
-    Ok((i.len() - slots.rest.len(), method))
+    Ok((slots.used(i), method))
 }
 
-/// Its ids and slots, in order.
+/// Its ids and fields, in order.
 pub(super) fn declare_fields(method: &Declare) -> [Field<'_>; 7]
     ensures { ListsMethod result (declare_method method.now) }
 {
@@ -120,7 +119,7 @@ pub(super) fn declare_fields(method: &Declare) -> [Field<'_>; 7]
     ]
 }
 
-/// The size of the method id and the slots of `Declare`.
+/// The size of the method id and the fields of `Declare`.
 #[tactic(auto)]
 pub fn size_declare(method: &Declare) -> Result<u64, GenError>
     ensures { Measures result (method_size (declare_method method.now)) }
@@ -128,7 +127,7 @@ pub fn size_declare(method: &Declare) -> Result<u64, GenError>
     size_fields(&declare_fields(method)[1..])
 }
 
-/// Puts the method id and the slots of `Declare` at a place of a slice, and answers the place behind.
+/// Puts the method id and the fields of `Declare` at a place of a slice, and returns the place after.
 #[tactic(auto)]
 pub fn put_declare(buf: &mut [u8], at: usize, method: &Declare) -> usize
     requires { HasRoom buf.old at (method_size (declare_method method.now)) (method_bytes (declare_method method.now)) }
@@ -137,7 +136,7 @@ pub fn put_declare(buf: &mut [u8], at: usize, method: &Declare) -> usize
     put_fields(buf, at, &declare_fields(method)[1..])
 }
 
-/// Appends the method id and the slots of `Declare` to a vector.
+/// Appends the method id and the fields of `Declare` to a vector.
 #[tactic(auto)]
 pub fn gen_declare(_alloc: Global, out: &mut Vec<u8>, method: &Declare) -> Result<(), GenError>
     ensures { Appends out.old.items out.new.items (method_size (declare_method method.now)) (method_bytes (declare_method method.now)) result }
@@ -165,23 +164,23 @@ impl DeclareOk {
     }
 }
 
-/// Reads the slots of `DeclareOk`.
+/// Decodes the fields of `DeclareOk`.
 pub fn parse_declare_ok(_alloc: Global, i: &[u8]) -> Result<(usize, DeclareOk), ParserError>
     ensures parsed { Parses declare_ok_method result i.now (judge_method 40 11) }
     ensures memory { NeedsNoMemory result }
 {
     let slots = SlotReader::new(i);
-    Ok((i.len() - slots.rest.len(), DeclareOk {}))
+    Ok((slots.used(i), DeclareOk {}))
 }
 
-/// Its ids and slots, in order.
+/// Its ids and fields, in order.
 pub(super) fn declare_ok_fields(_method: &DeclareOk) -> [Field<'_>; 2]
     ensures { ListsMethod result (declare_ok_method _method.now) }
 {
     [Field::ShortUInt(40), Field::ShortUInt(11)]
 }
 
-/// The size of the method id and the slots of `DeclareOk`.
+/// The size of the method id and the fields of `DeclareOk`.
 #[tactic(auto)]
 pub fn size_declare_ok(method: &DeclareOk) -> Result<u64, GenError>
     ensures { Measures result (method_size (declare_ok_method method.now)) }
@@ -189,7 +188,7 @@ pub fn size_declare_ok(method: &DeclareOk) -> Result<u64, GenError>
     size_fields(&declare_ok_fields(method)[1..])
 }
 
-/// Puts the method id and the slots of `DeclareOk` at a place of a slice, and answers the place behind.
+/// Puts the method id and the fields of `DeclareOk` at a place of a slice, and returns the place after.
 #[tactic(auto)]
 pub fn put_declare_ok(buf: &mut [u8], at: usize, method: &DeclareOk) -> usize
     requires { HasRoom buf.old at (method_size (declare_ok_method method.now)) (method_bytes (declare_ok_method method.now)) }
@@ -198,7 +197,7 @@ pub fn put_declare_ok(buf: &mut [u8], at: usize, method: &DeclareOk) -> usize
     put_fields(buf, at, &declare_ok_fields(method)[1..])
 }
 
-/// Appends the method id and the slots of `DeclareOk` to a vector.
+/// Appends the method id and the fields of `DeclareOk` to a vector.
 #[tactic(auto)]
 pub fn gen_declare_ok(_alloc: Global, out: &mut Vec<u8>, method: &DeclareOk) -> Result<(), GenError>
     ensures { Appends out.old.items out.new.items (method_size (declare_ok_method method.now)) (method_bytes (declare_ok_method method.now)) result }
@@ -240,7 +239,7 @@ impl Delete {
         }
     }
 
-    /// An equal method of its own.
+    /// A deep copy.
     pub fn copy(&self, alloc: Global) -> Result<Delete, NoMemory>
         ensures { IfOk result (λ copied. copied ≡ self.now) }
     {
@@ -252,7 +251,7 @@ impl Delete {
     }
 }
 
-/// Reads the slots of `Delete`.
+/// Decodes the fields of `Delete`.
 pub fn parse_delete(alloc: Global, i: &[u8]) -> Result<(usize, Delete), ParserError>
     ensures { Parses delete_method result i.now (judge_method 40 20) }
 {
@@ -265,10 +264,10 @@ pub fn parse_delete(alloc: Global, i: &[u8]) -> Result<(usize, Delete), ParserEr
         if_unused: flag_of_byte(flags, 0),
         nowait: flag_of_byte(flags, 1),
     };
-    Ok((i.len() - slots.rest.len(), method))
+    Ok((slots.used(i), method))
 }
 
-/// Its ids and slots, in order.
+/// Its ids and fields, in order.
 pub(super) fn delete_fields(method: &Delete) -> [Field<'_>; 5]
     ensures { ListsMethod result (delete_method method.now) }
 {
@@ -281,7 +280,7 @@ pub(super) fn delete_fields(method: &Delete) -> [Field<'_>; 5]
     ]
 }
 
-/// The size of the method id and the slots of `Delete`.
+/// The size of the method id and the fields of `Delete`.
 #[tactic(auto)]
 pub fn size_delete(method: &Delete) -> Result<u64, GenError>
     ensures { Measures result (method_size (delete_method method.now)) }
@@ -289,7 +288,7 @@ pub fn size_delete(method: &Delete) -> Result<u64, GenError>
     size_fields(&delete_fields(method)[1..])
 }
 
-/// Puts the method id and the slots of `Delete` at a place of a slice, and answers the place behind.
+/// Puts the method id and the fields of `Delete` at a place of a slice, and returns the place after.
 #[tactic(auto)]
 pub fn put_delete(buf: &mut [u8], at: usize, method: &Delete) -> usize
     requires { HasRoom buf.old at (method_size (delete_method method.now)) (method_bytes (delete_method method.now)) }
@@ -298,7 +297,7 @@ pub fn put_delete(buf: &mut [u8], at: usize, method: &Delete) -> usize
     put_fields(buf, at, &delete_fields(method)[1..])
 }
 
-/// Appends the method id and the slots of `Delete` to a vector.
+/// Appends the method id and the fields of `Delete` to a vector.
 #[tactic(auto)]
 pub fn gen_delete(_alloc: Global, out: &mut Vec<u8>, method: &Delete) -> Result<(), GenError>
     ensures { Appends out.old.items out.new.items (method_size (delete_method method.now)) (method_bytes (delete_method method.now)) result }
@@ -326,23 +325,23 @@ impl DeleteOk {
     }
 }
 
-/// Reads the slots of `DeleteOk`.
+/// Decodes the fields of `DeleteOk`.
 pub fn parse_delete_ok(_alloc: Global, i: &[u8]) -> Result<(usize, DeleteOk), ParserError>
     ensures parsed { Parses delete_ok_method result i.now (judge_method 40 21) }
     ensures memory { NeedsNoMemory result }
 {
     let slots = SlotReader::new(i);
-    Ok((i.len() - slots.rest.len(), DeleteOk {}))
+    Ok((slots.used(i), DeleteOk {}))
 }
 
-/// Its ids and slots, in order.
+/// Its ids and fields, in order.
 pub(super) fn delete_ok_fields(_method: &DeleteOk) -> [Field<'_>; 2]
     ensures { ListsMethod result (delete_ok_method _method.now) }
 {
     [Field::ShortUInt(40), Field::ShortUInt(21)]
 }
 
-/// The size of the method id and the slots of `DeleteOk`.
+/// The size of the method id and the fields of `DeleteOk`.
 #[tactic(auto)]
 pub fn size_delete_ok(method: &DeleteOk) -> Result<u64, GenError>
     ensures { Measures result (method_size (delete_ok_method method.now)) }
@@ -350,7 +349,7 @@ pub fn size_delete_ok(method: &DeleteOk) -> Result<u64, GenError>
     size_fields(&delete_ok_fields(method)[1..])
 }
 
-/// Puts the method id and the slots of `DeleteOk` at a place of a slice, and answers the place behind.
+/// Puts the method id and the fields of `DeleteOk` at a place of a slice, and returns the place after.
 #[tactic(auto)]
 pub fn put_delete_ok(buf: &mut [u8], at: usize, method: &DeleteOk) -> usize
     requires { HasRoom buf.old at (method_size (delete_ok_method method.now)) (method_bytes (delete_ok_method method.now)) }
@@ -359,7 +358,7 @@ pub fn put_delete_ok(buf: &mut [u8], at: usize, method: &DeleteOk) -> usize
     put_fields(buf, at, &delete_ok_fields(method)[1..])
 }
 
-/// Appends the method id and the slots of `DeleteOk` to a vector.
+/// Appends the method id and the fields of `DeleteOk` to a vector.
 #[tactic(auto)]
 pub fn gen_delete_ok(_alloc: Global, out: &mut Vec<u8>, method: &DeleteOk) -> Result<(), GenError>
     ensures { Appends out.old.items out.new.items (method_size (delete_ok_method method.now)) (method_bytes (delete_ok_method method.now)) result }
