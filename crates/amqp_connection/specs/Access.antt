@@ -1,4 +1,4 @@
--- The methods of the class access, and what their slots give.
+-- The methods of the class access, and the items of their fields.
 use Rattle.std.specs.Prelude.{[], ◌∷◌}
 use Rattle.amqp_types.specs.Slots.{flag_item, text_item}
 use Rattle.amqp_types.specs.Methods.{Method, method}

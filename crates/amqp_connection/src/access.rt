@@ -1,5 +1,4 @@
 //! The methods of the class access, 30.
-#![tactic(auto, using(amqp_types::proofs::Judged::refuses_next), unfolding(amqp_types::specs::Rows::rows_of, amqp_types::specs::Rows::slots_at, amqp_types::specs::SlotJudging::judge_slots, amqp_types::specs::Methods::judge_method, amqp_values::specs::Fields::field_bytes, amqp_values::specs::Fields::is_deep_field, amqp_values::specs::Fields::is_long_field, amqp_values::specs::Fields::fields_bytes, amqp_values::specs::Fields::any_deep_field, amqp_values::specs::Fields::any_long_field, amqp_values::specs::Fields::fields_size, amqp_types::specs::SlotBytes::form_bytes, amqp_types::specs::SlotBytes::slots_bytes, amqp_types::specs::SlotBytes::items_size, amqp_types::specs::Methods::method_bytes, amqp_types::specs::Methods::method_size, amqp_types::specs::Methods::payload_bytes, amqp_types::specs::Methods::payload_size))]
 
 ghost use Rattle.std.specs.Prelude.{◌≡◌, ◌∷◌, [], false, IfOk};
 ghost use Rattle.amqp_types.specs.Slots.{flag_item, text_item};
@@ -55,7 +54,7 @@ impl Request {
         }
     }
 
-    /// An equal method of its own.
+    /// A deep copy.
     pub fn copy(&self, alloc: Global) -> Result<Request, NoMemory>
         ensures { IfOk result (λ copied. copied ≡ self.now) }
     {
@@ -70,7 +69,7 @@ impl Request {
     }
 }
 
-/// Reads the slots of `Request`.
+/// Decodes the fields of `Request`.
 pub fn parse_request(alloc: Global, i: &[u8]) -> Result<(usize, Request), ParserError>
     ensures { Parses request_method result i.now (judge_method 30 10) }
 {
@@ -85,10 +84,10 @@ pub fn parse_request(alloc: Global, i: &[u8]) -> Result<(usize, Request), Parser
         write: flag_of_byte(flags, 3),
         read: flag_of_byte(flags, 4),
     };
-    Ok((i.len() - slots.rest.len(), method))
+    Ok((slots.used(i), method))
 }
 
-/// Its ids and slots, in order.
+/// Its ids and fields, in order.
 fn request_fields(method: &Request) -> [Field<'_>; 4]
     ensures { ListsMethod result (request_method method.now) }
 {
@@ -106,7 +105,7 @@ fn request_fields(method: &Request) -> [Field<'_>; 4]
     ]
 }
 
-/// The size of the method id and the slots of `Request`.
+/// The size of the method id and the fields of `Request`.
 #[tactic(auto)]
 pub fn size_request(method: &Request) -> Result<u64, GenError>
     ensures { Measures result (method_size (request_method method.now)) }
@@ -114,7 +113,7 @@ pub fn size_request(method: &Request) -> Result<u64, GenError>
     size_fields(&request_fields(method)[1..])
 }
 
-/// Puts the method id and the slots of `Request` at a place of a slice, and answers the place behind.
+/// Puts the method id and the fields of `Request` at a place of a slice, and returns the place after.
 #[tactic(auto)]
 pub fn put_request(buf: &mut [u8], at: usize, method: &Request) -> usize
     requires { HasRoom buf.old at (method_size (request_method method.now)) (method_bytes (request_method method.now)) }
@@ -123,7 +122,7 @@ pub fn put_request(buf: &mut [u8], at: usize, method: &Request) -> usize
     put_fields(buf, at, &request_fields(method)[1..])
 }
 
-/// Appends the method id and the slots of `Request` to a vector.
+/// Appends the method id and the fields of `Request` to a vector.
 #[tactic(auto)]
 pub fn gen_request(_alloc: Global, out: &mut Vec<u8>, method: &Request) -> Result<(), GenError>
     ensures { Appends out.old.items out.new.items (method_size (request_method method.now)) (method_bytes (request_method method.now)) result }
@@ -151,17 +150,17 @@ impl RequestOk {
     }
 }
 
-/// Reads the slots of `RequestOk`.
+/// Decodes the fields of `RequestOk`.
 pub fn parse_request_ok(_alloc: Global, i: &[u8]) -> Result<(usize, RequestOk), ParserError>
     ensures parsed { Parses request_ok_method result i.now (judge_method 30 11) }
     ensures memory { NeedsNoMemory result }
 {
     let mut slots = SlotReader::new(i);
     slots.skip_short_uint()?;
-    Ok((i.len() - slots.rest.len(), RequestOk {}))
+    Ok((slots.used(i), RequestOk {}))
 }
 
-/// Its ids and slots, in order.
+/// Its ids and fields, in order.
 fn request_ok_fields(_method: &RequestOk) -> [Field<'_>; 3]
     ensures { ListsMethod result (request_ok_method _method.now) }
 {
@@ -172,7 +171,7 @@ fn request_ok_fields(_method: &RequestOk) -> [Field<'_>; 3]
     ]
 }
 
-/// The size of the method id and the slots of `RequestOk`.
+/// The size of the method id and the fields of `RequestOk`.
 #[tactic(auto)]
 pub fn size_request_ok(method: &RequestOk) -> Result<u64, GenError>
     ensures { Measures result (method_size (request_ok_method method.now)) }
@@ -180,7 +179,7 @@ pub fn size_request_ok(method: &RequestOk) -> Result<u64, GenError>
     size_fields(&request_ok_fields(method)[1..])
 }
 
-/// Puts the method id and the slots of `RequestOk` at a place of a slice, and answers the place behind.
+/// Puts the method id and the fields of `RequestOk` at a place of a slice, and returns the place after.
 #[tactic(auto)]
 pub fn put_request_ok(buf: &mut [u8], at: usize, method: &RequestOk) -> usize
     requires { HasRoom buf.old at (method_size (request_ok_method method.now)) (method_bytes (request_ok_method method.now)) }
@@ -189,7 +188,7 @@ pub fn put_request_ok(buf: &mut [u8], at: usize, method: &RequestOk) -> usize
     put_fields(buf, at, &request_ok_fields(method)[1..])
 }
 
-/// Appends the method id and the slots of `RequestOk` to a vector.
+/// Appends the method id and the fields of `RequestOk` to a vector.
 #[tactic(auto)]
 pub fn gen_request_ok(_alloc: Global, out: &mut Vec<u8>, method: &RequestOk) -> Result<(), GenError>
     ensures { Appends out.old.items out.new.items (method_size (request_ok_method method.now)) (method_bytes (request_ok_method method.now)) result }
@@ -225,7 +224,7 @@ impl AMQPMethod {
         }
     }
 
-    /// An equal method of its own.
+    /// A deep copy.
     pub fn copy(&self, alloc: Global) -> Result<AMQPMethod, NoMemory>
         ensures { IfOk result (λ copied. copied ≡ self.now) }
     {
@@ -236,7 +235,7 @@ impl AMQPMethod {
     }
 }
 
-/// Reads the slots of the method with this id.
+/// Decodes the fields of the method with this id.
 #[tactic(auto, using(amqp_types::proofs::Judged::refuses_next), unfolding(amqp_types::specs::Rows::rows_of, amqp_types::specs::Rows::slots_at, amqp_types::specs::Methods::judge_method))]
 fn parse_method(alloc: Global, id: Identifier, i: &[u8]) -> Result<(usize, AMQPMethod), ParserError>
     ensures { Parses method_of result i.now (judge_method 30 id) }
@@ -254,7 +253,7 @@ fn parse_method(alloc: Global, id: Identifier, i: &[u8]) -> Result<(usize, AMQPM
     }
 }
 
-/// Reads a method id and the slots of that method.
+/// Decodes a method id and the fields of that method.
 #[tactic(auto, using(amqp_types::proofs::Judged::refuses_next), unfolding(amqp_types::specs::Rows::rows_of, amqp_types::specs::Methods::judge_in_class))]
 pub fn parse_access(alloc: Global, i: &[u8]) -> Result<(usize, AMQPMethod), ParserError>
     ensures { Parses method_of result i.now (judge_in_class 30) }
@@ -264,36 +263,37 @@ pub fn parse_access(alloc: Global, i: &[u8]) -> Result<(usize, AMQPMethod), Pars
     Ok((n + used, method))
 }
 
-/// The size of the class id, the method id and the slots.
+/// Calls a function with the ids and fields of a method, after the arguments given.
+macro_rules! with_fields {
+    ($method:expr, $call:ident($($argument:expr),*)) => {
+        match $method {
+            AMQPMethod::Request(method) => $call($($argument,)* &request_fields(method)),
+            AMQPMethod::RequestOk(method) => $call($($argument,)* &request_ok_fields(method)),
+        }
+    };
+}
+
+/// The size of the class id, the method id and the fields.
 #[tactic(auto)]
 pub fn size_access(method: &AMQPMethod) -> Result<u64, GenError>
     ensures { Measures result (payload_size (method_of method.now)) }
 {
-    match method {
-        AMQPMethod::Request(method) => size_fields(&request_fields(method)),
-        AMQPMethod::RequestOk(method) => size_fields(&request_ok_fields(method)),
-    }
+    with_fields!(method, size_fields())
 }
 
-/// Puts the class id, the method id and the slots at a place of a slice, and answers the place behind.
+/// Puts the class id, the method id and the fields at a place of a slice, and returns the place after.
 #[tactic(auto)]
 pub fn put_access(buf: &mut [u8], at: usize, method: &AMQPMethod) -> usize
     requires { HasRoom buf.old at (payload_size (method_of method.now)) (payload_bytes (method_of method.now)) }
     ensures { Puts buf.old buf.new at (payload_bytes (method_of method.now)) result }
 {
-    match method {
-        AMQPMethod::Request(method) => put_fields(buf, at, &request_fields(method)),
-        AMQPMethod::RequestOk(method) => put_fields(buf, at, &request_ok_fields(method)),
-    }
+    with_fields!(method, put_fields(buf, at))
 }
 
-/// Appends the class id, the method id and the slots to a vector.
+/// Appends the class id, the method id and the fields to a vector.
 #[tactic(auto)]
 pub fn gen_access(_alloc: Global, out: &mut Vec<u8>, method: &AMQPMethod) -> Result<(), GenError>
     ensures { Appends out.old.items out.new.items (payload_size (method_of method.now)) (payload_bytes (method_of method.now)) result }
 {
-    match method {
-        AMQPMethod::Request(method) => gen_fields(out, &request_fields(method)),
-        AMQPMethod::RequestOk(method) => gen_fields(out, &request_ok_fields(method)),
-    }
+    with_fields!(method, gen_fields(out))
 }

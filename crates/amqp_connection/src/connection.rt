@@ -106,7 +106,7 @@ impl AMQPMethod {
         }
     }
 
-    /// An equal method of its own.
+    /// A deep copy.
     pub fn copy(&self, alloc: Global) -> Result<AMQPMethod, NoMemory>
         ensures { IfOk result (λ copied. copied ≡ self.now) }
     {
@@ -129,7 +129,7 @@ impl AMQPMethod {
     }
 }
 
-/// Reads the slots of the method with this id.
+/// Decodes the fields of the method with this id.
 #[tactic(auto, using(amqp_types::proofs::Judged::refuses_next), unfolding(amqp_types::specs::Rows::rows_of, amqp_types::specs::Rows::slots_at, amqp_types::specs::Methods::judge_method))]
 fn parse_method(alloc: Global, id: Identifier, i: &[u8]) -> Result<(usize, AMQPMethod), ParserError>
     ensures { Parses method_of result i.now (judge_method 10 id) }
@@ -195,7 +195,7 @@ fn parse_method(alloc: Global, id: Identifier, i: &[u8]) -> Result<(usize, AMQPM
     }
 }
 
-/// Reads a method id and the slots of that method.
+/// Decodes a method id and the fields of that method.
 #[tactic(auto, using(amqp_types::proofs::Judged::refuses_next), unfolding(amqp_types::specs::Rows::rows_of, amqp_types::specs::Methods::judge_in_class))]
 pub fn parse_connection(alloc: Global, i: &[u8]) -> Result<(usize, AMQPMethod), ParserError>
     ensures { Parses method_of result i.now (judge_in_class 10) }
@@ -205,64 +205,46 @@ pub fn parse_connection(alloc: Global, i: &[u8]) -> Result<(usize, AMQPMethod), 
     Ok((n + used, method))
 }
 
-/// The size of the class id, the method id and the slots.
+/// Calls a function with the ids and fields of a method, after the arguments given.
+macro_rules! with_fields {
+    ($method:expr, $call:ident($($argument:expr),*)) => {
+        match $method {
+            AMQPMethod::Start(method) => $call($($argument,)* &negotiating::start_fields(method)),
+            AMQPMethod::StartOk(method) => $call($($argument,)* &negotiating::start_ok_fields(method)),
+            AMQPMethod::Secure(method) => $call($($argument,)* &negotiating::secure_fields(method)),
+            AMQPMethod::SecureOk(method) => $call($($argument,)* &negotiating::secure_ok_fields(method)),
+            AMQPMethod::Tune(method) => $call($($argument,)* &negotiating::tune_fields(method)),
+            AMQPMethod::TuneOk(method) => $call($($argument,)* &negotiating::tune_ok_fields(method)),
+            AMQPMethod::Open(method) => $call($($argument,)* &opening::open_fields(method)),
+            AMQPMethod::OpenOk(method) => $call($($argument,)* &opening::open_ok_fields(method)),
+            AMQPMethod::Close(method) => $call($($argument,)* &opening::close_fields(method)),
+            AMQPMethod::CloseOk(method) => $call($($argument,)* &opening::close_ok_fields(method)),
+            AMQPMethod::Blocked(method) => $call($($argument,)* &opening::blocked_fields(method)),
+            AMQPMethod::Unblocked(method) => $call($($argument,)* &opening::unblocked_fields(method)),
+            AMQPMethod::UpdateSecret(method) => $call($($argument,)* &opening::update_secret_fields(method)),
+            AMQPMethod::UpdateSecretOk(method) => $call($($argument,)* &opening::update_secret_ok_fields(method)),
+        }
+    };
+}
+
+/// The size of the class id, the method id and the fields.
 #[tactic(auto)]
 pub fn size_connection(method: &AMQPMethod) -> Result<u64, GenError>
     ensures { Measures result (payload_size (method_of method.now)) }
 {
-    match method {
-        AMQPMethod::Start(method) => size_fields(&negotiating::start_fields(method)),
-        AMQPMethod::StartOk(method) => size_fields(&negotiating::start_ok_fields(method)),
-        AMQPMethod::Secure(method) => size_fields(&negotiating::secure_fields(method)),
-        AMQPMethod::SecureOk(method) => size_fields(&negotiating::secure_ok_fields(method)),
-        AMQPMethod::Tune(method) => size_fields(&negotiating::tune_fields(method)),
-        AMQPMethod::TuneOk(method) => size_fields(&negotiating::tune_ok_fields(method)),
-        AMQPMethod::Open(method) => size_fields(&opening::open_fields(method)),
-        AMQPMethod::OpenOk(method) => size_fields(&opening::open_ok_fields(method)),
-        AMQPMethod::Close(method) => size_fields(&opening::close_fields(method)),
-        AMQPMethod::CloseOk(method) => size_fields(&opening::close_ok_fields(method)),
-        AMQPMethod::Blocked(method) => size_fields(&opening::blocked_fields(method)),
-        AMQPMethod::Unblocked(method) => size_fields(&opening::unblocked_fields(method)),
-        AMQPMethod::UpdateSecret(method) => size_fields(&opening::update_secret_fields(method)),
-        AMQPMethod::UpdateSecretOk(method) => size_fields(&opening::update_secret_ok_fields(
-            method,
-        )),
-    }
+    with_fields!(method, size_fields())
 }
 
-/// Puts the class id, the method id and the slots at a place of a slice, and answers the place behind.
+/// Puts the class id, the method id and the fields at a place of a slice, and returns the place after.
 #[tactic(auto)]
 pub fn put_connection(buf: &mut [u8], at: usize, method: &AMQPMethod) -> usize
     requires { HasRoom buf.old at (payload_size (method_of method.now)) (payload_bytes (method_of method.now)) }
     ensures { Puts buf.old buf.new at (payload_bytes (method_of method.now)) result }
 {
-    match method {
-        AMQPMethod::Start(method) => put_fields(buf, at, &negotiating::start_fields(method)),
-        AMQPMethod::StartOk(method) => put_fields(buf, at, &negotiating::start_ok_fields(method)),
-        AMQPMethod::Secure(method) => put_fields(buf, at, &negotiating::secure_fields(method)),
-        AMQPMethod::SecureOk(method) => put_fields(buf, at, &negotiating::secure_ok_fields(method)),
-        AMQPMethod::Tune(method) => put_fields(buf, at, &negotiating::tune_fields(method)),
-        AMQPMethod::TuneOk(method) => put_fields(buf, at, &negotiating::tune_ok_fields(method)),
-        AMQPMethod::Open(method) => put_fields(buf, at, &opening::open_fields(method)),
-        AMQPMethod::OpenOk(method) => put_fields(buf, at, &opening::open_ok_fields(method)),
-        AMQPMethod::Close(method) => put_fields(buf, at, &opening::close_fields(method)),
-        AMQPMethod::CloseOk(method) => put_fields(buf, at, &opening::close_ok_fields(method)),
-        AMQPMethod::Blocked(method) => put_fields(buf, at, &opening::blocked_fields(method)),
-        AMQPMethod::Unblocked(method) => put_fields(buf, at, &opening::unblocked_fields(method)),
-        AMQPMethod::UpdateSecret(method) => put_fields(
-            buf,
-            at,
-            &opening::update_secret_fields(method),
-        ),
-        AMQPMethod::UpdateSecretOk(method) => put_fields(
-            buf,
-            at,
-            &opening::update_secret_ok_fields(method),
-        ),
-    }
+    with_fields!(method, put_fields(buf, at))
 }
 
-/// Appends the class id, the method id and the slots to a vector.
+/// Appends the class id, the method id and the fields to a vector.
 #[tactic(auto)]
 pub fn gen_connection(
     _alloc: Global,
@@ -271,23 +253,5 @@ pub fn gen_connection(
 ) -> Result<(), GenError>
     ensures { Appends out.old.items out.new.items (payload_size (method_of method.now)) (payload_bytes (method_of method.now)) result }
 {
-    match method {
-        AMQPMethod::Start(method) => gen_fields(out, &negotiating::start_fields(method)),
-        AMQPMethod::StartOk(method) => gen_fields(out, &negotiating::start_ok_fields(method)),
-        AMQPMethod::Secure(method) => gen_fields(out, &negotiating::secure_fields(method)),
-        AMQPMethod::SecureOk(method) => gen_fields(out, &negotiating::secure_ok_fields(method)),
-        AMQPMethod::Tune(method) => gen_fields(out, &negotiating::tune_fields(method)),
-        AMQPMethod::TuneOk(method) => gen_fields(out, &negotiating::tune_ok_fields(method)),
-        AMQPMethod::Open(method) => gen_fields(out, &opening::open_fields(method)),
-        AMQPMethod::OpenOk(method) => gen_fields(out, &opening::open_ok_fields(method)),
-        AMQPMethod::Close(method) => gen_fields(out, &opening::close_fields(method)),
-        AMQPMethod::CloseOk(method) => gen_fields(out, &opening::close_ok_fields(method)),
-        AMQPMethod::Blocked(method) => gen_fields(out, &opening::blocked_fields(method)),
-        AMQPMethod::Unblocked(method) => gen_fields(out, &opening::unblocked_fields(method)),
-        AMQPMethod::UpdateSecret(method) => gen_fields(out, &opening::update_secret_fields(method)),
-        AMQPMethod::UpdateSecretOk(method) => gen_fields(
-            out,
-            &opening::update_secret_ok_fields(method),
-        ),
-    }
+    with_fields!(method, gen_fields(out))
 }

@@ -1,5 +1,4 @@
 //! Methods of the class connection by which peers agree on a connection.
-#![tactic(auto, using(amqp_types::proofs::Judged::refuses_next), unfolding(amqp_types::specs::Rows::rows_of, amqp_types::specs::Rows::slots_at, amqp_types::specs::SlotJudging::judge_slots, amqp_types::specs::Methods::judge_method, amqp_values::specs::Fields::field_bytes, amqp_values::specs::Fields::is_deep_field, amqp_values::specs::Fields::is_long_field, amqp_values::specs::Fields::fields_bytes, amqp_values::specs::Fields::any_deep_field, amqp_values::specs::Fields::any_long_field, amqp_values::specs::Fields::fields_size, amqp_types::specs::SlotBytes::form_bytes, amqp_types::specs::SlotBytes::slots_bytes, amqp_types::specs::SlotBytes::items_size, amqp_types::specs::Methods::method_bytes, amqp_types::specs::Methods::method_size, amqp_types::specs::Methods::payload_bytes, amqp_types::specs::Methods::payload_size))]
 
 ghost use Rattle.std.specs.Prelude.{◌≡◌, ◌∷◌, [], IfOk};
 ghost use Rattle.amqp_types.specs.Slots.{number_item, text_item, bytes_item, entries_item};
@@ -53,7 +52,7 @@ impl Start {
         }
     }
 
-    /// An equal method of its own.
+    /// A deep copy.
     pub fn copy(&self, alloc: Global) -> Result<Start, NoMemory>
         ensures { IfOk result (λ copied. copied ≡ self.now) }
     {
@@ -67,7 +66,7 @@ impl Start {
     }
 }
 
-/// Reads the slots of `Start`.
+/// Decodes the fields of `Start`.
 pub fn parse_start(alloc: Global, i: &[u8]) -> Result<(usize, Start), ParserError>
     ensures { Parses start_method result i.now (judge_method 10 10) }
 {
@@ -84,10 +83,10 @@ pub fn parse_start(alloc: Global, i: &[u8]) -> Result<(usize, Start), ParserErro
         mechanisms,
         locales,
     };
-    Ok((i.len() - slots.rest.len(), method))
+    Ok((slots.used(i), method))
 }
 
-/// Its ids and slots, in order.
+/// Its ids and fields, in order.
 pub(super) fn start_fields(method: &Start) -> [Field<'_>; 7]
     ensures { ListsMethod result (start_method method.now) }
 {
@@ -102,7 +101,7 @@ pub(super) fn start_fields(method: &Start) -> [Field<'_>; 7]
     ]
 }
 
-/// The size of the method id and the slots of `Start`.
+/// The size of the method id and the fields of `Start`.
 #[tactic(auto)]
 pub fn size_start(method: &Start) -> Result<u64, GenError>
     ensures { Measures result (method_size (start_method method.now)) }
@@ -110,7 +109,7 @@ pub fn size_start(method: &Start) -> Result<u64, GenError>
     size_fields(&start_fields(method)[1..])
 }
 
-/// Puts the method id and the slots of `Start` at a place of a slice, and answers the place behind.
+/// Puts the method id and the fields of `Start` at a place of a slice, and returns the place after.
 #[tactic(auto)]
 pub fn put_start(buf: &mut [u8], at: usize, method: &Start) -> usize
     requires { HasRoom buf.old at (method_size (start_method method.now)) (method_bytes (start_method method.now)) }
@@ -119,7 +118,7 @@ pub fn put_start(buf: &mut [u8], at: usize, method: &Start) -> usize
     put_fields(buf, at, &start_fields(method)[1..])
 }
 
-/// Appends the method id and the slots of `Start` to a vector.
+/// Appends the method id and the fields of `Start` to a vector.
 #[tactic(auto)]
 pub fn gen_start(_alloc: Global, out: &mut Vec<u8>, method: &Start) -> Result<(), GenError>
     ensures { Appends out.old.items out.new.items (method_size (start_method method.now)) (method_bytes (start_method method.now)) result }
@@ -163,7 +162,7 @@ impl StartOk {
         }
     }
 
-    /// An equal method of its own.
+    /// A deep copy.
     pub fn copy(&self, alloc: Global) -> Result<StartOk, NoMemory>
         ensures { IfOk result (λ copied. copied ≡ self.now) }
     {
@@ -176,7 +175,7 @@ impl StartOk {
     }
 }
 
-/// Reads the slots of `StartOk`.
+/// Decodes the fields of `StartOk`.
 pub fn parse_start_ok(alloc: Global, i: &[u8]) -> Result<(usize, StartOk), ParserError>
     ensures { Parses start_ok_method result i.now (judge_method 10 11) }
 {
@@ -191,10 +190,10 @@ pub fn parse_start_ok(alloc: Global, i: &[u8]) -> Result<(usize, StartOk), Parse
         response,
         locale,
     };
-    Ok((i.len() - slots.rest.len(), method))
+    Ok((slots.used(i), method))
 }
 
-/// Its ids and slots, in order.
+/// Its ids and fields, in order.
 pub(super) fn start_ok_fields(method: &StartOk) -> [Field<'_>; 6]
     ensures { ListsMethod result (start_ok_method method.now) }
 {
@@ -208,7 +207,7 @@ pub(super) fn start_ok_fields(method: &StartOk) -> [Field<'_>; 6]
     ]
 }
 
-/// The size of the method id and the slots of `StartOk`.
+/// The size of the method id and the fields of `StartOk`.
 #[tactic(auto)]
 pub fn size_start_ok(method: &StartOk) -> Result<u64, GenError>
     ensures { Measures result (method_size (start_ok_method method.now)) }
@@ -216,7 +215,7 @@ pub fn size_start_ok(method: &StartOk) -> Result<u64, GenError>
     size_fields(&start_ok_fields(method)[1..])
 }
 
-/// Puts the method id and the slots of `StartOk` at a place of a slice, and answers the place behind.
+/// Puts the method id and the fields of `StartOk` at a place of a slice, and returns the place after.
 #[tactic(auto)]
 pub fn put_start_ok(buf: &mut [u8], at: usize, method: &StartOk) -> usize
     requires { HasRoom buf.old at (method_size (start_ok_method method.now)) (method_bytes (start_ok_method method.now)) }
@@ -225,7 +224,7 @@ pub fn put_start_ok(buf: &mut [u8], at: usize, method: &StartOk) -> usize
     put_fields(buf, at, &start_ok_fields(method)[1..])
 }
 
-/// Appends the method id and the slots of `StartOk` to a vector.
+/// Appends the method id and the fields of `StartOk` to a vector.
 #[tactic(auto)]
 pub fn gen_start_ok(_alloc: Global, out: &mut Vec<u8>, method: &StartOk) -> Result<(), GenError>
     ensures { Appends out.old.items out.new.items (method_size (start_ok_method method.now)) (method_bytes (start_ok_method method.now)) result }
@@ -263,7 +262,7 @@ impl Secure {
         }
     }
 
-    /// An equal method of its own.
+    /// A deep copy.
     pub fn copy(&self, alloc: Global) -> Result<Secure, NoMemory>
         ensures { IfOk result (λ copied. copied ≡ self.now) }
     {
@@ -273,17 +272,17 @@ impl Secure {
     }
 }
 
-/// Reads the slots of `Secure`.
+/// Decodes the fields of `Secure`.
 pub fn parse_secure(alloc: Global, i: &[u8]) -> Result<(usize, Secure), ParserError>
     ensures { Parses secure_method result i.now (judge_method 10 20) }
 {
     let mut slots = SlotReader::new(i);
     let challenge = slots.long_string(alloc)?;
     let method = Secure { challenge };
-    Ok((i.len() - slots.rest.len(), method))
+    Ok((slots.used(i), method))
 }
 
-/// Its ids and slots, in order.
+/// Its ids and fields, in order.
 pub(super) fn secure_fields(method: &Secure) -> [Field<'_>; 3]
     ensures { ListsMethod result (secure_method method.now) }
 {
@@ -294,7 +293,7 @@ pub(super) fn secure_fields(method: &Secure) -> [Field<'_>; 3]
     ]
 }
 
-/// The size of the method id and the slots of `Secure`.
+/// The size of the method id and the fields of `Secure`.
 #[tactic(auto)]
 pub fn size_secure(method: &Secure) -> Result<u64, GenError>
     ensures { Measures result (method_size (secure_method method.now)) }
@@ -302,7 +301,7 @@ pub fn size_secure(method: &Secure) -> Result<u64, GenError>
     size_fields(&secure_fields(method)[1..])
 }
 
-/// Puts the method id and the slots of `Secure` at a place of a slice, and answers the place behind.
+/// Puts the method id and the fields of `Secure` at a place of a slice, and returns the place after.
 #[tactic(auto)]
 pub fn put_secure(buf: &mut [u8], at: usize, method: &Secure) -> usize
     requires { HasRoom buf.old at (method_size (secure_method method.now)) (method_bytes (secure_method method.now)) }
@@ -311,7 +310,7 @@ pub fn put_secure(buf: &mut [u8], at: usize, method: &Secure) -> usize
     put_fields(buf, at, &secure_fields(method)[1..])
 }
 
-/// Appends the method id and the slots of `Secure` to a vector.
+/// Appends the method id and the fields of `Secure` to a vector.
 #[tactic(auto)]
 pub fn gen_secure(_alloc: Global, out: &mut Vec<u8>, method: &Secure) -> Result<(), GenError>
     ensures { Appends out.old.items out.new.items (method_size (secure_method method.now)) (method_bytes (secure_method method.now)) result }
@@ -349,7 +348,7 @@ impl SecureOk {
         }
     }
 
-    /// An equal method of its own.
+    /// A deep copy.
     pub fn copy(&self, alloc: Global) -> Result<SecureOk, NoMemory>
         ensures { IfOk result (λ copied. copied ≡ self.now) }
     {
@@ -359,17 +358,17 @@ impl SecureOk {
     }
 }
 
-/// Reads the slots of `SecureOk`.
+/// Decodes the fields of `SecureOk`.
 pub fn parse_secure_ok(alloc: Global, i: &[u8]) -> Result<(usize, SecureOk), ParserError>
     ensures { Parses secure_ok_method result i.now (judge_method 10 21) }
 {
     let mut slots = SlotReader::new(i);
     let response = slots.long_string(alloc)?;
     let method = SecureOk { response };
-    Ok((i.len() - slots.rest.len(), method))
+    Ok((slots.used(i), method))
 }
 
-/// Its ids and slots, in order.
+/// Its ids and fields, in order.
 pub(super) fn secure_ok_fields(method: &SecureOk) -> [Field<'_>; 3]
     ensures { ListsMethod result (secure_ok_method method.now) }
 {
@@ -380,7 +379,7 @@ pub(super) fn secure_ok_fields(method: &SecureOk) -> [Field<'_>; 3]
     ]
 }
 
-/// The size of the method id and the slots of `SecureOk`.
+/// The size of the method id and the fields of `SecureOk`.
 #[tactic(auto)]
 pub fn size_secure_ok(method: &SecureOk) -> Result<u64, GenError>
     ensures { Measures result (method_size (secure_ok_method method.now)) }
@@ -388,7 +387,7 @@ pub fn size_secure_ok(method: &SecureOk) -> Result<u64, GenError>
     size_fields(&secure_ok_fields(method)[1..])
 }
 
-/// Puts the method id and the slots of `SecureOk` at a place of a slice, and answers the place behind.
+/// Puts the method id and the fields of `SecureOk` at a place of a slice, and returns the place after.
 #[tactic(auto)]
 pub fn put_secure_ok(buf: &mut [u8], at: usize, method: &SecureOk) -> usize
     requires { HasRoom buf.old at (method_size (secure_ok_method method.now)) (method_bytes (secure_ok_method method.now)) }
@@ -397,7 +396,7 @@ pub fn put_secure_ok(buf: &mut [u8], at: usize, method: &SecureOk) -> usize
     put_fields(buf, at, &secure_ok_fields(method)[1..])
 }
 
-/// Appends the method id and the slots of `SecureOk` to a vector.
+/// Appends the method id and the fields of `SecureOk` to a vector.
 #[tactic(auto)]
 pub fn gen_secure_ok(_alloc: Global, out: &mut Vec<u8>, method: &SecureOk) -> Result<(), GenError>
     ensures { Appends out.old.items out.new.items (method_size (secure_ok_method method.now)) (method_bytes (secure_ok_method method.now)) result }
@@ -429,7 +428,7 @@ impl Tune {
     }
 }
 
-/// Reads the slots of `Tune`.
+/// Decodes the fields of `Tune`.
 pub fn parse_tune(_alloc: Global, i: &[u8]) -> Result<(usize, Tune), ParserError>
     ensures parsed { Parses tune_method result i.now (judge_method 10 30) }
     ensures memory { NeedsNoMemory result }
@@ -443,10 +442,10 @@ pub fn parse_tune(_alloc: Global, i: &[u8]) -> Result<(usize, Tune), ParserError
         frame_max,
         heartbeat,
     };
-    Ok((i.len() - slots.rest.len(), method))
+    Ok((slots.used(i), method))
 }
 
-/// Its ids and slots, in order.
+/// Its ids and fields, in order.
 pub(super) fn tune_fields(method: &Tune) -> [Field<'_>; 5]
     ensures { ListsMethod result (tune_method method.now) }
 {
@@ -459,7 +458,7 @@ pub(super) fn tune_fields(method: &Tune) -> [Field<'_>; 5]
     ]
 }
 
-/// The size of the method id and the slots of `Tune`.
+/// The size of the method id and the fields of `Tune`.
 #[tactic(auto)]
 pub fn size_tune(method: &Tune) -> Result<u64, GenError>
     ensures { Measures result (method_size (tune_method method.now)) }
@@ -467,7 +466,7 @@ pub fn size_tune(method: &Tune) -> Result<u64, GenError>
     size_fields(&tune_fields(method)[1..])
 }
 
-/// Puts the method id and the slots of `Tune` at a place of a slice, and answers the place behind.
+/// Puts the method id and the fields of `Tune` at a place of a slice, and returns the place after.
 #[tactic(auto)]
 pub fn put_tune(buf: &mut [u8], at: usize, method: &Tune) -> usize
     requires { HasRoom buf.old at (method_size (tune_method method.now)) (method_bytes (tune_method method.now)) }
@@ -476,7 +475,7 @@ pub fn put_tune(buf: &mut [u8], at: usize, method: &Tune) -> usize
     put_fields(buf, at, &tune_fields(method)[1..])
 }
 
-/// Appends the method id and the slots of `Tune` to a vector.
+/// Appends the method id and the fields of `Tune` to a vector.
 #[tactic(auto)]
 pub fn gen_tune(_alloc: Global, out: &mut Vec<u8>, method: &Tune) -> Result<(), GenError>
     ensures { Appends out.old.items out.new.items (method_size (tune_method method.now)) (method_bytes (tune_method method.now)) result }
@@ -508,7 +507,7 @@ impl TuneOk {
     }
 }
 
-/// Reads the slots of `TuneOk`.
+/// Decodes the fields of `TuneOk`.
 pub fn parse_tune_ok(_alloc: Global, i: &[u8]) -> Result<(usize, TuneOk), ParserError>
     ensures parsed { Parses tune_ok_method result i.now (judge_method 10 31) }
     ensures memory { NeedsNoMemory result }
@@ -522,10 +521,10 @@ pub fn parse_tune_ok(_alloc: Global, i: &[u8]) -> Result<(usize, TuneOk), Parser
         frame_max,
         heartbeat,
     };
-    Ok((i.len() - slots.rest.len(), method))
+    Ok((slots.used(i), method))
 }
 
-/// Its ids and slots, in order.
+/// Its ids and fields, in order.
 pub(super) fn tune_ok_fields(method: &TuneOk) -> [Field<'_>; 5]
     ensures { ListsMethod result (tune_ok_method method.now) }
 {
@@ -538,7 +537,7 @@ pub(super) fn tune_ok_fields(method: &TuneOk) -> [Field<'_>; 5]
     ]
 }
 
-/// The size of the method id and the slots of `TuneOk`.
+/// The size of the method id and the fields of `TuneOk`.
 #[tactic(auto)]
 pub fn size_tune_ok(method: &TuneOk) -> Result<u64, GenError>
     ensures { Measures result (method_size (tune_ok_method method.now)) }
@@ -546,7 +545,7 @@ pub fn size_tune_ok(method: &TuneOk) -> Result<u64, GenError>
     size_fields(&tune_ok_fields(method)[1..])
 }
 
-/// Puts the method id and the slots of `TuneOk` at a place of a slice, and answers the place behind.
+/// Puts the method id and the fields of `TuneOk` at a place of a slice, and returns the place after.
 #[tactic(auto)]
 pub fn put_tune_ok(buf: &mut [u8], at: usize, method: &TuneOk) -> usize
     requires { HasRoom buf.old at (method_size (tune_ok_method method.now)) (method_bytes (tune_ok_method method.now)) }
@@ -555,7 +554,7 @@ pub fn put_tune_ok(buf: &mut [u8], at: usize, method: &TuneOk) -> usize
     put_fields(buf, at, &tune_ok_fields(method)[1..])
 }
 
-/// Appends the method id and the slots of `TuneOk` to a vector.
+/// Appends the method id and the fields of `TuneOk` to a vector.
 #[tactic(auto)]
 pub fn gen_tune_ok(_alloc: Global, out: &mut Vec<u8>, method: &TuneOk) -> Result<(), GenError>
     ensures { Appends out.old.items out.new.items (method_size (tune_ok_method method.now)) (method_bytes (tune_ok_method method.now)) result }

@@ -1,5 +1,4 @@
 //! Methods of the class connection that open and close a connection, and speak of an open one.
-#![tactic(auto, using(amqp_types::proofs::Judged::refuses_next), unfolding(amqp_types::specs::Rows::rows_of, amqp_types::specs::Rows::slots_at, amqp_types::specs::SlotJudging::judge_slots, amqp_types::specs::Methods::judge_method, amqp_values::specs::Fields::field_bytes, amqp_values::specs::Fields::is_deep_field, amqp_values::specs::Fields::is_long_field, amqp_values::specs::Fields::fields_bytes, amqp_values::specs::Fields::any_deep_field, amqp_values::specs::Fields::any_long_field, amqp_values::specs::Fields::fields_size, amqp_types::specs::SlotBytes::form_bytes, amqp_types::specs::SlotBytes::slots_bytes, amqp_types::specs::SlotBytes::items_size, amqp_types::specs::Methods::method_bytes, amqp_types::specs::Methods::method_size, amqp_types::specs::Methods::payload_bytes, amqp_types::specs::Methods::payload_size))]
 
 ghost use Rattle.std.specs.Prelude.{◌≡◌, ◌∷◌, [], IfOk};
 ghost use Rattle.amqp_types.specs.Slots.{number_item, text_item, bytes_item};
@@ -45,7 +44,7 @@ impl Open {
         }
     }
 
-    /// An equal method of its own.
+    /// A deep copy.
     pub fn copy(&self, alloc: Global) -> Result<Open, NoMemory>
         ensures { IfOk result (λ copied. copied ≡ self.now) }
     {
@@ -55,7 +54,7 @@ impl Open {
     }
 }
 
-/// Reads the slots of `Open`.
+/// Decodes the fields of `Open`.
 pub fn parse_open(alloc: Global, i: &[u8]) -> Result<(usize, Open), ParserError>
     ensures { Parses open_method result i.now (judge_method 10 40) }
 {
@@ -64,10 +63,10 @@ pub fn parse_open(alloc: Global, i: &[u8]) -> Result<(usize, Open), ParserError>
     slots.skip_short_string()?;
     slots.skip_flags::<1>()?;
     let method = Open { virtual_host };
-    Ok((i.len() - slots.rest.len(), method))
+    Ok((slots.used(i), method))
 }
 
-/// Its ids and slots, in order.
+/// Its ids and fields, in order.
 pub(super) fn open_fields(method: &Open) -> [Field<'_>; 5]
     ensures { ListsMethod result (open_method method.now) }
 {
@@ -80,7 +79,7 @@ pub(super) fn open_fields(method: &Open) -> [Field<'_>; 5]
     ]
 }
 
-/// The size of the method id and the slots of `Open`.
+/// The size of the method id and the fields of `Open`.
 #[tactic(auto)]
 pub fn size_open(method: &Open) -> Result<u64, GenError>
     ensures { Measures result (method_size (open_method method.now)) }
@@ -88,7 +87,7 @@ pub fn size_open(method: &Open) -> Result<u64, GenError>
     size_fields(&open_fields(method)[1..])
 }
 
-/// Puts the method id and the slots of `Open` at a place of a slice, and answers the place behind.
+/// Puts the method id and the fields of `Open` at a place of a slice, and returns the place after.
 #[tactic(auto)]
 pub fn put_open(buf: &mut [u8], at: usize, method: &Open) -> usize
     requires { HasRoom buf.old at (method_size (open_method method.now)) (method_bytes (open_method method.now)) }
@@ -97,7 +96,7 @@ pub fn put_open(buf: &mut [u8], at: usize, method: &Open) -> usize
     put_fields(buf, at, &open_fields(method)[1..])
 }
 
-/// Appends the method id and the slots of `Open` to a vector.
+/// Appends the method id and the fields of `Open` to a vector.
 #[tactic(auto)]
 pub fn gen_open(_alloc: Global, out: &mut Vec<u8>, method: &Open) -> Result<(), GenError>
     ensures { Appends out.old.items out.new.items (method_size (open_method method.now)) (method_bytes (open_method method.now)) result }
@@ -125,17 +124,17 @@ impl OpenOk {
     }
 }
 
-/// Reads the slots of `OpenOk`.
+/// Decodes the fields of `OpenOk`.
 pub fn parse_open_ok(_alloc: Global, i: &[u8]) -> Result<(usize, OpenOk), ParserError>
     ensures parsed { Parses open_ok_method result i.now (judge_method 10 41) }
     ensures memory { NeedsNoMemory result }
 {
     let mut slots = SlotReader::new(i);
     slots.skip_short_string()?;
-    Ok((i.len() - slots.rest.len(), OpenOk {}))
+    Ok((slots.used(i), OpenOk {}))
 }
 
-/// Its ids and slots, in order.
+/// Its ids and fields, in order.
 pub(super) fn open_ok_fields(_method: &OpenOk) -> [Field<'_>; 3]
     ensures { ListsMethod result (open_ok_method _method.now) }
 {
@@ -146,7 +145,7 @@ pub(super) fn open_ok_fields(_method: &OpenOk) -> [Field<'_>; 3]
     ]
 }
 
-/// The size of the method id and the slots of `OpenOk`.
+/// The size of the method id and the fields of `OpenOk`.
 #[tactic(auto)]
 pub fn size_open_ok(method: &OpenOk) -> Result<u64, GenError>
     ensures { Measures result (method_size (open_ok_method method.now)) }
@@ -154,7 +153,7 @@ pub fn size_open_ok(method: &OpenOk) -> Result<u64, GenError>
     size_fields(&open_ok_fields(method)[1..])
 }
 
-/// Puts the method id and the slots of `OpenOk` at a place of a slice, and answers the place behind.
+/// Puts the method id and the fields of `OpenOk` at a place of a slice, and returns the place after.
 #[tactic(auto)]
 pub fn put_open_ok(buf: &mut [u8], at: usize, method: &OpenOk) -> usize
     requires { HasRoom buf.old at (method_size (open_ok_method method.now)) (method_bytes (open_ok_method method.now)) }
@@ -163,7 +162,7 @@ pub fn put_open_ok(buf: &mut [u8], at: usize, method: &OpenOk) -> usize
     put_fields(buf, at, &open_ok_fields(method)[1..])
 }
 
-/// Appends the method id and the slots of `OpenOk` to a vector.
+/// Appends the method id and the fields of `OpenOk` to a vector.
 #[tactic(auto)]
 pub fn gen_open_ok(_alloc: Global, out: &mut Vec<u8>, method: &OpenOk) -> Result<(), GenError>
     ensures { Appends out.old.items out.new.items (method_size (open_ok_method method.now)) (method_bytes (open_ok_method method.now)) result }
@@ -207,7 +206,7 @@ impl Close {
         }
     }
 
-    /// An equal method of its own.
+    /// A deep copy.
     pub fn copy(&self, alloc: Global) -> Result<Close, NoMemory>
         ensures { IfOk result (λ copied. copied ≡ self.now) }
     {
@@ -220,7 +219,7 @@ impl Close {
     }
 }
 
-/// Reads the slots of `Close`.
+/// Decodes the fields of `Close`.
 pub fn parse_close(alloc: Global, i: &[u8]) -> Result<(usize, Close), ParserError>
     ensures { Parses close_method result i.now (judge_method 10 50) }
 {
@@ -235,10 +234,10 @@ pub fn parse_close(alloc: Global, i: &[u8]) -> Result<(usize, Close), ParserErro
         class_id,
         method_id,
     };
-    Ok((i.len() - slots.rest.len(), method))
+    Ok((slots.used(i), method))
 }
 
-/// Its ids and slots, in order.
+/// Its ids and fields, in order.
 pub(super) fn close_fields(method: &Close) -> [Field<'_>; 6]
     ensures { ListsMethod result (close_method method.now) }
 {
@@ -252,7 +251,7 @@ pub(super) fn close_fields(method: &Close) -> [Field<'_>; 6]
     ]
 }
 
-/// The size of the method id and the slots of `Close`.
+/// The size of the method id and the fields of `Close`.
 #[tactic(auto)]
 pub fn size_close(method: &Close) -> Result<u64, GenError>
     ensures { Measures result (method_size (close_method method.now)) }
@@ -260,7 +259,7 @@ pub fn size_close(method: &Close) -> Result<u64, GenError>
     size_fields(&close_fields(method)[1..])
 }
 
-/// Puts the method id and the slots of `Close` at a place of a slice, and answers the place behind.
+/// Puts the method id and the fields of `Close` at a place of a slice, and returns the place after.
 #[tactic(auto)]
 pub fn put_close(buf: &mut [u8], at: usize, method: &Close) -> usize
     requires { HasRoom buf.old at (method_size (close_method method.now)) (method_bytes (close_method method.now)) }
@@ -269,7 +268,7 @@ pub fn put_close(buf: &mut [u8], at: usize, method: &Close) -> usize
     put_fields(buf, at, &close_fields(method)[1..])
 }
 
-/// Appends the method id and the slots of `Close` to a vector.
+/// Appends the method id and the fields of `Close` to a vector.
 #[tactic(auto)]
 pub fn gen_close(_alloc: Global, out: &mut Vec<u8>, method: &Close) -> Result<(), GenError>
     ensures { Appends out.old.items out.new.items (method_size (close_method method.now)) (method_bytes (close_method method.now)) result }
@@ -297,23 +296,23 @@ impl CloseOk {
     }
 }
 
-/// Reads the slots of `CloseOk`.
+/// Decodes the fields of `CloseOk`.
 pub fn parse_close_ok(_alloc: Global, i: &[u8]) -> Result<(usize, CloseOk), ParserError>
     ensures parsed { Parses close_ok_method result i.now (judge_method 10 51) }
     ensures memory { NeedsNoMemory result }
 {
     let slots = SlotReader::new(i);
-    Ok((i.len() - slots.rest.len(), CloseOk {}))
+    Ok((slots.used(i), CloseOk {}))
 }
 
-/// Its ids and slots, in order.
+/// Its ids and fields, in order.
 pub(super) fn close_ok_fields(_method: &CloseOk) -> [Field<'_>; 2]
     ensures { ListsMethod result (close_ok_method _method.now) }
 {
     [Field::ShortUInt(10), Field::ShortUInt(51)]
 }
 
-/// The size of the method id and the slots of `CloseOk`.
+/// The size of the method id and the fields of `CloseOk`.
 #[tactic(auto)]
 pub fn size_close_ok(method: &CloseOk) -> Result<u64, GenError>
     ensures { Measures result (method_size (close_ok_method method.now)) }
@@ -321,7 +320,7 @@ pub fn size_close_ok(method: &CloseOk) -> Result<u64, GenError>
     size_fields(&close_ok_fields(method)[1..])
 }
 
-/// Puts the method id and the slots of `CloseOk` at a place of a slice, and answers the place behind.
+/// Puts the method id and the fields of `CloseOk` at a place of a slice, and returns the place after.
 #[tactic(auto)]
 pub fn put_close_ok(buf: &mut [u8], at: usize, method: &CloseOk) -> usize
     requires { HasRoom buf.old at (method_size (close_ok_method method.now)) (method_bytes (close_ok_method method.now)) }
@@ -330,7 +329,7 @@ pub fn put_close_ok(buf: &mut [u8], at: usize, method: &CloseOk) -> usize
     put_fields(buf, at, &close_ok_fields(method)[1..])
 }
 
-/// Appends the method id and the slots of `CloseOk` to a vector.
+/// Appends the method id and the fields of `CloseOk` to a vector.
 #[tactic(auto)]
 pub fn gen_close_ok(_alloc: Global, out: &mut Vec<u8>, method: &CloseOk) -> Result<(), GenError>
     ensures { Appends out.old.items out.new.items (method_size (close_ok_method method.now)) (method_bytes (close_ok_method method.now)) result }
@@ -368,7 +367,7 @@ impl Blocked {
         }
     }
 
-    /// An equal method of its own.
+    /// A deep copy.
     pub fn copy(&self, alloc: Global) -> Result<Blocked, NoMemory>
         ensures { IfOk result (λ copied. copied ≡ self.now) }
     {
@@ -378,17 +377,17 @@ impl Blocked {
     }
 }
 
-/// Reads the slots of `Blocked`.
+/// Decodes the fields of `Blocked`.
 pub fn parse_blocked(alloc: Global, i: &[u8]) -> Result<(usize, Blocked), ParserError>
     ensures { Parses blocked_method result i.now (judge_method 10 60) }
 {
     let mut slots = SlotReader::new(i);
     let reason = slots.short_string(alloc)?;
     let method = Blocked { reason };
-    Ok((i.len() - slots.rest.len(), method))
+    Ok((slots.used(i), method))
 }
 
-/// Its ids and slots, in order.
+/// Its ids and fields, in order.
 pub(super) fn blocked_fields(method: &Blocked) -> [Field<'_>; 3]
     ensures { ListsMethod result (blocked_method method.now) }
 {
@@ -399,7 +398,7 @@ pub(super) fn blocked_fields(method: &Blocked) -> [Field<'_>; 3]
     ]
 }
 
-/// The size of the method id and the slots of `Blocked`.
+/// The size of the method id and the fields of `Blocked`.
 #[tactic(auto)]
 pub fn size_blocked(method: &Blocked) -> Result<u64, GenError>
     ensures { Measures result (method_size (blocked_method method.now)) }
@@ -407,7 +406,7 @@ pub fn size_blocked(method: &Blocked) -> Result<u64, GenError>
     size_fields(&blocked_fields(method)[1..])
 }
 
-/// Puts the method id and the slots of `Blocked` at a place of a slice, and answers the place behind.
+/// Puts the method id and the fields of `Blocked` at a place of a slice, and returns the place after.
 #[tactic(auto)]
 pub fn put_blocked(buf: &mut [u8], at: usize, method: &Blocked) -> usize
     requires { HasRoom buf.old at (method_size (blocked_method method.now)) (method_bytes (blocked_method method.now)) }
@@ -416,7 +415,7 @@ pub fn put_blocked(buf: &mut [u8], at: usize, method: &Blocked) -> usize
     put_fields(buf, at, &blocked_fields(method)[1..])
 }
 
-/// Appends the method id and the slots of `Blocked` to a vector.
+/// Appends the method id and the fields of `Blocked` to a vector.
 #[tactic(auto)]
 pub fn gen_blocked(_alloc: Global, out: &mut Vec<u8>, method: &Blocked) -> Result<(), GenError>
     ensures { Appends out.old.items out.new.items (method_size (blocked_method method.now)) (method_bytes (blocked_method method.now)) result }
@@ -444,23 +443,23 @@ impl Unblocked {
     }
 }
 
-/// Reads the slots of `Unblocked`.
+/// Decodes the fields of `Unblocked`.
 pub fn parse_unblocked(_alloc: Global, i: &[u8]) -> Result<(usize, Unblocked), ParserError>
     ensures parsed { Parses unblocked_method result i.now (judge_method 10 61) }
     ensures memory { NeedsNoMemory result }
 {
     let slots = SlotReader::new(i);
-    Ok((i.len() - slots.rest.len(), Unblocked {}))
+    Ok((slots.used(i), Unblocked {}))
 }
 
-/// Its ids and slots, in order.
+/// Its ids and fields, in order.
 pub(super) fn unblocked_fields(_method: &Unblocked) -> [Field<'_>; 2]
     ensures { ListsMethod result (unblocked_method _method.now) }
 {
     [Field::ShortUInt(10), Field::ShortUInt(61)]
 }
 
-/// The size of the method id and the slots of `Unblocked`.
+/// The size of the method id and the fields of `Unblocked`.
 #[tactic(auto)]
 pub fn size_unblocked(method: &Unblocked) -> Result<u64, GenError>
     ensures { Measures result (method_size (unblocked_method method.now)) }
@@ -468,7 +467,7 @@ pub fn size_unblocked(method: &Unblocked) -> Result<u64, GenError>
     size_fields(&unblocked_fields(method)[1..])
 }
 
-/// Puts the method id and the slots of `Unblocked` at a place of a slice, and answers the place behind.
+/// Puts the method id and the fields of `Unblocked` at a place of a slice, and returns the place after.
 #[tactic(auto)]
 pub fn put_unblocked(buf: &mut [u8], at: usize, method: &Unblocked) -> usize
     requires { HasRoom buf.old at (method_size (unblocked_method method.now)) (method_bytes (unblocked_method method.now)) }
@@ -477,7 +476,7 @@ pub fn put_unblocked(buf: &mut [u8], at: usize, method: &Unblocked) -> usize
     put_fields(buf, at, &unblocked_fields(method)[1..])
 }
 
-/// Appends the method id and the slots of `Unblocked` to a vector.
+/// Appends the method id and the fields of `Unblocked` to a vector.
 #[tactic(auto)]
 pub fn gen_unblocked(_alloc: Global, out: &mut Vec<u8>, method: &Unblocked) -> Result<(), GenError>
     ensures { Appends out.old.items out.new.items (method_size (unblocked_method method.now)) (method_bytes (unblocked_method method.now)) result }
@@ -517,7 +516,7 @@ impl UpdateSecret {
         }
     }
 
-    /// An equal method of its own.
+    /// A deep copy.
     pub fn copy(&self, alloc: Global) -> Result<UpdateSecret, NoMemory>
         ensures { IfOk result (λ copied. copied ≡ self.now) }
     {
@@ -528,7 +527,7 @@ impl UpdateSecret {
     }
 }
 
-/// Reads the slots of `UpdateSecret`.
+/// Decodes the fields of `UpdateSecret`.
 pub fn parse_update_secret(alloc: Global, i: &[u8]) -> Result<(usize, UpdateSecret), ParserError>
     ensures { Parses update_secret_method result i.now (judge_method 10 70) }
 {
@@ -536,10 +535,10 @@ pub fn parse_update_secret(alloc: Global, i: &[u8]) -> Result<(usize, UpdateSecr
     let new_secret = slots.long_string(alloc)?;
     let reason = slots.short_string(alloc)?;
     let method = UpdateSecret { new_secret, reason };
-    Ok((i.len() - slots.rest.len(), method))
+    Ok((slots.used(i), method))
 }
 
-/// Its ids and slots, in order.
+/// Its ids and fields, in order.
 pub(super) fn update_secret_fields(method: &UpdateSecret) -> [Field<'_>; 4]
     ensures { ListsMethod result (update_secret_method method.now) }
 {
@@ -551,7 +550,7 @@ pub(super) fn update_secret_fields(method: &UpdateSecret) -> [Field<'_>; 4]
     ]
 }
 
-/// The size of the method id and the slots of `UpdateSecret`.
+/// The size of the method id and the fields of `UpdateSecret`.
 #[tactic(auto)]
 pub fn size_update_secret(method: &UpdateSecret) -> Result<u64, GenError>
     ensures { Measures result (method_size (update_secret_method method.now)) }
@@ -559,7 +558,7 @@ pub fn size_update_secret(method: &UpdateSecret) -> Result<u64, GenError>
     size_fields(&update_secret_fields(method)[1..])
 }
 
-/// Puts the method id and the slots of `UpdateSecret` at a place of a slice, and answers the place behind.
+/// Puts the method id and the fields of `UpdateSecret` at a place of a slice, and returns the place after.
 #[tactic(auto)]
 pub fn put_update_secret(buf: &mut [u8], at: usize, method: &UpdateSecret) -> usize
     requires { HasRoom buf.old at (method_size (update_secret_method method.now)) (method_bytes (update_secret_method method.now)) }
@@ -568,7 +567,7 @@ pub fn put_update_secret(buf: &mut [u8], at: usize, method: &UpdateSecret) -> us
     put_fields(buf, at, &update_secret_fields(method)[1..])
 }
 
-/// Appends the method id and the slots of `UpdateSecret` to a vector.
+/// Appends the method id and the fields of `UpdateSecret` to a vector.
 #[tactic(auto)]
 pub fn gen_update_secret(
     _alloc: Global,
@@ -600,7 +599,7 @@ impl UpdateSecretOk {
     }
 }
 
-/// Reads the slots of `UpdateSecretOk`.
+/// Decodes the fields of `UpdateSecretOk`.
 pub fn parse_update_secret_ok(
     _alloc: Global,
     i: &[u8],
@@ -609,17 +608,17 @@ pub fn parse_update_secret_ok(
     ensures memory { NeedsNoMemory result }
 {
     let slots = SlotReader::new(i);
-    Ok((i.len() - slots.rest.len(), UpdateSecretOk {}))
+    Ok((slots.used(i), UpdateSecretOk {}))
 }
 
-/// Its ids and slots, in order.
+/// Its ids and fields, in order.
 pub(super) fn update_secret_ok_fields(_method: &UpdateSecretOk) -> [Field<'_>; 2]
     ensures { ListsMethod result (update_secret_ok_method _method.now) }
 {
     [Field::ShortUInt(10), Field::ShortUInt(71)]
 }
 
-/// The size of the method id and the slots of `UpdateSecretOk`.
+/// The size of the method id and the fields of `UpdateSecretOk`.
 #[tactic(auto)]
 pub fn size_update_secret_ok(method: &UpdateSecretOk) -> Result<u64, GenError>
     ensures { Measures result (method_size (update_secret_ok_method method.now)) }
@@ -627,7 +626,7 @@ pub fn size_update_secret_ok(method: &UpdateSecretOk) -> Result<u64, GenError>
     size_fields(&update_secret_ok_fields(method)[1..])
 }
 
-/// Puts the method id and the slots of `UpdateSecretOk` at a place of a slice, and answers the place behind.
+/// Puts the method id and the fields of `UpdateSecretOk` at a place of a slice, and returns the place after.
 #[tactic(auto)]
 pub fn put_update_secret_ok(buf: &mut [u8], at: usize, method: &UpdateSecretOk) -> usize
     requires { HasRoom buf.old at (method_size (update_secret_ok_method method.now)) (method_bytes (update_secret_ok_method method.now)) }
@@ -636,7 +635,7 @@ pub fn put_update_secret_ok(buf: &mut [u8], at: usize, method: &UpdateSecretOk) 
     put_fields(buf, at, &update_secret_ok_fields(method)[1..])
 }
 
-/// Appends the method id and the slots of `UpdateSecretOk` to a vector.
+/// Appends the method id and the fields of `UpdateSecretOk` to a vector.
 #[tactic(auto)]
 pub fn gen_update_secret_ok(
     _alloc: Global,

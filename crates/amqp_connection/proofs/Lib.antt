@@ -1,0 +1,2 @@
+pub mod ConnectionEquality
+pub mod AccessEquality
