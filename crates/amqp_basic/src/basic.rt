@@ -127,7 +127,7 @@ impl AMQPMethod {
         }
     }
 
-    /// An equal method of its own.
+    /// A deep copy.
     pub fn copy(&self, alloc: Global) -> Result<AMQPMethod, NoMemory>
         ensures { IfOk result (λ copied. copied ≡ self.now) }
     {
@@ -154,7 +154,7 @@ impl AMQPMethod {
     }
 }
 
-/// Reads the slots of the method with this id.
+/// Decodes the fields of the method with this id.
 #[tactic(auto, using(amqp_types::proofs::Judged::refuses_next), unfolding(amqp_types::specs::Rows::rows_of, amqp_types::specs::Rows::slots_at, amqp_types::specs::Methods::judge_method))]
 fn parse_method(alloc: Global, id: Identifier, i: &[u8]) -> Result<(usize, AMQPMethod), ParserError>
     ensures { Parses method_of result i.now (judge_method 60 id) }
@@ -236,7 +236,7 @@ fn parse_method(alloc: Global, id: Identifier, i: &[u8]) -> Result<(usize, AMQPM
     }
 }
 
-/// Reads a method id and the slots of that method.
+/// Decodes a method id and the fields of that method.
 #[tactic(auto, using(amqp_types::proofs::Judged::refuses_next), unfolding(amqp_types::specs::Rows::rows_of, amqp_types::specs::Methods::judge_in_class))]
 pub fn parse_basic(alloc: Global, i: &[u8]) -> Result<(usize, AMQPMethod), ParserError>
     ensures { Parses method_of result i.now (judge_in_class 60) }
@@ -246,97 +246,53 @@ pub fn parse_basic(alloc: Global, i: &[u8]) -> Result<(usize, AMQPMethod), Parse
     Ok((n + used, method))
 }
 
-/// The size of the class id, the method id and the slots.
+/// Calls a function with the ids and fields of a method, after the arguments given.
+macro_rules! with_fields {
+    ($method:expr, $call:ident($($argument:expr),*)) => {
+        match $method {
+            AMQPMethod::Qos(method) => $call($($argument,)* &consuming::qos_fields(method)),
+            AMQPMethod::QosOk(method) => $call($($argument,)* &consuming::qos_ok_fields(method)),
+            AMQPMethod::Consume(method) => $call($($argument,)* &consuming::consume_fields(method)),
+            AMQPMethod::ConsumeOk(method) => $call($($argument,)* &consuming::consume_ok_fields(method)),
+            AMQPMethod::Cancel(method) => $call($($argument,)* &consuming::cancel_fields(method)),
+            AMQPMethod::CancelOk(method) => $call($($argument,)* &consuming::cancel_ok_fields(method)),
+            AMQPMethod::Publish(method) => $call($($argument,)* &publishing::publish_fields(method)),
+            AMQPMethod::Return(method) => $call($($argument,)* &publishing::return_fields(method)),
+            AMQPMethod::Deliver(method) => $call($($argument,)* &publishing::deliver_fields(method)),
+            AMQPMethod::Get(method) => $call($($argument,)* &publishing::get_fields(method)),
+            AMQPMethod::GetOk(method) => $call($($argument,)* &publishing::get_ok_fields(method)),
+            AMQPMethod::GetEmpty(method) => $call($($argument,)* &publishing::get_empty_fields(method)),
+            AMQPMethod::Ack(method) => $call($($argument,)* &acknowledging::ack_fields(method)),
+            AMQPMethod::Reject(method) => $call($($argument,)* &acknowledging::reject_fields(method)),
+            AMQPMethod::RecoverAsync(method) => $call($($argument,)* &acknowledging::recover_async_fields(method)),
+            AMQPMethod::Recover(method) => $call($($argument,)* &acknowledging::recover_fields(method)),
+            AMQPMethod::RecoverOk(method) => $call($($argument,)* &acknowledging::recover_ok_fields(method)),
+            AMQPMethod::Nack(method) => $call($($argument,)* &acknowledging::nack_fields(method)),
+        }
+    };
+}
+
+/// The size of the class id, the method id and the fields.
 #[tactic(auto)]
 pub fn size_basic(method: &AMQPMethod) -> Result<u64, GenError>
     ensures { Measures result (payload_size (method_of method.now)) }
 {
-    match method {
-        AMQPMethod::Qos(method) => size_fields(&consuming::qos_fields(method)),
-        AMQPMethod::QosOk(method) => size_fields(&consuming::qos_ok_fields(method)),
-        AMQPMethod::Consume(method) => size_fields(&consuming::consume_fields(method)),
-        AMQPMethod::ConsumeOk(method) => size_fields(&consuming::consume_ok_fields(method)),
-        AMQPMethod::Cancel(method) => size_fields(&consuming::cancel_fields(method)),
-        AMQPMethod::CancelOk(method) => size_fields(&consuming::cancel_ok_fields(method)),
-        AMQPMethod::Publish(method) => size_fields(&publishing::publish_fields(method)),
-        AMQPMethod::Return(method) => size_fields(&publishing::return_fields(method)),
-        AMQPMethod::Deliver(method) => size_fields(&publishing::deliver_fields(method)),
-        AMQPMethod::Get(method) => size_fields(&publishing::get_fields(method)),
-        AMQPMethod::GetOk(method) => size_fields(&publishing::get_ok_fields(method)),
-        AMQPMethod::GetEmpty(method) => size_fields(&publishing::get_empty_fields(method)),
-        AMQPMethod::Ack(method) => size_fields(&acknowledging::ack_fields(method)),
-        AMQPMethod::Reject(method) => size_fields(&acknowledging::reject_fields(method)),
-        AMQPMethod::RecoverAsync(method) => size_fields(&acknowledging::recover_async_fields(
-            method,
-        )),
-        AMQPMethod::Recover(method) => size_fields(&acknowledging::recover_fields(method)),
-        AMQPMethod::RecoverOk(method) => size_fields(&acknowledging::recover_ok_fields(method)),
-        AMQPMethod::Nack(method) => size_fields(&acknowledging::nack_fields(method)),
-    }
+    with_fields!(method, size_fields())
 }
 
-/// Puts the class id, the method id and the slots at a place of a slice, and answers the place behind.
+/// Puts the class id, the method id and the fields at a place of a slice, and returns the place after.
 #[tactic(auto)]
 pub fn put_basic(buf: &mut [u8], at: usize, method: &AMQPMethod) -> usize
     requires { HasRoom buf.old at (payload_size (method_of method.now)) (payload_bytes (method_of method.now)) }
     ensures { Puts buf.old buf.new at (payload_bytes (method_of method.now)) result }
 {
-    match method {
-        AMQPMethod::Qos(method) => put_fields(buf, at, &consuming::qos_fields(method)),
-        AMQPMethod::QosOk(method) => put_fields(buf, at, &consuming::qos_ok_fields(method)),
-        AMQPMethod::Consume(method) => put_fields(buf, at, &consuming::consume_fields(method)),
-        AMQPMethod::ConsumeOk(method) => put_fields(buf, at, &consuming::consume_ok_fields(method)),
-        AMQPMethod::Cancel(method) => put_fields(buf, at, &consuming::cancel_fields(method)),
-        AMQPMethod::CancelOk(method) => put_fields(buf, at, &consuming::cancel_ok_fields(method)),
-        AMQPMethod::Publish(method) => put_fields(buf, at, &publishing::publish_fields(method)),
-        AMQPMethod::Return(method) => put_fields(buf, at, &publishing::return_fields(method)),
-        AMQPMethod::Deliver(method) => put_fields(buf, at, &publishing::deliver_fields(method)),
-        AMQPMethod::Get(method) => put_fields(buf, at, &publishing::get_fields(method)),
-        AMQPMethod::GetOk(method) => put_fields(buf, at, &publishing::get_ok_fields(method)),
-        AMQPMethod::GetEmpty(method) => put_fields(buf, at, &publishing::get_empty_fields(method)),
-        AMQPMethod::Ack(method) => put_fields(buf, at, &acknowledging::ack_fields(method)),
-        AMQPMethod::Reject(method) => put_fields(buf, at, &acknowledging::reject_fields(method)),
-        AMQPMethod::RecoverAsync(method) => put_fields(
-            buf,
-            at,
-            &acknowledging::recover_async_fields(method),
-        ),
-        AMQPMethod::Recover(method) => put_fields(buf, at, &acknowledging::recover_fields(method)),
-        AMQPMethod::RecoverOk(method) => put_fields(
-            buf,
-            at,
-            &acknowledging::recover_ok_fields(method),
-        ),
-        AMQPMethod::Nack(method) => put_fields(buf, at, &acknowledging::nack_fields(method)),
-    }
+    with_fields!(method, put_fields(buf, at))
 }
 
-/// Appends the class id, the method id and the slots to a vector.
+/// Appends the class id, the method id and the fields to a vector.
 #[tactic(auto)]
 pub fn gen_basic(_alloc: Global, out: &mut Vec<u8>, method: &AMQPMethod) -> Result<(), GenError>
     ensures { Appends out.old.items out.new.items (payload_size (method_of method.now)) (payload_bytes (method_of method.now)) result }
 {
-    match method {
-        AMQPMethod::Qos(method) => gen_fields(out, &consuming::qos_fields(method)),
-        AMQPMethod::QosOk(method) => gen_fields(out, &consuming::qos_ok_fields(method)),
-        AMQPMethod::Consume(method) => gen_fields(out, &consuming::consume_fields(method)),
-        AMQPMethod::ConsumeOk(method) => gen_fields(out, &consuming::consume_ok_fields(method)),
-        AMQPMethod::Cancel(method) => gen_fields(out, &consuming::cancel_fields(method)),
-        AMQPMethod::CancelOk(method) => gen_fields(out, &consuming::cancel_ok_fields(method)),
-        AMQPMethod::Publish(method) => gen_fields(out, &publishing::publish_fields(method)),
-        AMQPMethod::Return(method) => gen_fields(out, &publishing::return_fields(method)),
-        AMQPMethod::Deliver(method) => gen_fields(out, &publishing::deliver_fields(method)),
-        AMQPMethod::Get(method) => gen_fields(out, &publishing::get_fields(method)),
-        AMQPMethod::GetOk(method) => gen_fields(out, &publishing::get_ok_fields(method)),
-        AMQPMethod::GetEmpty(method) => gen_fields(out, &publishing::get_empty_fields(method)),
-        AMQPMethod::Ack(method) => gen_fields(out, &acknowledging::ack_fields(method)),
-        AMQPMethod::Reject(method) => gen_fields(out, &acknowledging::reject_fields(method)),
-        AMQPMethod::RecoverAsync(method) => gen_fields(
-            out,
-            &acknowledging::recover_async_fields(method),
-        ),
-        AMQPMethod::Recover(method) => gen_fields(out, &acknowledging::recover_fields(method)),
-        AMQPMethod::RecoverOk(method) => gen_fields(out, &acknowledging::recover_ok_fields(method)),
-        AMQPMethod::Nack(method) => gen_fields(out, &acknowledging::nack_fields(method)),
-    }
+    with_fields!(method, gen_fields(out))
 }

@@ -1,5 +1,4 @@
 //! Methods of the class basic that acknowledge messages, or ask for them again.
-#![tactic(auto, using(amqp_types::proofs::Judged::refuses_next), unfolding(amqp_types::specs::Rows::rows_of, amqp_types::specs::Rows::slots_at, amqp_types::specs::SlotJudging::judge_slots, amqp_types::specs::Methods::judge_method, amqp_values::specs::Fields::field_bytes, amqp_values::specs::Fields::is_deep_field, amqp_values::specs::Fields::is_long_field, amqp_values::specs::Fields::fields_bytes, amqp_values::specs::Fields::any_deep_field, amqp_values::specs::Fields::any_long_field, amqp_values::specs::Fields::fields_size, amqp_types::specs::SlotBytes::form_bytes, amqp_types::specs::SlotBytes::slots_bytes, amqp_types::specs::SlotBytes::items_size, amqp_types::specs::Methods::method_bytes, amqp_types::specs::Methods::method_size, amqp_types::specs::Methods::payload_bytes, amqp_types::specs::Methods::payload_size))]
 
 ghost use Rattle.std.specs.Prelude.{◌≡◌};
 ghost use Rattle.amqp_types.specs.Calls.{Parses, NeedsNoMemory, Measures, HasRoom};
@@ -37,7 +36,7 @@ impl Ack {
     }
 }
 
-/// Reads the slots of `Ack`.
+/// Decodes the fields of `Ack`.
 pub fn parse_ack(_alloc: Global, i: &[u8]) -> Result<(usize, Ack), ParserError>
     ensures parsed { Parses ack_method result i.now (judge_method 60 80) }
     ensures memory { NeedsNoMemory result }
@@ -49,10 +48,10 @@ pub fn parse_ack(_alloc: Global, i: &[u8]) -> Result<(usize, Ack), ParserError>
         delivery_tag,
         multiple: flag_of_byte(flags, 0),
     };
-    Ok((i.len() - slots.rest.len(), method))
+    Ok((slots.used(i), method))
 }
 
-/// Its ids and slots, in order.
+/// Its ids and fields, in order.
 pub(super) fn ack_fields(method: &Ack) -> [Field<'_>; 4]
     ensures { ListsMethod result (ack_method method.now) }
 {
@@ -64,7 +63,7 @@ pub(super) fn ack_fields(method: &Ack) -> [Field<'_>; 4]
     ]
 }
 
-/// The size of the method id and the slots of `Ack`.
+/// The size of the method id and the fields of `Ack`.
 #[tactic(auto)]
 pub fn size_ack(method: &Ack) -> Result<u64, GenError>
     ensures { Measures result (method_size (ack_method method.now)) }
@@ -72,7 +71,7 @@ pub fn size_ack(method: &Ack) -> Result<u64, GenError>
     size_fields(&ack_fields(method)[1..])
 }
 
-/// Puts the method id and the slots of `Ack` at a place of a slice, and answers the place behind.
+/// Puts the method id and the fields of `Ack` at a place of a slice, and returns the place after.
 #[tactic(auto)]
 pub fn put_ack(buf: &mut [u8], at: usize, method: &Ack) -> usize
     requires { HasRoom buf.old at (method_size (ack_method method.now)) (method_bytes (ack_method method.now)) }
@@ -81,7 +80,7 @@ pub fn put_ack(buf: &mut [u8], at: usize, method: &Ack) -> usize
     put_fields(buf, at, &ack_fields(method)[1..])
 }
 
-/// Appends the method id and the slots of `Ack` to a vector.
+/// Appends the method id and the fields of `Ack` to a vector.
 #[tactic(auto)]
 pub fn gen_ack(_alloc: Global, out: &mut Vec<u8>, method: &Ack) -> Result<(), GenError>
     ensures { Appends out.old.items out.new.items (method_size (ack_method method.now)) (method_bytes (ack_method method.now)) result }
@@ -112,7 +111,7 @@ impl Reject {
     }
 }
 
-/// Reads the slots of `Reject`.
+/// Decodes the fields of `Reject`.
 pub fn parse_reject(_alloc: Global, i: &[u8]) -> Result<(usize, Reject), ParserError>
     ensures parsed { Parses reject_method result i.now (judge_method 60 90) }
     ensures memory { NeedsNoMemory result }
@@ -124,10 +123,10 @@ pub fn parse_reject(_alloc: Global, i: &[u8]) -> Result<(usize, Reject), ParserE
         delivery_tag,
         requeue: flag_of_byte(flags, 0),
     };
-    Ok((i.len() - slots.rest.len(), method))
+    Ok((slots.used(i), method))
 }
 
-/// Its ids and slots, in order.
+/// Its ids and fields, in order.
 pub(super) fn reject_fields(method: &Reject) -> [Field<'_>; 4]
     ensures { ListsMethod result (reject_method method.now) }
 {
@@ -139,7 +138,7 @@ pub(super) fn reject_fields(method: &Reject) -> [Field<'_>; 4]
     ]
 }
 
-/// The size of the method id and the slots of `Reject`.
+/// The size of the method id and the fields of `Reject`.
 #[tactic(auto)]
 pub fn size_reject(method: &Reject) -> Result<u64, GenError>
     ensures { Measures result (method_size (reject_method method.now)) }
@@ -147,7 +146,7 @@ pub fn size_reject(method: &Reject) -> Result<u64, GenError>
     size_fields(&reject_fields(method)[1..])
 }
 
-/// Puts the method id and the slots of `Reject` at a place of a slice, and answers the place behind.
+/// Puts the method id and the fields of `Reject` at a place of a slice, and returns the place after.
 #[tactic(auto)]
 pub fn put_reject(buf: &mut [u8], at: usize, method: &Reject) -> usize
     requires { HasRoom buf.old at (method_size (reject_method method.now)) (method_bytes (reject_method method.now)) }
@@ -156,7 +155,7 @@ pub fn put_reject(buf: &mut [u8], at: usize, method: &Reject) -> usize
     put_fields(buf, at, &reject_fields(method)[1..])
 }
 
-/// Appends the method id and the slots of `Reject` to a vector.
+/// Appends the method id and the fields of `Reject` to a vector.
 #[tactic(auto)]
 pub fn gen_reject(_alloc: Global, out: &mut Vec<u8>, method: &Reject) -> Result<(), GenError>
     ensures { Appends out.old.items out.new.items (method_size (reject_method method.now)) (method_bytes (reject_method method.now)) result }
@@ -186,7 +185,7 @@ impl RecoverAsync {
     }
 }
 
-/// Reads the slots of `RecoverAsync`.
+/// Decodes the fields of `RecoverAsync`.
 pub fn parse_recover_async(_alloc: Global, i: &[u8]) -> Result<(usize, RecoverAsync), ParserError>
     ensures parsed { Parses recover_async_method result i.now (judge_method 60 100) }
     ensures memory { NeedsNoMemory result }
@@ -196,10 +195,10 @@ pub fn parse_recover_async(_alloc: Global, i: &[u8]) -> Result<(usize, RecoverAs
     let method = RecoverAsync {
         requeue: flag_of_byte(flags, 0),
     };
-    Ok((i.len() - slots.rest.len(), method))
+    Ok((slots.used(i), method))
 }
 
-/// Its ids and slots, in order.
+/// Its ids and fields, in order.
 pub(super) fn recover_async_fields(method: &RecoverAsync) -> [Field<'_>; 3]
     ensures { ListsMethod result (recover_async_method method.now) }
 {
@@ -210,7 +209,7 @@ pub(super) fn recover_async_fields(method: &RecoverAsync) -> [Field<'_>; 3]
     ]
 }
 
-/// The size of the method id and the slots of `RecoverAsync`.
+/// The size of the method id and the fields of `RecoverAsync`.
 #[tactic(auto)]
 pub fn size_recover_async(method: &RecoverAsync) -> Result<u64, GenError>
     ensures { Measures result (method_size (recover_async_method method.now)) }
@@ -218,7 +217,7 @@ pub fn size_recover_async(method: &RecoverAsync) -> Result<u64, GenError>
     size_fields(&recover_async_fields(method)[1..])
 }
 
-/// Puts the method id and the slots of `RecoverAsync` at a place of a slice, and answers the place behind.
+/// Puts the method id and the fields of `RecoverAsync` at a place of a slice, and returns the place after.
 #[tactic(auto)]
 pub fn put_recover_async(buf: &mut [u8], at: usize, method: &RecoverAsync) -> usize
     requires { HasRoom buf.old at (method_size (recover_async_method method.now)) (method_bytes (recover_async_method method.now)) }
@@ -227,7 +226,7 @@ pub fn put_recover_async(buf: &mut [u8], at: usize, method: &RecoverAsync) -> us
     put_fields(buf, at, &recover_async_fields(method)[1..])
 }
 
-/// Appends the method id and the slots of `RecoverAsync` to a vector.
+/// Appends the method id and the fields of `RecoverAsync` to a vector.
 #[tactic(auto)]
 pub fn gen_recover_async(
     _alloc: Global,
@@ -261,7 +260,7 @@ impl Recover {
     }
 }
 
-/// Reads the slots of `Recover`.
+/// Decodes the fields of `Recover`.
 pub fn parse_recover(_alloc: Global, i: &[u8]) -> Result<(usize, Recover), ParserError>
     ensures parsed { Parses recover_method result i.now (judge_method 60 110) }
     ensures memory { NeedsNoMemory result }
@@ -271,10 +270,10 @@ pub fn parse_recover(_alloc: Global, i: &[u8]) -> Result<(usize, Recover), Parse
     let method = Recover {
         requeue: flag_of_byte(flags, 0),
     };
-    Ok((i.len() - slots.rest.len(), method))
+    Ok((slots.used(i), method))
 }
 
-/// Its ids and slots, in order.
+/// Its ids and fields, in order.
 pub(super) fn recover_fields(method: &Recover) -> [Field<'_>; 3]
     ensures { ListsMethod result (recover_method method.now) }
 {
@@ -285,7 +284,7 @@ pub(super) fn recover_fields(method: &Recover) -> [Field<'_>; 3]
     ]
 }
 
-/// The size of the method id and the slots of `Recover`.
+/// The size of the method id and the fields of `Recover`.
 #[tactic(auto)]
 pub fn size_recover(method: &Recover) -> Result<u64, GenError>
     ensures { Measures result (method_size (recover_method method.now)) }
@@ -293,7 +292,7 @@ pub fn size_recover(method: &Recover) -> Result<u64, GenError>
     size_fields(&recover_fields(method)[1..])
 }
 
-/// Puts the method id and the slots of `Recover` at a place of a slice, and answers the place behind.
+/// Puts the method id and the fields of `Recover` at a place of a slice, and returns the place after.
 #[tactic(auto)]
 pub fn put_recover(buf: &mut [u8], at: usize, method: &Recover) -> usize
     requires { HasRoom buf.old at (method_size (recover_method method.now)) (method_bytes (recover_method method.now)) }
@@ -302,7 +301,7 @@ pub fn put_recover(buf: &mut [u8], at: usize, method: &Recover) -> usize
     put_fields(buf, at, &recover_fields(method)[1..])
 }
 
-/// Appends the method id and the slots of `Recover` to a vector.
+/// Appends the method id and the fields of `Recover` to a vector.
 #[tactic(auto)]
 pub fn gen_recover(_alloc: Global, out: &mut Vec<u8>, method: &Recover) -> Result<(), GenError>
     ensures { Appends out.old.items out.new.items (method_size (recover_method method.now)) (method_bytes (recover_method method.now)) result }
@@ -330,23 +329,23 @@ impl RecoverOk {
     }
 }
 
-/// Reads the slots of `RecoverOk`.
+/// Decodes the fields of `RecoverOk`.
 pub fn parse_recover_ok(_alloc: Global, i: &[u8]) -> Result<(usize, RecoverOk), ParserError>
     ensures parsed { Parses recover_ok_method result i.now (judge_method 60 111) }
     ensures memory { NeedsNoMemory result }
 {
     let slots = SlotReader::new(i);
-    Ok((i.len() - slots.rest.len(), RecoverOk {}))
+    Ok((slots.used(i), RecoverOk {}))
 }
 
-/// Its ids and slots, in order.
+/// Its ids and fields, in order.
 pub(super) fn recover_ok_fields(_method: &RecoverOk) -> [Field<'_>; 2]
     ensures { ListsMethod result (recover_ok_method _method.now) }
 {
     [Field::ShortUInt(60), Field::ShortUInt(111)]
 }
 
-/// The size of the method id and the slots of `RecoverOk`.
+/// The size of the method id and the fields of `RecoverOk`.
 #[tactic(auto)]
 pub fn size_recover_ok(method: &RecoverOk) -> Result<u64, GenError>
     ensures { Measures result (method_size (recover_ok_method method.now)) }
@@ -354,7 +353,7 @@ pub fn size_recover_ok(method: &RecoverOk) -> Result<u64, GenError>
     size_fields(&recover_ok_fields(method)[1..])
 }
 
-/// Puts the method id and the slots of `RecoverOk` at a place of a slice, and answers the place behind.
+/// Puts the method id and the fields of `RecoverOk` at a place of a slice, and returns the place after.
 #[tactic(auto)]
 pub fn put_recover_ok(buf: &mut [u8], at: usize, method: &RecoverOk) -> usize
     requires { HasRoom buf.old at (method_size (recover_ok_method method.now)) (method_bytes (recover_ok_method method.now)) }
@@ -363,7 +362,7 @@ pub fn put_recover_ok(buf: &mut [u8], at: usize, method: &RecoverOk) -> usize
     put_fields(buf, at, &recover_ok_fields(method)[1..])
 }
 
-/// Appends the method id and the slots of `RecoverOk` to a vector.
+/// Appends the method id and the fields of `RecoverOk` to a vector.
 #[tactic(auto)]
 pub fn gen_recover_ok(_alloc: Global, out: &mut Vec<u8>, method: &RecoverOk) -> Result<(), GenError>
     ensures { Appends out.old.items out.new.items (method_size (recover_ok_method method.now)) (method_bytes (recover_ok_method method.now)) result }
@@ -395,7 +394,7 @@ impl Nack {
     }
 }
 
-/// Reads the slots of `Nack`.
+/// Decodes the fields of `Nack`.
 pub fn parse_nack(_alloc: Global, i: &[u8]) -> Result<(usize, Nack), ParserError>
     ensures parsed { Parses nack_method result i.now (judge_method 60 120) }
     ensures memory { NeedsNoMemory result }
@@ -408,10 +407,10 @@ pub fn parse_nack(_alloc: Global, i: &[u8]) -> Result<(usize, Nack), ParserError
         multiple: flag_of_byte(flags, 0),
         requeue: flag_of_byte(flags, 1),
     };
-    Ok((i.len() - slots.rest.len(), method))
+    Ok((slots.used(i), method))
 }
 
-/// Its ids and slots, in order.
+/// Its ids and fields, in order.
 pub(super) fn nack_fields(method: &Nack) -> [Field<'_>; 4]
     ensures { ListsMethod result (nack_method method.now) }
 {
@@ -423,7 +422,7 @@ pub(super) fn nack_fields(method: &Nack) -> [Field<'_>; 4]
     ]
 }
 
-/// The size of the method id and the slots of `Nack`.
+/// The size of the method id and the fields of `Nack`.
 #[tactic(auto)]
 pub fn size_nack(method: &Nack) -> Result<u64, GenError>
     ensures { Measures result (method_size (nack_method method.now)) }
@@ -431,7 +430,7 @@ pub fn size_nack(method: &Nack) -> Result<u64, GenError>
     size_fields(&nack_fields(method)[1..])
 }
 
-/// Puts the method id and the slots of `Nack` at a place of a slice, and answers the place behind.
+/// Puts the method id and the fields of `Nack` at a place of a slice, and returns the place after.
 #[tactic(auto)]
 pub fn put_nack(buf: &mut [u8], at: usize, method: &Nack) -> usize
     requires { HasRoom buf.old at (method_size (nack_method method.now)) (method_bytes (nack_method method.now)) }
@@ -440,7 +439,7 @@ pub fn put_nack(buf: &mut [u8], at: usize, method: &Nack) -> usize
     put_fields(buf, at, &nack_fields(method)[1..])
 }
 
-/// Appends the method id and the slots of `Nack` to a vector.
+/// Appends the method id and the fields of `Nack` to a vector.
 #[tactic(auto)]
 pub fn gen_nack(_alloc: Global, out: &mut Vec<u8>, method: &Nack) -> Result<(), GenError>
     ensures { Appends out.old.items out.new.items (method_size (nack_method method.now)) (method_bytes (nack_method method.now)) result }

@@ -1,5 +1,4 @@
 //! Methods of the class basic to receive messages.
-#![tactic(auto, using(amqp_types::proofs::Judged::refuses_next), unfolding(amqp_types::specs::Rows::rows_of, amqp_types::specs::Rows::slots_at, amqp_types::specs::SlotJudging::judge_slots, amqp_types::specs::Methods::judge_method, amqp_values::specs::Fields::field_bytes, amqp_values::specs::Fields::is_deep_field, amqp_values::specs::Fields::is_long_field, amqp_values::specs::Fields::fields_bytes, amqp_values::specs::Fields::any_deep_field, amqp_values::specs::Fields::any_long_field, amqp_values::specs::Fields::fields_size, amqp_types::specs::SlotBytes::form_bytes, amqp_types::specs::SlotBytes::slots_bytes, amqp_types::specs::SlotBytes::items_size, amqp_types::specs::Methods::method_bytes, amqp_types::specs::Methods::method_size, amqp_types::specs::Methods::payload_bytes, amqp_types::specs::Methods::payload_size))]
 
 ghost use Rattle.std.specs.Prelude.{◌≡◌, ◌∷◌, [], false, IfOk};
 ghost use Rattle.amqp_types.specs.Slots.{flag_item, text_item, entries_item};
@@ -38,7 +37,7 @@ impl Qos {
     }
 }
 
-/// Reads the slots of `Qos`.
+/// Decodes the fields of `Qos`.
 pub fn parse_qos(_alloc: Global, i: &[u8]) -> Result<(usize, Qos), ParserError>
     ensures parsed { Parses qos_method result i.now (judge_method 60 10) }
     ensures memory { NeedsNoMemory result }
@@ -51,10 +50,10 @@ pub fn parse_qos(_alloc: Global, i: &[u8]) -> Result<(usize, Qos), ParserError>
         prefetch_count,
         global: flag_of_byte(flags, 0),
     };
-    Ok((i.len() - slots.rest.len(), method))
+    Ok((slots.used(i), method))
 }
 
-/// Its ids and slots, in order.
+/// Its ids and fields, in order.
 pub(super) fn qos_fields(method: &Qos) -> [Field<'_>; 5]
     ensures { ListsMethod result (qos_method method.now) }
 {
@@ -67,7 +66,7 @@ pub(super) fn qos_fields(method: &Qos) -> [Field<'_>; 5]
     ]
 }
 
-/// The size of the method id and the slots of `Qos`.
+/// The size of the method id and the fields of `Qos`.
 #[tactic(auto)]
 pub fn size_qos(method: &Qos) -> Result<u64, GenError>
     ensures { Measures result (method_size (qos_method method.now)) }
@@ -75,7 +74,7 @@ pub fn size_qos(method: &Qos) -> Result<u64, GenError>
     size_fields(&qos_fields(method)[1..])
 }
 
-/// Puts the method id and the slots of `Qos` at a place of a slice, and answers the place behind.
+/// Puts the method id and the fields of `Qos` at a place of a slice, and returns the place after.
 #[tactic(auto)]
 pub fn put_qos(buf: &mut [u8], at: usize, method: &Qos) -> usize
     requires { HasRoom buf.old at (method_size (qos_method method.now)) (method_bytes (qos_method method.now)) }
@@ -84,7 +83,7 @@ pub fn put_qos(buf: &mut [u8], at: usize, method: &Qos) -> usize
     put_fields(buf, at, &qos_fields(method)[1..])
 }
 
-/// Appends the method id and the slots of `Qos` to a vector.
+/// Appends the method id and the fields of `Qos` to a vector.
 #[tactic(auto)]
 pub fn gen_qos(_alloc: Global, out: &mut Vec<u8>, method: &Qos) -> Result<(), GenError>
     ensures { Appends out.old.items out.new.items (method_size (qos_method method.now)) (method_bytes (qos_method method.now)) result }
@@ -112,23 +111,23 @@ impl QosOk {
     }
 }
 
-/// Reads the slots of `QosOk`.
+/// Decodes the fields of `QosOk`.
 pub fn parse_qos_ok(_alloc: Global, i: &[u8]) -> Result<(usize, QosOk), ParserError>
     ensures parsed { Parses qos_ok_method result i.now (judge_method 60 11) }
     ensures memory { NeedsNoMemory result }
 {
     let slots = SlotReader::new(i);
-    Ok((i.len() - slots.rest.len(), QosOk {}))
+    Ok((slots.used(i), QosOk {}))
 }
 
-/// Its ids and slots, in order.
+/// Its ids and fields, in order.
 pub(super) fn qos_ok_fields(_method: &QosOk) -> [Field<'_>; 2]
     ensures { ListsMethod result (qos_ok_method _method.now) }
 {
     [Field::ShortUInt(60), Field::ShortUInt(11)]
 }
 
-/// The size of the method id and the slots of `QosOk`.
+/// The size of the method id and the fields of `QosOk`.
 #[tactic(auto)]
 pub fn size_qos_ok(method: &QosOk) -> Result<u64, GenError>
     ensures { Measures result (method_size (qos_ok_method method.now)) }
@@ -136,7 +135,7 @@ pub fn size_qos_ok(method: &QosOk) -> Result<u64, GenError>
     size_fields(&qos_ok_fields(method)[1..])
 }
 
-/// Puts the method id and the slots of `QosOk` at a place of a slice, and answers the place behind.
+/// Puts the method id and the fields of `QosOk` at a place of a slice, and returns the place after.
 #[tactic(auto)]
 pub fn put_qos_ok(buf: &mut [u8], at: usize, method: &QosOk) -> usize
     requires { HasRoom buf.old at (method_size (qos_ok_method method.now)) (method_bytes (qos_ok_method method.now)) }
@@ -145,7 +144,7 @@ pub fn put_qos_ok(buf: &mut [u8], at: usize, method: &QosOk) -> usize
     put_fields(buf, at, &qos_ok_fields(method)[1..])
 }
 
-/// Appends the method id and the slots of `QosOk` to a vector.
+/// Appends the method id and the fields of `QosOk` to a vector.
 #[tactic(auto)]
 pub fn gen_qos_ok(_alloc: Global, out: &mut Vec<u8>, method: &QosOk) -> Result<(), GenError>
     ensures { Appends out.old.items out.new.items (method_size (qos_ok_method method.now)) (method_bytes (qos_ok_method method.now)) result }
@@ -195,7 +194,7 @@ impl Consume {
         }
     }
 
-    /// An equal method of its own.
+    /// A deep copy.
     pub fn copy(&self, alloc: Global) -> Result<Consume, NoMemory>
         ensures { IfOk result (λ copied. copied ≡ self.now) }
     {
@@ -211,7 +210,7 @@ impl Consume {
     }
 }
 
-/// Reads the slots of `Consume`.
+/// Decodes the fields of `Consume`.
 pub fn parse_consume(alloc: Global, i: &[u8]) -> Result<(usize, Consume), ParserError>
     ensures { Parses consume_method result i.now (judge_method 60 20) }
 {
@@ -230,10 +229,10 @@ pub fn parse_consume(alloc: Global, i: &[u8]) -> Result<(usize, Consume), Parser
         nowait: flag_of_byte(flags, 3),
         arguments,
     };
-    Ok((i.len() - slots.rest.len(), method))
+    Ok((slots.used(i), method))
 }
 
-/// Its ids and slots, in order.
+/// Its ids and fields, in order.
 pub(super) fn consume_fields(method: &Consume) -> [Field<'_>; 7]
     ensures { ListsMethod result (consume_method method.now) }
 {
@@ -253,7 +252,7 @@ pub(super) fn consume_fields(method: &Consume) -> [Field<'_>; 7]
     ]
 }
 
-/// The size of the method id and the slots of `Consume`.
+/// The size of the method id and the fields of `Consume`.
 #[tactic(auto)]
 pub fn size_consume(method: &Consume) -> Result<u64, GenError>
     ensures { Measures result (method_size (consume_method method.now)) }
@@ -261,7 +260,7 @@ pub fn size_consume(method: &Consume) -> Result<u64, GenError>
     size_fields(&consume_fields(method)[1..])
 }
 
-/// Puts the method id and the slots of `Consume` at a place of a slice, and answers the place behind.
+/// Puts the method id and the fields of `Consume` at a place of a slice, and returns the place after.
 #[tactic(auto)]
 pub fn put_consume(buf: &mut [u8], at: usize, method: &Consume) -> usize
     requires { HasRoom buf.old at (method_size (consume_method method.now)) (method_bytes (consume_method method.now)) }
@@ -270,7 +269,7 @@ pub fn put_consume(buf: &mut [u8], at: usize, method: &Consume) -> usize
     put_fields(buf, at, &consume_fields(method)[1..])
 }
 
-/// Appends the method id and the slots of `Consume` to a vector.
+/// Appends the method id and the fields of `Consume` to a vector.
 #[tactic(auto)]
 pub fn gen_consume(_alloc: Global, out: &mut Vec<u8>, method: &Consume) -> Result<(), GenError>
     ensures { Appends out.old.items out.new.items (method_size (consume_method method.now)) (method_bytes (consume_method method.now)) result }
@@ -308,7 +307,7 @@ impl ConsumeOk {
         }
     }
 
-    /// An equal method of its own.
+    /// A deep copy.
     pub fn copy(&self, alloc: Global) -> Result<ConsumeOk, NoMemory>
         ensures { IfOk result (λ copied. copied ≡ self.now) }
     {
@@ -318,17 +317,17 @@ impl ConsumeOk {
     }
 }
 
-/// Reads the slots of `ConsumeOk`.
+/// Decodes the fields of `ConsumeOk`.
 pub fn parse_consume_ok(alloc: Global, i: &[u8]) -> Result<(usize, ConsumeOk), ParserError>
     ensures { Parses consume_ok_method result i.now (judge_method 60 21) }
 {
     let mut slots = SlotReader::new(i);
     let consumer_tag = slots.short_string(alloc)?;
     let method = ConsumeOk { consumer_tag };
-    Ok((i.len() - slots.rest.len(), method))
+    Ok((slots.used(i), method))
 }
 
-/// Its ids and slots, in order.
+/// Its ids and fields, in order.
 pub(super) fn consume_ok_fields(method: &ConsumeOk) -> [Field<'_>; 3]
     ensures { ListsMethod result (consume_ok_method method.now) }
 {
@@ -339,7 +338,7 @@ pub(super) fn consume_ok_fields(method: &ConsumeOk) -> [Field<'_>; 3]
     ]
 }
 
-/// The size of the method id and the slots of `ConsumeOk`.
+/// The size of the method id and the fields of `ConsumeOk`.
 #[tactic(auto)]
 pub fn size_consume_ok(method: &ConsumeOk) -> Result<u64, GenError>
     ensures { Measures result (method_size (consume_ok_method method.now)) }
@@ -347,7 +346,7 @@ pub fn size_consume_ok(method: &ConsumeOk) -> Result<u64, GenError>
     size_fields(&consume_ok_fields(method)[1..])
 }
 
-/// Puts the method id and the slots of `ConsumeOk` at a place of a slice, and answers the place behind.
+/// Puts the method id and the fields of `ConsumeOk` at a place of a slice, and returns the place after.
 #[tactic(auto)]
 pub fn put_consume_ok(buf: &mut [u8], at: usize, method: &ConsumeOk) -> usize
     requires { HasRoom buf.old at (method_size (consume_ok_method method.now)) (method_bytes (consume_ok_method method.now)) }
@@ -356,7 +355,7 @@ pub fn put_consume_ok(buf: &mut [u8], at: usize, method: &ConsumeOk) -> usize
     put_fields(buf, at, &consume_ok_fields(method)[1..])
 }
 
-/// Appends the method id and the slots of `ConsumeOk` to a vector.
+/// Appends the method id and the fields of `ConsumeOk` to a vector.
 #[tactic(auto)]
 pub fn gen_consume_ok(_alloc: Global, out: &mut Vec<u8>, method: &ConsumeOk) -> Result<(), GenError>
     ensures { Appends out.old.items out.new.items (method_size (consume_ok_method method.now)) (method_bytes (consume_ok_method method.now)) result }
@@ -396,7 +395,7 @@ impl Cancel {
         }
     }
 
-    /// An equal method of its own.
+    /// A deep copy.
     pub fn copy(&self, alloc: Global) -> Result<Cancel, NoMemory>
         ensures { IfOk result (λ copied. copied ≡ self.now) }
     {
@@ -407,7 +406,7 @@ impl Cancel {
     }
 }
 
-/// Reads the slots of `Cancel`.
+/// Decodes the fields of `Cancel`.
 pub fn parse_cancel(alloc: Global, i: &[u8]) -> Result<(usize, Cancel), ParserError>
     ensures { Parses cancel_method result i.now (judge_method 60 30) }
 {
@@ -418,10 +417,10 @@ pub fn parse_cancel(alloc: Global, i: &[u8]) -> Result<(usize, Cancel), ParserEr
         consumer_tag,
         nowait: flag_of_byte(flags, 0),
     };
-    Ok((i.len() - slots.rest.len(), method))
+    Ok((slots.used(i), method))
 }
 
-/// Its ids and slots, in order.
+/// Its ids and fields, in order.
 pub(super) fn cancel_fields(method: &Cancel) -> [Field<'_>; 4]
     ensures { ListsMethod result (cancel_method method.now) }
 {
@@ -433,7 +432,7 @@ pub(super) fn cancel_fields(method: &Cancel) -> [Field<'_>; 4]
     ]
 }
 
-/// The size of the method id and the slots of `Cancel`.
+/// The size of the method id and the fields of `Cancel`.
 #[tactic(auto)]
 pub fn size_cancel(method: &Cancel) -> Result<u64, GenError>
     ensures { Measures result (method_size (cancel_method method.now)) }
@@ -441,7 +440,7 @@ pub fn size_cancel(method: &Cancel) -> Result<u64, GenError>
     size_fields(&cancel_fields(method)[1..])
 }
 
-/// Puts the method id and the slots of `Cancel` at a place of a slice, and answers the place behind.
+/// Puts the method id and the fields of `Cancel` at a place of a slice, and returns the place after.
 #[tactic(auto)]
 pub fn put_cancel(buf: &mut [u8], at: usize, method: &Cancel) -> usize
     requires { HasRoom buf.old at (method_size (cancel_method method.now)) (method_bytes (cancel_method method.now)) }
@@ -450,7 +449,7 @@ pub fn put_cancel(buf: &mut [u8], at: usize, method: &Cancel) -> usize
     put_fields(buf, at, &cancel_fields(method)[1..])
 }
 
-/// Appends the method id and the slots of `Cancel` to a vector.
+/// Appends the method id and the fields of `Cancel` to a vector.
 #[tactic(auto)]
 pub fn gen_cancel(_alloc: Global, out: &mut Vec<u8>, method: &Cancel) -> Result<(), GenError>
     ensures { Appends out.old.items out.new.items (method_size (cancel_method method.now)) (method_bytes (cancel_method method.now)) result }
@@ -488,7 +487,7 @@ impl CancelOk {
         }
     }
 
-    /// An equal method of its own.
+    /// A deep copy.
     pub fn copy(&self, alloc: Global) -> Result<CancelOk, NoMemory>
         ensures { IfOk result (λ copied. copied ≡ self.now) }
     {
@@ -498,17 +497,17 @@ impl CancelOk {
     }
 }
 
-/// Reads the slots of `CancelOk`.
+/// Decodes the fields of `CancelOk`.
 pub fn parse_cancel_ok(alloc: Global, i: &[u8]) -> Result<(usize, CancelOk), ParserError>
     ensures { Parses cancel_ok_method result i.now (judge_method 60 31) }
 {
     let mut slots = SlotReader::new(i);
     let consumer_tag = slots.short_string(alloc)?;
     let method = CancelOk { consumer_tag };
-    Ok((i.len() - slots.rest.len(), method))
+    Ok((slots.used(i), method))
 }
 
-/// Its ids and slots, in order.
+/// Its ids and fields, in order.
 pub(super) fn cancel_ok_fields(method: &CancelOk) -> [Field<'_>; 3]
     ensures { ListsMethod result (cancel_ok_method method.now) }
 {
@@ -519,7 +518,7 @@ pub(super) fn cancel_ok_fields(method: &CancelOk) -> [Field<'_>; 3]
     ]
 }
 
-/// The size of the method id and the slots of `CancelOk`.
+/// The size of the method id and the fields of `CancelOk`.
 #[tactic(auto)]
 pub fn size_cancel_ok(method: &CancelOk) -> Result<u64, GenError>
     ensures { Measures result (method_size (cancel_ok_method method.now)) }
@@ -527,7 +526,7 @@ pub fn size_cancel_ok(method: &CancelOk) -> Result<u64, GenError>
     size_fields(&cancel_ok_fields(method)[1..])
 }
 
-/// Puts the method id and the slots of `CancelOk` at a place of a slice, and answers the place behind.
+/// Puts the method id and the fields of `CancelOk` at a place of a slice, and returns the place after.
 #[tactic(auto)]
 pub fn put_cancel_ok(buf: &mut [u8], at: usize, method: &CancelOk) -> usize
     requires { HasRoom buf.old at (method_size (cancel_ok_method method.now)) (method_bytes (cancel_ok_method method.now)) }
@@ -536,7 +535,7 @@ pub fn put_cancel_ok(buf: &mut [u8], at: usize, method: &CancelOk) -> usize
     put_fields(buf, at, &cancel_ok_fields(method)[1..])
 }
 
-/// Appends the method id and the slots of `CancelOk` to a vector.
+/// Appends the method id and the fields of `CancelOk` to a vector.
 #[tactic(auto)]
 pub fn gen_cancel_ok(_alloc: Global, out: &mut Vec<u8>, method: &CancelOk) -> Result<(), GenError>
     ensures { Appends out.old.items out.new.items (method_size (cancel_ok_method method.now)) (method_bytes (cancel_ok_method method.now)) result }

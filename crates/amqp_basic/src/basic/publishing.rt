@@ -1,5 +1,4 @@
 //! Methods of the class basic that carry messages, and to get one.
-#![tactic(auto, using(amqp_types::proofs::Judged::refuses_next), unfolding(amqp_types::specs::Rows::rows_of, amqp_types::specs::Rows::slots_at, amqp_types::specs::SlotJudging::judge_slots, amqp_types::specs::Methods::judge_method, amqp_values::specs::Fields::field_bytes, amqp_values::specs::Fields::is_deep_field, amqp_values::specs::Fields::is_long_field, amqp_values::specs::Fields::fields_bytes, amqp_values::specs::Fields::any_deep_field, amqp_values::specs::Fields::any_long_field, amqp_values::specs::Fields::fields_size, amqp_types::specs::SlotBytes::form_bytes, amqp_types::specs::SlotBytes::slots_bytes, amqp_types::specs::SlotBytes::items_size, amqp_types::specs::Methods::method_bytes, amqp_types::specs::Methods::method_size, amqp_types::specs::Methods::payload_bytes, amqp_types::specs::Methods::payload_size))]
 
 ghost use Rattle.std.specs.Prelude.{◌≡◌, ◌∷◌, [], false, IfOk};
 ghost use Rattle.amqp_types.specs.Slots.{number_item, flag_item, text_item};
@@ -52,7 +51,7 @@ impl Publish {
         }
     }
 
-    /// An equal method of its own.
+    /// A deep copy.
     pub fn copy(&self, alloc: Global) -> Result<Publish, NoMemory>
         ensures { IfOk result (λ copied. copied ≡ self.now) }
     {
@@ -65,7 +64,7 @@ impl Publish {
     }
 }
 
-/// Reads the slots of `Publish`.
+/// Decodes the fields of `Publish`.
 pub fn parse_publish(alloc: Global, i: &[u8]) -> Result<(usize, Publish), ParserError>
     ensures { Parses publish_method result i.now (judge_method 60 40) }
 {
@@ -80,10 +79,10 @@ pub fn parse_publish(alloc: Global, i: &[u8]) -> Result<(usize, Publish), Parser
         mandatory: flag_of_byte(flags, 0),
         immediate: flag_of_byte(flags, 1),
     };
-    Ok((i.len() - slots.rest.len(), method))
+    Ok((slots.used(i), method))
 }
 
-/// Its ids and slots, in order.
+/// Its ids and fields, in order.
 pub(super) fn publish_fields(method: &Publish) -> [Field<'_>; 6]
     ensures { ListsMethod result (publish_method method.now) }
 {
@@ -97,7 +96,7 @@ pub(super) fn publish_fields(method: &Publish) -> [Field<'_>; 6]
     ]
 }
 
-/// The size of the method id and the slots of `Publish`.
+/// The size of the method id and the fields of `Publish`.
 #[tactic(auto)]
 pub fn size_publish(method: &Publish) -> Result<u64, GenError>
     ensures { Measures result (method_size (publish_method method.now)) }
@@ -105,7 +104,7 @@ pub fn size_publish(method: &Publish) -> Result<u64, GenError>
     size_fields(&publish_fields(method)[1..])
 }
 
-/// Puts the method id and the slots of `Publish` at a place of a slice, and answers the place behind.
+/// Puts the method id and the fields of `Publish` at a place of a slice, and returns the place after.
 #[tactic(auto)]
 pub fn put_publish(buf: &mut [u8], at: usize, method: &Publish) -> usize
     requires { HasRoom buf.old at (method_size (publish_method method.now)) (method_bytes (publish_method method.now)) }
@@ -114,7 +113,7 @@ pub fn put_publish(buf: &mut [u8], at: usize, method: &Publish) -> usize
     put_fields(buf, at, &publish_fields(method)[1..])
 }
 
-/// Appends the method id and the slots of `Publish` to a vector.
+/// Appends the method id and the fields of `Publish` to a vector.
 #[tactic(auto)]
 pub fn gen_publish(_alloc: Global, out: &mut Vec<u8>, method: &Publish) -> Result<(), GenError>
     ensures { Appends out.old.items out.new.items (method_size (publish_method method.now)) (method_bytes (publish_method method.now)) result }
@@ -158,7 +157,7 @@ impl Return {
         }
     }
 
-    /// An equal method of its own.
+    /// A deep copy.
     pub fn copy(&self, alloc: Global) -> Result<Return, NoMemory>
         ensures { IfOk result (λ copied. copied ≡ self.now) }
     {
@@ -171,7 +170,7 @@ impl Return {
     }
 }
 
-/// Reads the slots of `Return`.
+/// Decodes the fields of `Return`.
 pub fn parse_return(alloc: Global, i: &[u8]) -> Result<(usize, Return), ParserError>
     ensures { Parses return_method result i.now (judge_method 60 50) }
 {
@@ -186,10 +185,10 @@ pub fn parse_return(alloc: Global, i: &[u8]) -> Result<(usize, Return), ParserEr
         exchange,
         routing_key,
     };
-    Ok((i.len() - slots.rest.len(), method))
+    Ok((slots.used(i), method))
 }
 
-/// Its ids and slots, in order.
+/// Its ids and fields, in order.
 pub(super) fn return_fields(method: &Return) -> [Field<'_>; 6]
     ensures { ListsMethod result (return_method method.now) }
 {
@@ -203,7 +202,7 @@ pub(super) fn return_fields(method: &Return) -> [Field<'_>; 6]
     ]
 }
 
-/// The size of the method id and the slots of `Return`.
+/// The size of the method id and the fields of `Return`.
 #[tactic(auto)]
 pub fn size_return(method: &Return) -> Result<u64, GenError>
     ensures { Measures result (method_size (return_method method.now)) }
@@ -211,7 +210,7 @@ pub fn size_return(method: &Return) -> Result<u64, GenError>
     size_fields(&return_fields(method)[1..])
 }
 
-/// Puts the method id and the slots of `Return` at a place of a slice, and answers the place behind.
+/// Puts the method id and the fields of `Return` at a place of a slice, and returns the place after.
 #[tactic(auto)]
 pub fn put_return(buf: &mut [u8], at: usize, method: &Return) -> usize
     requires { HasRoom buf.old at (method_size (return_method method.now)) (method_bytes (return_method method.now)) }
@@ -220,7 +219,7 @@ pub fn put_return(buf: &mut [u8], at: usize, method: &Return) -> usize
     put_fields(buf, at, &return_fields(method)[1..])
 }
 
-/// Appends the method id and the slots of `Return` to a vector.
+/// Appends the method id and the fields of `Return` to a vector.
 #[tactic(auto)]
 pub fn gen_return(_alloc: Global, out: &mut Vec<u8>, method: &Return) -> Result<(), GenError>
     ensures { Appends out.old.items out.new.items (method_size (return_method method.now)) (method_bytes (return_method method.now)) result }
@@ -266,7 +265,7 @@ impl Deliver {
         }
     }
 
-    /// An equal method of its own.
+    /// A deep copy.
     pub fn copy(&self, alloc: Global) -> Result<Deliver, NoMemory>
         ensures { IfOk result (λ copied. copied ≡ self.now) }
     {
@@ -280,7 +279,7 @@ impl Deliver {
     }
 }
 
-/// Reads the slots of `Deliver`.
+/// Decodes the fields of `Deliver`.
 pub fn parse_deliver(alloc: Global, i: &[u8]) -> Result<(usize, Deliver), ParserError>
     ensures { Parses deliver_method result i.now (judge_method 60 60) }
 {
@@ -297,10 +296,10 @@ pub fn parse_deliver(alloc: Global, i: &[u8]) -> Result<(usize, Deliver), Parser
         exchange,
         routing_key,
     };
-    Ok((i.len() - slots.rest.len(), method))
+    Ok((slots.used(i), method))
 }
 
-/// Its ids and slots, in order.
+/// Its ids and fields, in order.
 pub(super) fn deliver_fields(method: &Deliver) -> [Field<'_>; 7]
     ensures { ListsMethod result (deliver_method method.now) }
 {
@@ -315,7 +314,7 @@ pub(super) fn deliver_fields(method: &Deliver) -> [Field<'_>; 7]
     ]
 }
 
-/// The size of the method id and the slots of `Deliver`.
+/// The size of the method id and the fields of `Deliver`.
 #[tactic(auto)]
 pub fn size_deliver(method: &Deliver) -> Result<u64, GenError>
     ensures { Measures result (method_size (deliver_method method.now)) }
@@ -323,7 +322,7 @@ pub fn size_deliver(method: &Deliver) -> Result<u64, GenError>
     size_fields(&deliver_fields(method)[1..])
 }
 
-/// Puts the method id and the slots of `Deliver` at a place of a slice, and answers the place behind.
+/// Puts the method id and the fields of `Deliver` at a place of a slice, and returns the place after.
 #[tactic(auto)]
 pub fn put_deliver(buf: &mut [u8], at: usize, method: &Deliver) -> usize
     requires { HasRoom buf.old at (method_size (deliver_method method.now)) (method_bytes (deliver_method method.now)) }
@@ -332,7 +331,7 @@ pub fn put_deliver(buf: &mut [u8], at: usize, method: &Deliver) -> usize
     put_fields(buf, at, &deliver_fields(method)[1..])
 }
 
-/// Appends the method id and the slots of `Deliver` to a vector.
+/// Appends the method id and the fields of `Deliver` to a vector.
 #[tactic(auto)]
 pub fn gen_deliver(_alloc: Global, out: &mut Vec<u8>, method: &Deliver) -> Result<(), GenError>
     ensures { Appends out.old.items out.new.items (method_size (deliver_method method.now)) (method_bytes (deliver_method method.now)) result }
@@ -372,7 +371,7 @@ impl Get {
         }
     }
 
-    /// An equal method of its own.
+    /// A deep copy.
     pub fn copy(&self, alloc: Global) -> Result<Get, NoMemory>
         ensures { IfOk result (λ copied. copied ≡ self.now) }
     {
@@ -383,7 +382,7 @@ impl Get {
     }
 }
 
-/// Reads the slots of `Get`.
+/// Decodes the fields of `Get`.
 pub fn parse_get(alloc: Global, i: &[u8]) -> Result<(usize, Get), ParserError>
     ensures { Parses get_method result i.now (judge_method 60 70) }
 {
@@ -395,10 +394,10 @@ pub fn parse_get(alloc: Global, i: &[u8]) -> Result<(usize, Get), ParserError>
         queue,
         no_ack: flag_of_byte(flags, 0),
     };
-    Ok((i.len() - slots.rest.len(), method))
+    Ok((slots.used(i), method))
 }
 
-/// Its ids and slots, in order.
+/// Its ids and fields, in order.
 pub(super) fn get_fields(method: &Get) -> [Field<'_>; 5]
     ensures { ListsMethod result (get_method method.now) }
 {
@@ -411,7 +410,7 @@ pub(super) fn get_fields(method: &Get) -> [Field<'_>; 5]
     ]
 }
 
-/// The size of the method id and the slots of `Get`.
+/// The size of the method id and the fields of `Get`.
 #[tactic(auto)]
 pub fn size_get(method: &Get) -> Result<u64, GenError>
     ensures { Measures result (method_size (get_method method.now)) }
@@ -419,7 +418,7 @@ pub fn size_get(method: &Get) -> Result<u64, GenError>
     size_fields(&get_fields(method)[1..])
 }
 
-/// Puts the method id and the slots of `Get` at a place of a slice, and answers the place behind.
+/// Puts the method id and the fields of `Get` at a place of a slice, and returns the place after.
 #[tactic(auto)]
 pub fn put_get(buf: &mut [u8], at: usize, method: &Get) -> usize
     requires { HasRoom buf.old at (method_size (get_method method.now)) (method_bytes (get_method method.now)) }
@@ -428,7 +427,7 @@ pub fn put_get(buf: &mut [u8], at: usize, method: &Get) -> usize
     put_fields(buf, at, &get_fields(method)[1..])
 }
 
-/// Appends the method id and the slots of `Get` to a vector.
+/// Appends the method id and the fields of `Get` to a vector.
 #[tactic(auto)]
 pub fn gen_get(_alloc: Global, out: &mut Vec<u8>, method: &Get) -> Result<(), GenError>
     ensures { Appends out.old.items out.new.items (method_size (get_method method.now)) (method_bytes (get_method method.now)) result }
@@ -474,7 +473,7 @@ impl GetOk {
         }
     }
 
-    /// An equal method of its own.
+    /// A deep copy.
     pub fn copy(&self, alloc: Global) -> Result<GetOk, NoMemory>
         ensures { IfOk result (λ copied. copied ≡ self.now) }
     {
@@ -488,7 +487,7 @@ impl GetOk {
     }
 }
 
-/// Reads the slots of `GetOk`.
+/// Decodes the fields of `GetOk`.
 pub fn parse_get_ok(alloc: Global, i: &[u8]) -> Result<(usize, GetOk), ParserError>
     ensures { Parses get_ok_method result i.now (judge_method 60 71) }
 {
@@ -505,10 +504,10 @@ pub fn parse_get_ok(alloc: Global, i: &[u8]) -> Result<(usize, GetOk), ParserErr
         routing_key,
         message_count,
     };
-    Ok((i.len() - slots.rest.len(), method))
+    Ok((slots.used(i), method))
 }
 
-/// Its ids and slots, in order.
+/// Its ids and fields, in order.
 pub(super) fn get_ok_fields(method: &GetOk) -> [Field<'_>; 7]
     ensures { ListsMethod result (get_ok_method method.now) }
 {
@@ -523,7 +522,7 @@ pub(super) fn get_ok_fields(method: &GetOk) -> [Field<'_>; 7]
     ]
 }
 
-/// The size of the method id and the slots of `GetOk`.
+/// The size of the method id and the fields of `GetOk`.
 #[tactic(auto)]
 pub fn size_get_ok(method: &GetOk) -> Result<u64, GenError>
     ensures { Measures result (method_size (get_ok_method method.now)) }
@@ -531,7 +530,7 @@ pub fn size_get_ok(method: &GetOk) -> Result<u64, GenError>
     size_fields(&get_ok_fields(method)[1..])
 }
 
-/// Puts the method id and the slots of `GetOk` at a place of a slice, and answers the place behind.
+/// Puts the method id and the fields of `GetOk` at a place of a slice, and returns the place after.
 #[tactic(auto)]
 pub fn put_get_ok(buf: &mut [u8], at: usize, method: &GetOk) -> usize
     requires { HasRoom buf.old at (method_size (get_ok_method method.now)) (method_bytes (get_ok_method method.now)) }
@@ -540,7 +539,7 @@ pub fn put_get_ok(buf: &mut [u8], at: usize, method: &GetOk) -> usize
     put_fields(buf, at, &get_ok_fields(method)[1..])
 }
 
-/// Appends the method id and the slots of `GetOk` to a vector.
+/// Appends the method id and the fields of `GetOk` to a vector.
 #[tactic(auto)]
 pub fn gen_get_ok(_alloc: Global, out: &mut Vec<u8>, method: &GetOk) -> Result<(), GenError>
     ensures { Appends out.old.items out.new.items (method_size (get_ok_method method.now)) (method_bytes (get_ok_method method.now)) result }
@@ -568,17 +567,17 @@ impl GetEmpty {
     }
 }
 
-/// Reads the slots of `GetEmpty`.
+/// Decodes the fields of `GetEmpty`.
 pub fn parse_get_empty(_alloc: Global, i: &[u8]) -> Result<(usize, GetEmpty), ParserError>
     ensures parsed { Parses get_empty_method result i.now (judge_method 60 72) }
     ensures memory { NeedsNoMemory result }
 {
     let mut slots = SlotReader::new(i);
     slots.skip_short_string()?;
-    Ok((i.len() - slots.rest.len(), GetEmpty {}))
+    Ok((slots.used(i), GetEmpty {}))
 }
 
-/// Its ids and slots, in order.
+/// Its ids and fields, in order.
 pub(super) fn get_empty_fields(_method: &GetEmpty) -> [Field<'_>; 3]
     ensures { ListsMethod result (get_empty_method _method.now) }
 {
@@ -589,7 +588,7 @@ pub(super) fn get_empty_fields(_method: &GetEmpty) -> [Field<'_>; 3]
     ]
 }
 
-/// The size of the method id and the slots of `GetEmpty`.
+/// The size of the method id and the fields of `GetEmpty`.
 #[tactic(auto)]
 pub fn size_get_empty(method: &GetEmpty) -> Result<u64, GenError>
     ensures { Measures result (method_size (get_empty_method method.now)) }
@@ -597,7 +596,7 @@ pub fn size_get_empty(method: &GetEmpty) -> Result<u64, GenError>
     size_fields(&get_empty_fields(method)[1..])
 }
 
-/// Puts the method id and the slots of `GetEmpty` at a place of a slice, and answers the place behind.
+/// Puts the method id and the fields of `GetEmpty` at a place of a slice, and returns the place after.
 #[tactic(auto)]
 pub fn put_get_empty(buf: &mut [u8], at: usize, method: &GetEmpty) -> usize
     requires { HasRoom buf.old at (method_size (get_empty_method method.now)) (method_bytes (get_empty_method method.now)) }
@@ -606,7 +605,7 @@ pub fn put_get_empty(buf: &mut [u8], at: usize, method: &GetEmpty) -> usize
     put_fields(buf, at, &get_empty_fields(method)[1..])
 }
 
-/// Appends the method id and the slots of `GetEmpty` to a vector.
+/// Appends the method id and the fields of `GetEmpty` to a vector.
 #[tactic(auto)]
 pub fn gen_get_empty(_alloc: Global, out: &mut Vec<u8>, method: &GetEmpty) -> Result<(), GenError>
     ensures { Appends out.old.items out.new.items (method_size (get_empty_method method.now)) (method_bytes (get_empty_method method.now)) result }
