@@ -1,4 +1,4 @@
--- The methods of the class confirm, and what their slots give.
+-- The methods of the class confirm, and the items of their fields.
 use Rattle.std.specs.Prelude.{[], ◌∷◌}
 use Rattle.amqp_types.specs.Slots.{flag_item}
 use Rattle.amqp_types.specs.Methods.{Method, method}

@@ -1,4 +1,4 @@
--- The methods of the class tx, and what their slots give.
+-- The methods of the class tx, and the items of their fields.
 use Rattle.std.specs.Prelude.{[]}
 use Rattle.amqp_types.specs.Methods.{Method, method}
 use Rattle.amqp_channel.specs.declared.tx.Select.{Select}

@@ -1,5 +1,4 @@
 //! The methods of the class channel, 20.
-#![tactic(auto, using(amqp_types::proofs::Judged::refuses_next), unfolding(amqp_types::specs::Rows::rows_of, amqp_types::specs::Rows::slots_at, amqp_types::specs::SlotJudging::judge_slots, amqp_types::specs::Methods::judge_method, amqp_values::specs::Fields::field_bytes, amqp_values::specs::Fields::is_deep_field, amqp_values::specs::Fields::is_long_field, amqp_values::specs::Fields::fields_bytes, amqp_values::specs::Fields::any_deep_field, amqp_values::specs::Fields::any_long_field, amqp_values::specs::Fields::fields_size, amqp_types::specs::SlotBytes::form_bytes, amqp_types::specs::SlotBytes::slots_bytes, amqp_types::specs::SlotBytes::items_size, amqp_types::specs::Methods::method_bytes, amqp_types::specs::Methods::method_size, amqp_types::specs::Methods::payload_bytes, amqp_types::specs::Methods::payload_size))]
 
 ghost use Rattle.std.specs.Prelude.{◌≡◌, ◌∷◌, [], IfOk};
 ghost use Rattle.amqp_types.specs.Slots.{number_item, text_item};
@@ -35,17 +34,17 @@ impl Open {
     }
 }
 
-/// Reads the slots of `Open`.
+/// Decodes the fields of `Open`.
 pub fn parse_open(_alloc: Global, i: &[u8]) -> Result<(usize, Open), ParserError>
     ensures parsed { Parses open_method result i.now (judge_method 20 10) }
     ensures memory { NeedsNoMemory result }
 {
     let mut slots = SlotReader::new(i);
     slots.skip_short_string()?;
-    Ok((i.len() - slots.rest.len(), Open {}))
+    Ok((slots.used(i), Open {}))
 }
 
-/// Its ids and slots, in order.
+/// Its ids and fields, in order.
 fn open_fields(_method: &Open) -> [Field<'_>; 3]
     ensures { ListsMethod result (open_method _method.now) }
 {
@@ -56,7 +55,7 @@ fn open_fields(_method: &Open) -> [Field<'_>; 3]
     ]
 }
 
-/// The size of the method id and the slots of `Open`.
+/// The size of the method id and the fields of `Open`.
 #[tactic(auto)]
 pub fn size_open(method: &Open) -> Result<u64, GenError>
     ensures { Measures result (method_size (open_method method.now)) }
@@ -64,7 +63,7 @@ pub fn size_open(method: &Open) -> Result<u64, GenError>
     size_fields(&open_fields(method)[1..])
 }
 
-/// Puts the method id and the slots of `Open` at a place of a slice, and answers the place behind.
+/// Puts the method id and the fields of `Open` at a place of a slice, and returns the place after.
 #[tactic(auto)]
 pub fn put_open(buf: &mut [u8], at: usize, method: &Open) -> usize
     requires { HasRoom buf.old at (method_size (open_method method.now)) (method_bytes (open_method method.now)) }
@@ -73,7 +72,7 @@ pub fn put_open(buf: &mut [u8], at: usize, method: &Open) -> usize
     put_fields(buf, at, &open_fields(method)[1..])
 }
 
-/// Appends the method id and the slots of `Open` to a vector.
+/// Appends the method id and the fields of `Open` to a vector.
 #[tactic(auto)]
 pub fn gen_open(_alloc: Global, out: &mut Vec<u8>, method: &Open) -> Result<(), GenError>
     ensures { Appends out.old.items out.new.items (method_size (open_method method.now)) (method_bytes (open_method method.now)) result }
@@ -101,17 +100,17 @@ impl OpenOk {
     }
 }
 
-/// Reads the slots of `OpenOk`.
+/// Decodes the fields of `OpenOk`.
 pub fn parse_open_ok(_alloc: Global, i: &[u8]) -> Result<(usize, OpenOk), ParserError>
     ensures parsed { Parses open_ok_method result i.now (judge_method 20 11) }
     ensures memory { NeedsNoMemory result }
 {
     let mut slots = SlotReader::new(i);
     slots.skip_long_string()?;
-    Ok((i.len() - slots.rest.len(), OpenOk {}))
+    Ok((slots.used(i), OpenOk {}))
 }
 
-/// Its ids and slots, in order.
+/// Its ids and fields, in order.
 fn open_ok_fields(_method: &OpenOk) -> [Field<'_>; 3]
     ensures { ListsMethod result (open_ok_method _method.now) }
 {
@@ -122,7 +121,7 @@ fn open_ok_fields(_method: &OpenOk) -> [Field<'_>; 3]
     ]
 }
 
-/// The size of the method id and the slots of `OpenOk`.
+/// The size of the method id and the fields of `OpenOk`.
 #[tactic(auto)]
 pub fn size_open_ok(method: &OpenOk) -> Result<u64, GenError>
     ensures { Measures result (method_size (open_ok_method method.now)) }
@@ -130,7 +129,7 @@ pub fn size_open_ok(method: &OpenOk) -> Result<u64, GenError>
     size_fields(&open_ok_fields(method)[1..])
 }
 
-/// Puts the method id and the slots of `OpenOk` at a place of a slice, and answers the place behind.
+/// Puts the method id and the fields of `OpenOk` at a place of a slice, and returns the place after.
 #[tactic(auto)]
 pub fn put_open_ok(buf: &mut [u8], at: usize, method: &OpenOk) -> usize
     requires { HasRoom buf.old at (method_size (open_ok_method method.now)) (method_bytes (open_ok_method method.now)) }
@@ -139,7 +138,7 @@ pub fn put_open_ok(buf: &mut [u8], at: usize, method: &OpenOk) -> usize
     put_fields(buf, at, &open_ok_fields(method)[1..])
 }
 
-/// Appends the method id and the slots of `OpenOk` to a vector.
+/// Appends the method id and the fields of `OpenOk` to a vector.
 #[tactic(auto)]
 pub fn gen_open_ok(_alloc: Global, out: &mut Vec<u8>, method: &OpenOk) -> Result<(), GenError>
     ensures { Appends out.old.items out.new.items (method_size (open_ok_method method.now)) (method_bytes (open_ok_method method.now)) result }
@@ -169,7 +168,7 @@ impl Flow {
     }
 }
 
-/// Reads the slots of `Flow`.
+/// Decodes the fields of `Flow`.
 pub fn parse_flow(_alloc: Global, i: &[u8]) -> Result<(usize, Flow), ParserError>
     ensures parsed { Parses flow_method result i.now (judge_method 20 20) }
     ensures memory { NeedsNoMemory result }
@@ -179,10 +178,10 @@ pub fn parse_flow(_alloc: Global, i: &[u8]) -> Result<(usize, Flow), ParserError
     let method = Flow {
         active: flag_of_byte(flags, 0),
     };
-    Ok((i.len() - slots.rest.len(), method))
+    Ok((slots.used(i), method))
 }
 
-/// Its ids and slots, in order.
+/// Its ids and fields, in order.
 fn flow_fields(method: &Flow) -> [Field<'_>; 3]
     ensures { ListsMethod result (flow_method method.now) }
 {
@@ -193,7 +192,7 @@ fn flow_fields(method: &Flow) -> [Field<'_>; 3]
     ]
 }
 
-/// The size of the method id and the slots of `Flow`.
+/// The size of the method id and the fields of `Flow`.
 #[tactic(auto)]
 pub fn size_flow(method: &Flow) -> Result<u64, GenError>
     ensures { Measures result (method_size (flow_method method.now)) }
@@ -201,7 +200,7 @@ pub fn size_flow(method: &Flow) -> Result<u64, GenError>
     size_fields(&flow_fields(method)[1..])
 }
 
-/// Puts the method id and the slots of `Flow` at a place of a slice, and answers the place behind.
+/// Puts the method id and the fields of `Flow` at a place of a slice, and returns the place after.
 #[tactic(auto)]
 pub fn put_flow(buf: &mut [u8], at: usize, method: &Flow) -> usize
     requires { HasRoom buf.old at (method_size (flow_method method.now)) (method_bytes (flow_method method.now)) }
@@ -210,7 +209,7 @@ pub fn put_flow(buf: &mut [u8], at: usize, method: &Flow) -> usize
     put_fields(buf, at, &flow_fields(method)[1..])
 }
 
-/// Appends the method id and the slots of `Flow` to a vector.
+/// Appends the method id and the fields of `Flow` to a vector.
 #[tactic(auto)]
 pub fn gen_flow(_alloc: Global, out: &mut Vec<u8>, method: &Flow) -> Result<(), GenError>
     ensures { Appends out.old.items out.new.items (method_size (flow_method method.now)) (method_bytes (flow_method method.now)) result }
@@ -240,7 +239,7 @@ impl FlowOk {
     }
 }
 
-/// Reads the slots of `FlowOk`.
+/// Decodes the fields of `FlowOk`.
 pub fn parse_flow_ok(_alloc: Global, i: &[u8]) -> Result<(usize, FlowOk), ParserError>
     ensures parsed { Parses flow_ok_method result i.now (judge_method 20 21) }
     ensures memory { NeedsNoMemory result }
@@ -250,10 +249,10 @@ pub fn parse_flow_ok(_alloc: Global, i: &[u8]) -> Result<(usize, FlowOk), Parser
     let method = FlowOk {
         active: flag_of_byte(flags, 0),
     };
-    Ok((i.len() - slots.rest.len(), method))
+    Ok((slots.used(i), method))
 }
 
-/// Its ids and slots, in order.
+/// Its ids and fields, in order.
 fn flow_ok_fields(method: &FlowOk) -> [Field<'_>; 3]
     ensures { ListsMethod result (flow_ok_method method.now) }
 {
@@ -264,7 +263,7 @@ fn flow_ok_fields(method: &FlowOk) -> [Field<'_>; 3]
     ]
 }
 
-/// The size of the method id and the slots of `FlowOk`.
+/// The size of the method id and the fields of `FlowOk`.
 #[tactic(auto)]
 pub fn size_flow_ok(method: &FlowOk) -> Result<u64, GenError>
     ensures { Measures result (method_size (flow_ok_method method.now)) }
@@ -272,7 +271,7 @@ pub fn size_flow_ok(method: &FlowOk) -> Result<u64, GenError>
     size_fields(&flow_ok_fields(method)[1..])
 }
 
-/// Puts the method id and the slots of `FlowOk` at a place of a slice, and answers the place behind.
+/// Puts the method id and the fields of `FlowOk` at a place of a slice, and returns the place after.
 #[tactic(auto)]
 pub fn put_flow_ok(buf: &mut [u8], at: usize, method: &FlowOk) -> usize
     requires { HasRoom buf.old at (method_size (flow_ok_method method.now)) (method_bytes (flow_ok_method method.now)) }
@@ -281,7 +280,7 @@ pub fn put_flow_ok(buf: &mut [u8], at: usize, method: &FlowOk) -> usize
     put_fields(buf, at, &flow_ok_fields(method)[1..])
 }
 
-/// Appends the method id and the slots of `FlowOk` to a vector.
+/// Appends the method id and the fields of `FlowOk` to a vector.
 #[tactic(auto)]
 pub fn gen_flow_ok(_alloc: Global, out: &mut Vec<u8>, method: &FlowOk) -> Result<(), GenError>
     ensures { Appends out.old.items out.new.items (method_size (flow_ok_method method.now)) (method_bytes (flow_ok_method method.now)) result }
@@ -325,7 +324,7 @@ impl Close {
         }
     }
 
-    /// An equal method of its own.
+    /// A deep copy.
     pub fn copy(&self, alloc: Global) -> Result<Close, NoMemory>
         ensures { IfOk result (λ copied. copied ≡ self.now) }
     {
@@ -338,7 +337,7 @@ impl Close {
     }
 }
 
-/// Reads the slots of `Close`.
+/// Decodes the fields of `Close`.
 pub fn parse_close(alloc: Global, i: &[u8]) -> Result<(usize, Close), ParserError>
     ensures { Parses close_method result i.now (judge_method 20 40) }
 {
@@ -353,10 +352,10 @@ pub fn parse_close(alloc: Global, i: &[u8]) -> Result<(usize, Close), ParserErro
         class_id,
         method_id,
     };
-    Ok((i.len() - slots.rest.len(), method))
+    Ok((slots.used(i), method))
 }
 
-/// Its ids and slots, in order.
+/// Its ids and fields, in order.
 fn close_fields(method: &Close) -> [Field<'_>; 6]
     ensures { ListsMethod result (close_method method.now) }
 {
@@ -370,7 +369,7 @@ fn close_fields(method: &Close) -> [Field<'_>; 6]
     ]
 }
 
-/// The size of the method id and the slots of `Close`.
+/// The size of the method id and the fields of `Close`.
 #[tactic(auto)]
 pub fn size_close(method: &Close) -> Result<u64, GenError>
     ensures { Measures result (method_size (close_method method.now)) }
@@ -378,7 +377,7 @@ pub fn size_close(method: &Close) -> Result<u64, GenError>
     size_fields(&close_fields(method)[1..])
 }
 
-/// Puts the method id and the slots of `Close` at a place of a slice, and answers the place behind.
+/// Puts the method id and the fields of `Close` at a place of a slice, and returns the place after.
 #[tactic(auto)]
 pub fn put_close(buf: &mut [u8], at: usize, method: &Close) -> usize
     requires { HasRoom buf.old at (method_size (close_method method.now)) (method_bytes (close_method method.now)) }
@@ -387,7 +386,7 @@ pub fn put_close(buf: &mut [u8], at: usize, method: &Close) -> usize
     put_fields(buf, at, &close_fields(method)[1..])
 }
 
-/// Appends the method id and the slots of `Close` to a vector.
+/// Appends the method id and the fields of `Close` to a vector.
 #[tactic(auto)]
 pub fn gen_close(_alloc: Global, out: &mut Vec<u8>, method: &Close) -> Result<(), GenError>
     ensures { Appends out.old.items out.new.items (method_size (close_method method.now)) (method_bytes (close_method method.now)) result }
@@ -415,23 +414,23 @@ impl CloseOk {
     }
 }
 
-/// Reads the slots of `CloseOk`.
+/// Decodes the fields of `CloseOk`.
 pub fn parse_close_ok(_alloc: Global, i: &[u8]) -> Result<(usize, CloseOk), ParserError>
     ensures parsed { Parses close_ok_method result i.now (judge_method 20 41) }
     ensures memory { NeedsNoMemory result }
 {
     let slots = SlotReader::new(i);
-    Ok((i.len() - slots.rest.len(), CloseOk {}))
+    Ok((slots.used(i), CloseOk {}))
 }
 
-/// Its ids and slots, in order.
+/// Its ids and fields, in order.
 fn close_ok_fields(_method: &CloseOk) -> [Field<'_>; 2]
     ensures { ListsMethod result (close_ok_method _method.now) }
 {
     [Field::ShortUInt(20), Field::ShortUInt(41)]
 }
 
-/// The size of the method id and the slots of `CloseOk`.
+/// The size of the method id and the fields of `CloseOk`.
 #[tactic(auto)]
 pub fn size_close_ok(method: &CloseOk) -> Result<u64, GenError>
     ensures { Measures result (method_size (close_ok_method method.now)) }
@@ -439,7 +438,7 @@ pub fn size_close_ok(method: &CloseOk) -> Result<u64, GenError>
     size_fields(&close_ok_fields(method)[1..])
 }
 
-/// Puts the method id and the slots of `CloseOk` at a place of a slice, and answers the place behind.
+/// Puts the method id and the fields of `CloseOk` at a place of a slice, and returns the place after.
 #[tactic(auto)]
 pub fn put_close_ok(buf: &mut [u8], at: usize, method: &CloseOk) -> usize
     requires { HasRoom buf.old at (method_size (close_ok_method method.now)) (method_bytes (close_ok_method method.now)) }
@@ -448,7 +447,7 @@ pub fn put_close_ok(buf: &mut [u8], at: usize, method: &CloseOk) -> usize
     put_fields(buf, at, &close_ok_fields(method)[1..])
 }
 
-/// Appends the method id and the slots of `CloseOk` to a vector.
+/// Appends the method id and the fields of `CloseOk` to a vector.
 #[tactic(auto)]
 pub fn gen_close_ok(_alloc: Global, out: &mut Vec<u8>, method: &CloseOk) -> Result<(), GenError>
     ensures { Appends out.old.items out.new.items (method_size (close_ok_method method.now)) (method_bytes (close_ok_method method.now)) result }
@@ -500,7 +499,7 @@ impl AMQPMethod {
         }
     }
 
-    /// An equal method of its own.
+    /// A deep copy.
     pub fn copy(&self, alloc: Global) -> Result<AMQPMethod, NoMemory>
         ensures { IfOk result (λ copied. copied ≡ self.now) }
     {
@@ -515,7 +514,7 @@ impl AMQPMethod {
     }
 }
 
-/// Reads the slots of the method with this id.
+/// Decodes the fields of the method with this id.
 #[tactic(auto, using(amqp_types::proofs::Judged::refuses_next), unfolding(amqp_types::specs::Rows::rows_of, amqp_types::specs::Rows::slots_at, amqp_types::specs::Methods::judge_method))]
 fn parse_method(alloc: Global, id: Identifier, i: &[u8]) -> Result<(usize, AMQPMethod), ParserError>
     ensures { Parses method_of result i.now (judge_method 20 id) }
@@ -549,7 +548,7 @@ fn parse_method(alloc: Global, id: Identifier, i: &[u8]) -> Result<(usize, AMQPM
     }
 }
 
-/// Reads a method id and the slots of that method.
+/// Decodes a method id and the fields of that method.
 #[tactic(auto, using(amqp_types::proofs::Judged::refuses_next), unfolding(amqp_types::specs::Rows::rows_of, amqp_types::specs::Methods::judge_in_class))]
 pub fn parse_channel(alloc: Global, i: &[u8]) -> Result<(usize, AMQPMethod), ParserError>
     ensures { Parses method_of result i.now (judge_in_class 20) }
@@ -559,48 +558,41 @@ pub fn parse_channel(alloc: Global, i: &[u8]) -> Result<(usize, AMQPMethod), Par
     Ok((n + used, method))
 }
 
-/// The size of the class id, the method id and the slots.
+/// Calls a function with the ids and fields of a method, after the arguments given.
+macro_rules! with_fields {
+    ($method:expr, $call:ident($($argument:expr),*)) => {
+        match $method {
+            AMQPMethod::Open(method) => $call($($argument,)* &open_fields(method)),
+            AMQPMethod::OpenOk(method) => $call($($argument,)* &open_ok_fields(method)),
+            AMQPMethod::Flow(method) => $call($($argument,)* &flow_fields(method)),
+            AMQPMethod::FlowOk(method) => $call($($argument,)* &flow_ok_fields(method)),
+            AMQPMethod::Close(method) => $call($($argument,)* &close_fields(method)),
+            AMQPMethod::CloseOk(method) => $call($($argument,)* &close_ok_fields(method)),
+        }
+    };
+}
+
+/// The size of the class id, the method id and the fields.
 #[tactic(auto)]
 pub fn size_channel(method: &AMQPMethod) -> Result<u64, GenError>
     ensures { Measures result (payload_size (method_of method.now)) }
 {
-    match method {
-        AMQPMethod::Open(method) => size_fields(&open_fields(method)),
-        AMQPMethod::OpenOk(method) => size_fields(&open_ok_fields(method)),
-        AMQPMethod::Flow(method) => size_fields(&flow_fields(method)),
-        AMQPMethod::FlowOk(method) => size_fields(&flow_ok_fields(method)),
-        AMQPMethod::Close(method) => size_fields(&close_fields(method)),
-        AMQPMethod::CloseOk(method) => size_fields(&close_ok_fields(method)),
-    }
+    with_fields!(method, size_fields())
 }
 
-/// Puts the class id, the method id and the slots at a place of a slice, and answers the place behind.
+/// Puts the class id, the method id and the fields at a place of a slice, and returns the place after.
 #[tactic(auto)]
 pub fn put_channel(buf: &mut [u8], at: usize, method: &AMQPMethod) -> usize
     requires { HasRoom buf.old at (payload_size (method_of method.now)) (payload_bytes (method_of method.now)) }
     ensures { Puts buf.old buf.new at (payload_bytes (method_of method.now)) result }
 {
-    match method {
-        AMQPMethod::Open(method) => put_fields(buf, at, &open_fields(method)),
-        AMQPMethod::OpenOk(method) => put_fields(buf, at, &open_ok_fields(method)),
-        AMQPMethod::Flow(method) => put_fields(buf, at, &flow_fields(method)),
-        AMQPMethod::FlowOk(method) => put_fields(buf, at, &flow_ok_fields(method)),
-        AMQPMethod::Close(method) => put_fields(buf, at, &close_fields(method)),
-        AMQPMethod::CloseOk(method) => put_fields(buf, at, &close_ok_fields(method)),
-    }
+    with_fields!(method, put_fields(buf, at))
 }
 
-/// Appends the class id, the method id and the slots to a vector.
+/// Appends the class id, the method id and the fields to a vector.
 #[tactic(auto)]
 pub fn gen_channel(_alloc: Global, out: &mut Vec<u8>, method: &AMQPMethod) -> Result<(), GenError>
     ensures { Appends out.old.items out.new.items (payload_size (method_of method.now)) (payload_bytes (method_of method.now)) result }
 {
-    match method {
-        AMQPMethod::Open(method) => gen_fields(out, &open_fields(method)),
-        AMQPMethod::OpenOk(method) => gen_fields(out, &open_ok_fields(method)),
-        AMQPMethod::Flow(method) => gen_fields(out, &flow_fields(method)),
-        AMQPMethod::FlowOk(method) => gen_fields(out, &flow_ok_fields(method)),
-        AMQPMethod::Close(method) => gen_fields(out, &close_fields(method)),
-        AMQPMethod::CloseOk(method) => gen_fields(out, &close_ok_fields(method)),
-    }
+    with_fields!(method, gen_fields(out))
 }

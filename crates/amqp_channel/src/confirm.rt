@@ -1,5 +1,4 @@
 //! The methods of the class confirm, 85.
-#![tactic(auto, using(amqp_types::proofs::Judged::refuses_next), unfolding(amqp_types::specs::Rows::rows_of, amqp_types::specs::Rows::slots_at, amqp_types::specs::SlotJudging::judge_slots, amqp_types::specs::Methods::judge_method, amqp_values::specs::Fields::field_bytes, amqp_values::specs::Fields::is_deep_field, amqp_values::specs::Fields::is_long_field, amqp_values::specs::Fields::fields_bytes, amqp_values::specs::Fields::any_deep_field, amqp_values::specs::Fields::any_long_field, amqp_values::specs::Fields::fields_size, amqp_types::specs::SlotBytes::form_bytes, amqp_types::specs::SlotBytes::slots_bytes, amqp_types::specs::SlotBytes::items_size, amqp_types::specs::Methods::method_bytes, amqp_types::specs::Methods::method_size, amqp_types::specs::Methods::payload_bytes, amqp_types::specs::Methods::payload_size))]
 
 ghost use Rattle.std.specs.Prelude.{◌≡◌, IfOk};
 ghost use Rattle.amqp_types.specs.Calls.{Parses, NeedsNoMemory, Measures, HasRoom};
@@ -36,7 +35,7 @@ impl Select {
     }
 }
 
-/// Reads the slots of `Select`.
+/// Decodes the fields of `Select`.
 pub fn parse_select(_alloc: Global, i: &[u8]) -> Result<(usize, Select), ParserError>
     ensures parsed { Parses select_method result i.now (judge_method 85 10) }
     ensures memory { NeedsNoMemory result }
@@ -46,10 +45,10 @@ pub fn parse_select(_alloc: Global, i: &[u8]) -> Result<(usize, Select), ParserE
     let method = Select {
         nowait: flag_of_byte(flags, 0),
     };
-    Ok((i.len() - slots.rest.len(), method))
+    Ok((slots.used(i), method))
 }
 
-/// Its ids and slots, in order.
+/// Its ids and fields, in order.
 fn select_fields(method: &Select) -> [Field<'_>; 3]
     ensures { ListsMethod result (select_method method.now) }
 {
@@ -60,7 +59,7 @@ fn select_fields(method: &Select) -> [Field<'_>; 3]
     ]
 }
 
-/// The size of the method id and the slots of `Select`.
+/// The size of the method id and the fields of `Select`.
 #[tactic(auto)]
 pub fn size_select(method: &Select) -> Result<u64, GenError>
     ensures { Measures result (method_size (select_method method.now)) }
@@ -68,7 +67,7 @@ pub fn size_select(method: &Select) -> Result<u64, GenError>
     size_fields(&select_fields(method)[1..])
 }
 
-/// Puts the method id and the slots of `Select` at a place of a slice, and answers the place behind.
+/// Puts the method id and the fields of `Select` at a place of a slice, and returns the place after.
 #[tactic(auto)]
 pub fn put_select(buf: &mut [u8], at: usize, method: &Select) -> usize
     requires { HasRoom buf.old at (method_size (select_method method.now)) (method_bytes (select_method method.now)) }
@@ -77,7 +76,7 @@ pub fn put_select(buf: &mut [u8], at: usize, method: &Select) -> usize
     put_fields(buf, at, &select_fields(method)[1..])
 }
 
-/// Appends the method id and the slots of `Select` to a vector.
+/// Appends the method id and the fields of `Select` to a vector.
 #[tactic(auto)]
 pub fn gen_select(_alloc: Global, out: &mut Vec<u8>, method: &Select) -> Result<(), GenError>
     ensures { Appends out.old.items out.new.items (method_size (select_method method.now)) (method_bytes (select_method method.now)) result }
@@ -105,23 +104,23 @@ impl SelectOk {
     }
 }
 
-/// Reads the slots of `SelectOk`.
+/// Decodes the fields of `SelectOk`.
 pub fn parse_select_ok(_alloc: Global, i: &[u8]) -> Result<(usize, SelectOk), ParserError>
     ensures parsed { Parses select_ok_method result i.now (judge_method 85 11) }
     ensures memory { NeedsNoMemory result }
 {
     let slots = SlotReader::new(i);
-    Ok((i.len() - slots.rest.len(), SelectOk {}))
+    Ok((slots.used(i), SelectOk {}))
 }
 
-/// Its ids and slots, in order.
+/// Its ids and fields, in order.
 fn select_ok_fields(_method: &SelectOk) -> [Field<'_>; 2]
     ensures { ListsMethod result (select_ok_method _method.now) }
 {
     [Field::ShortUInt(85), Field::ShortUInt(11)]
 }
 
-/// The size of the method id and the slots of `SelectOk`.
+/// The size of the method id and the fields of `SelectOk`.
 #[tactic(auto)]
 pub fn size_select_ok(method: &SelectOk) -> Result<u64, GenError>
     ensures { Measures result (method_size (select_ok_method method.now)) }
@@ -129,7 +128,7 @@ pub fn size_select_ok(method: &SelectOk) -> Result<u64, GenError>
     size_fields(&select_ok_fields(method)[1..])
 }
 
-/// Puts the method id and the slots of `SelectOk` at a place of a slice, and answers the place behind.
+/// Puts the method id and the fields of `SelectOk` at a place of a slice, and returns the place after.
 #[tactic(auto)]
 pub fn put_select_ok(buf: &mut [u8], at: usize, method: &SelectOk) -> usize
     requires { HasRoom buf.old at (method_size (select_ok_method method.now)) (method_bytes (select_ok_method method.now)) }
@@ -138,7 +137,7 @@ pub fn put_select_ok(buf: &mut [u8], at: usize, method: &SelectOk) -> usize
     put_fields(buf, at, &select_ok_fields(method)[1..])
 }
 
-/// Appends the method id and the slots of `SelectOk` to a vector.
+/// Appends the method id and the fields of `SelectOk` to a vector.
 #[tactic(auto)]
 pub fn gen_select_ok(_alloc: Global, out: &mut Vec<u8>, method: &SelectOk) -> Result<(), GenError>
     ensures { Appends out.old.items out.new.items (method_size (select_ok_method method.now)) (method_bytes (select_ok_method method.now)) result }
@@ -174,7 +173,7 @@ impl AMQPMethod {
         }
     }
 
-    /// An equal method of its own.
+    /// A deep copy.
     pub fn copy(&self, _alloc: Global) -> Result<AMQPMethod, NoMemory>
         ensures { IfOk result (λ copied. copied ≡ self.now) }
     {
@@ -185,7 +184,7 @@ impl AMQPMethod {
     }
 }
 
-/// Reads the slots of the method with this id.
+/// Decodes the fields of the method with this id.
 #[tactic(auto, using(amqp_types::proofs::Judged::refuses_next), unfolding(amqp_types::specs::Rows::rows_of, amqp_types::specs::Rows::slots_at, amqp_types::specs::Methods::judge_method))]
 fn parse_method(alloc: Global, id: Identifier, i: &[u8]) -> Result<(usize, AMQPMethod), ParserError>
     ensures { Parses method_of result i.now (judge_method 85 id) }
@@ -203,7 +202,7 @@ fn parse_method(alloc: Global, id: Identifier, i: &[u8]) -> Result<(usize, AMQPM
     }
 }
 
-/// Reads a method id and the slots of that method.
+/// Decodes a method id and the fields of that method.
 #[tactic(auto, using(amqp_types::proofs::Judged::refuses_next), unfolding(amqp_types::specs::Rows::rows_of, amqp_types::specs::Methods::judge_in_class))]
 pub fn parse_confirm(alloc: Global, i: &[u8]) -> Result<(usize, AMQPMethod), ParserError>
     ensures { Parses method_of result i.now (judge_in_class 85) }
@@ -213,36 +212,37 @@ pub fn parse_confirm(alloc: Global, i: &[u8]) -> Result<(usize, AMQPMethod), Par
     Ok((n + used, method))
 }
 
-/// The size of the class id, the method id and the slots.
+/// Calls a function with the ids and fields of a method, after the arguments given.
+macro_rules! with_fields {
+    ($method:expr, $call:ident($($argument:expr),*)) => {
+        match $method {
+            AMQPMethod::Select(method) => $call($($argument,)* &select_fields(method)),
+            AMQPMethod::SelectOk(method) => $call($($argument,)* &select_ok_fields(method)),
+        }
+    };
+}
+
+/// The size of the class id, the method id and the fields.
 #[tactic(auto)]
 pub fn size_confirm(method: &AMQPMethod) -> Result<u64, GenError>
     ensures { Measures result (payload_size (method_of method.now)) }
 {
-    match method {
-        AMQPMethod::Select(method) => size_fields(&select_fields(method)),
-        AMQPMethod::SelectOk(method) => size_fields(&select_ok_fields(method)),
-    }
+    with_fields!(method, size_fields())
 }
 
-/// Puts the class id, the method id and the slots at a place of a slice, and answers the place behind.
+/// Puts the class id, the method id and the fields at a place of a slice, and returns the place after.
 #[tactic(auto)]
 pub fn put_confirm(buf: &mut [u8], at: usize, method: &AMQPMethod) -> usize
     requires { HasRoom buf.old at (payload_size (method_of method.now)) (payload_bytes (method_of method.now)) }
     ensures { Puts buf.old buf.new at (payload_bytes (method_of method.now)) result }
 {
-    match method {
-        AMQPMethod::Select(method) => put_fields(buf, at, &select_fields(method)),
-        AMQPMethod::SelectOk(method) => put_fields(buf, at, &select_ok_fields(method)),
-    }
+    with_fields!(method, put_fields(buf, at))
 }
 
-/// Appends the class id, the method id and the slots to a vector.
+/// Appends the class id, the method id and the fields to a vector.
 #[tactic(auto)]
 pub fn gen_confirm(_alloc: Global, out: &mut Vec<u8>, method: &AMQPMethod) -> Result<(), GenError>
     ensures { Appends out.old.items out.new.items (payload_size (method_of method.now)) (payload_bytes (method_of method.now)) result }
 {
-    match method {
-        AMQPMethod::Select(method) => gen_fields(out, &select_fields(method)),
-        AMQPMethod::SelectOk(method) => gen_fields(out, &select_ok_fields(method)),
-    }
+    with_fields!(method, gen_fields(out))
 }

@@ -1,5 +1,4 @@
 //! The methods of the class tx, 90.
-#![tactic(auto, using(amqp_types::proofs::Judged::refuses_next), unfolding(amqp_types::specs::Rows::rows_of, amqp_types::specs::Rows::slots_at, amqp_types::specs::SlotJudging::judge_slots, amqp_types::specs::Methods::judge_method, amqp_values::specs::Fields::field_bytes, amqp_values::specs::Fields::is_deep_field, amqp_values::specs::Fields::is_long_field, amqp_values::specs::Fields::fields_bytes, amqp_values::specs::Fields::any_deep_field, amqp_values::specs::Fields::any_long_field, amqp_values::specs::Fields::fields_size, amqp_types::specs::SlotBytes::form_bytes, amqp_types::specs::SlotBytes::slots_bytes, amqp_types::specs::SlotBytes::items_size, amqp_types::specs::Methods::method_bytes, amqp_types::specs::Methods::method_size, amqp_types::specs::Methods::payload_bytes, amqp_types::specs::Methods::payload_size))]
 
 ghost use Rattle.std.specs.Prelude.{◌≡◌, IfOk};
 ghost use Rattle.amqp_types.specs.Calls.{Parses, NeedsNoMemory, Measures, HasRoom};
@@ -34,23 +33,23 @@ impl Select {
     }
 }
 
-/// Reads the slots of `Select`.
+/// Decodes the fields of `Select`.
 pub fn parse_select(_alloc: Global, i: &[u8]) -> Result<(usize, Select), ParserError>
     ensures parsed { Parses select_method result i.now (judge_method 90 10) }
     ensures memory { NeedsNoMemory result }
 {
     let slots = SlotReader::new(i);
-    Ok((i.len() - slots.rest.len(), Select {}))
+    Ok((slots.used(i), Select {}))
 }
 
-/// Its ids and slots, in order.
+/// Its ids and fields, in order.
 fn select_fields(_method: &Select) -> [Field<'_>; 2]
     ensures { ListsMethod result (select_method _method.now) }
 {
     [Field::ShortUInt(90), Field::ShortUInt(10)]
 }
 
-/// The size of the method id and the slots of `Select`.
+/// The size of the method id and the fields of `Select`.
 #[tactic(auto)]
 pub fn size_select(method: &Select) -> Result<u64, GenError>
     ensures { Measures result (method_size (select_method method.now)) }
@@ -58,7 +57,7 @@ pub fn size_select(method: &Select) -> Result<u64, GenError>
     size_fields(&select_fields(method)[1..])
 }
 
-/// Puts the method id and the slots of `Select` at a place of a slice, and answers the place behind.
+/// Puts the method id and the fields of `Select` at a place of a slice, and returns the place after.
 #[tactic(auto)]
 pub fn put_select(buf: &mut [u8], at: usize, method: &Select) -> usize
     requires { HasRoom buf.old at (method_size (select_method method.now)) (method_bytes (select_method method.now)) }
@@ -67,7 +66,7 @@ pub fn put_select(buf: &mut [u8], at: usize, method: &Select) -> usize
     put_fields(buf, at, &select_fields(method)[1..])
 }
 
-/// Appends the method id and the slots of `Select` to a vector.
+/// Appends the method id and the fields of `Select` to a vector.
 #[tactic(auto)]
 pub fn gen_select(_alloc: Global, out: &mut Vec<u8>, method: &Select) -> Result<(), GenError>
     ensures { Appends out.old.items out.new.items (method_size (select_method method.now)) (method_bytes (select_method method.now)) result }
@@ -95,23 +94,23 @@ impl SelectOk {
     }
 }
 
-/// Reads the slots of `SelectOk`.
+/// Decodes the fields of `SelectOk`.
 pub fn parse_select_ok(_alloc: Global, i: &[u8]) -> Result<(usize, SelectOk), ParserError>
     ensures parsed { Parses select_ok_method result i.now (judge_method 90 11) }
     ensures memory { NeedsNoMemory result }
 {
     let slots = SlotReader::new(i);
-    Ok((i.len() - slots.rest.len(), SelectOk {}))
+    Ok((slots.used(i), SelectOk {}))
 }
 
-/// Its ids and slots, in order.
+/// Its ids and fields, in order.
 fn select_ok_fields(_method: &SelectOk) -> [Field<'_>; 2]
     ensures { ListsMethod result (select_ok_method _method.now) }
 {
     [Field::ShortUInt(90), Field::ShortUInt(11)]
 }
 
-/// The size of the method id and the slots of `SelectOk`.
+/// The size of the method id and the fields of `SelectOk`.
 #[tactic(auto)]
 pub fn size_select_ok(method: &SelectOk) -> Result<u64, GenError>
     ensures { Measures result (method_size (select_ok_method method.now)) }
@@ -119,7 +118,7 @@ pub fn size_select_ok(method: &SelectOk) -> Result<u64, GenError>
     size_fields(&select_ok_fields(method)[1..])
 }
 
-/// Puts the method id and the slots of `SelectOk` at a place of a slice, and answers the place behind.
+/// Puts the method id and the fields of `SelectOk` at a place of a slice, and returns the place after.
 #[tactic(auto)]
 pub fn put_select_ok(buf: &mut [u8], at: usize, method: &SelectOk) -> usize
     requires { HasRoom buf.old at (method_size (select_ok_method method.now)) (method_bytes (select_ok_method method.now)) }
@@ -128,7 +127,7 @@ pub fn put_select_ok(buf: &mut [u8], at: usize, method: &SelectOk) -> usize
     put_fields(buf, at, &select_ok_fields(method)[1..])
 }
 
-/// Appends the method id and the slots of `SelectOk` to a vector.
+/// Appends the method id and the fields of `SelectOk` to a vector.
 #[tactic(auto)]
 pub fn gen_select_ok(_alloc: Global, out: &mut Vec<u8>, method: &SelectOk) -> Result<(), GenError>
     ensures { Appends out.old.items out.new.items (method_size (select_ok_method method.now)) (method_bytes (select_ok_method method.now)) result }
@@ -156,23 +155,23 @@ impl Commit {
     }
 }
 
-/// Reads the slots of `Commit`.
+/// Decodes the fields of `Commit`.
 pub fn parse_commit(_alloc: Global, i: &[u8]) -> Result<(usize, Commit), ParserError>
     ensures parsed { Parses commit_method result i.now (judge_method 90 20) }
     ensures memory { NeedsNoMemory result }
 {
     let slots = SlotReader::new(i);
-    Ok((i.len() - slots.rest.len(), Commit {}))
+    Ok((slots.used(i), Commit {}))
 }
 
-/// Its ids and slots, in order.
+/// Its ids and fields, in order.
 fn commit_fields(_method: &Commit) -> [Field<'_>; 2]
     ensures { ListsMethod result (commit_method _method.now) }
 {
     [Field::ShortUInt(90), Field::ShortUInt(20)]
 }
 
-/// The size of the method id and the slots of `Commit`.
+/// The size of the method id and the fields of `Commit`.
 #[tactic(auto)]
 pub fn size_commit(method: &Commit) -> Result<u64, GenError>
     ensures { Measures result (method_size (commit_method method.now)) }
@@ -180,7 +179,7 @@ pub fn size_commit(method: &Commit) -> Result<u64, GenError>
     size_fields(&commit_fields(method)[1..])
 }
 
-/// Puts the method id and the slots of `Commit` at a place of a slice, and answers the place behind.
+/// Puts the method id and the fields of `Commit` at a place of a slice, and returns the place after.
 #[tactic(auto)]
 pub fn put_commit(buf: &mut [u8], at: usize, method: &Commit) -> usize
     requires { HasRoom buf.old at (method_size (commit_method method.now)) (method_bytes (commit_method method.now)) }
@@ -189,7 +188,7 @@ pub fn put_commit(buf: &mut [u8], at: usize, method: &Commit) -> usize
     put_fields(buf, at, &commit_fields(method)[1..])
 }
 
-/// Appends the method id and the slots of `Commit` to a vector.
+/// Appends the method id and the fields of `Commit` to a vector.
 #[tactic(auto)]
 pub fn gen_commit(_alloc: Global, out: &mut Vec<u8>, method: &Commit) -> Result<(), GenError>
     ensures { Appends out.old.items out.new.items (method_size (commit_method method.now)) (method_bytes (commit_method method.now)) result }
@@ -217,23 +216,23 @@ impl CommitOk {
     }
 }
 
-/// Reads the slots of `CommitOk`.
+/// Decodes the fields of `CommitOk`.
 pub fn parse_commit_ok(_alloc: Global, i: &[u8]) -> Result<(usize, CommitOk), ParserError>
     ensures parsed { Parses commit_ok_method result i.now (judge_method 90 21) }
     ensures memory { NeedsNoMemory result }
 {
     let slots = SlotReader::new(i);
-    Ok((i.len() - slots.rest.len(), CommitOk {}))
+    Ok((slots.used(i), CommitOk {}))
 }
 
-/// Its ids and slots, in order.
+/// Its ids and fields, in order.
 fn commit_ok_fields(_method: &CommitOk) -> [Field<'_>; 2]
     ensures { ListsMethod result (commit_ok_method _method.now) }
 {
     [Field::ShortUInt(90), Field::ShortUInt(21)]
 }
 
-/// The size of the method id and the slots of `CommitOk`.
+/// The size of the method id and the fields of `CommitOk`.
 #[tactic(auto)]
 pub fn size_commit_ok(method: &CommitOk) -> Result<u64, GenError>
     ensures { Measures result (method_size (commit_ok_method method.now)) }
@@ -241,7 +240,7 @@ pub fn size_commit_ok(method: &CommitOk) -> Result<u64, GenError>
     size_fields(&commit_ok_fields(method)[1..])
 }
 
-/// Puts the method id and the slots of `CommitOk` at a place of a slice, and answers the place behind.
+/// Puts the method id and the fields of `CommitOk` at a place of a slice, and returns the place after.
 #[tactic(auto)]
 pub fn put_commit_ok(buf: &mut [u8], at: usize, method: &CommitOk) -> usize
     requires { HasRoom buf.old at (method_size (commit_ok_method method.now)) (method_bytes (commit_ok_method method.now)) }
@@ -250,7 +249,7 @@ pub fn put_commit_ok(buf: &mut [u8], at: usize, method: &CommitOk) -> usize
     put_fields(buf, at, &commit_ok_fields(method)[1..])
 }
 
-/// Appends the method id and the slots of `CommitOk` to a vector.
+/// Appends the method id and the fields of `CommitOk` to a vector.
 #[tactic(auto)]
 pub fn gen_commit_ok(_alloc: Global, out: &mut Vec<u8>, method: &CommitOk) -> Result<(), GenError>
     ensures { Appends out.old.items out.new.items (method_size (commit_ok_method method.now)) (method_bytes (commit_ok_method method.now)) result }
@@ -278,23 +277,23 @@ impl Rollback {
     }
 }
 
-/// Reads the slots of `Rollback`.
+/// Decodes the fields of `Rollback`.
 pub fn parse_rollback(_alloc: Global, i: &[u8]) -> Result<(usize, Rollback), ParserError>
     ensures parsed { Parses rollback_method result i.now (judge_method 90 30) }
     ensures memory { NeedsNoMemory result }
 {
     let slots = SlotReader::new(i);
-    Ok((i.len() - slots.rest.len(), Rollback {}))
+    Ok((slots.used(i), Rollback {}))
 }
 
-/// Its ids and slots, in order.
+/// Its ids and fields, in order.
 fn rollback_fields(_method: &Rollback) -> [Field<'_>; 2]
     ensures { ListsMethod result (rollback_method _method.now) }
 {
     [Field::ShortUInt(90), Field::ShortUInt(30)]
 }
 
-/// The size of the method id and the slots of `Rollback`.
+/// The size of the method id and the fields of `Rollback`.
 #[tactic(auto)]
 pub fn size_rollback(method: &Rollback) -> Result<u64, GenError>
     ensures { Measures result (method_size (rollback_method method.now)) }
@@ -302,7 +301,7 @@ pub fn size_rollback(method: &Rollback) -> Result<u64, GenError>
     size_fields(&rollback_fields(method)[1..])
 }
 
-/// Puts the method id and the slots of `Rollback` at a place of a slice, and answers the place behind.
+/// Puts the method id and the fields of `Rollback` at a place of a slice, and returns the place after.
 #[tactic(auto)]
 pub fn put_rollback(buf: &mut [u8], at: usize, method: &Rollback) -> usize
     requires { HasRoom buf.old at (method_size (rollback_method method.now)) (method_bytes (rollback_method method.now)) }
@@ -311,7 +310,7 @@ pub fn put_rollback(buf: &mut [u8], at: usize, method: &Rollback) -> usize
     put_fields(buf, at, &rollback_fields(method)[1..])
 }
 
-/// Appends the method id and the slots of `Rollback` to a vector.
+/// Appends the method id and the fields of `Rollback` to a vector.
 #[tactic(auto)]
 pub fn gen_rollback(_alloc: Global, out: &mut Vec<u8>, method: &Rollback) -> Result<(), GenError>
     ensures { Appends out.old.items out.new.items (method_size (rollback_method method.now)) (method_bytes (rollback_method method.now)) result }
@@ -339,23 +338,23 @@ impl RollbackOk {
     }
 }
 
-/// Reads the slots of `RollbackOk`.
+/// Decodes the fields of `RollbackOk`.
 pub fn parse_rollback_ok(_alloc: Global, i: &[u8]) -> Result<(usize, RollbackOk), ParserError>
     ensures parsed { Parses rollback_ok_method result i.now (judge_method 90 31) }
     ensures memory { NeedsNoMemory result }
 {
     let slots = SlotReader::new(i);
-    Ok((i.len() - slots.rest.len(), RollbackOk {}))
+    Ok((slots.used(i), RollbackOk {}))
 }
 
-/// Its ids and slots, in order.
+/// Its ids and fields, in order.
 fn rollback_ok_fields(_method: &RollbackOk) -> [Field<'_>; 2]
     ensures { ListsMethod result (rollback_ok_method _method.now) }
 {
     [Field::ShortUInt(90), Field::ShortUInt(31)]
 }
 
-/// The size of the method id and the slots of `RollbackOk`.
+/// The size of the method id and the fields of `RollbackOk`.
 #[tactic(auto)]
 pub fn size_rollback_ok(method: &RollbackOk) -> Result<u64, GenError>
     ensures { Measures result (method_size (rollback_ok_method method.now)) }
@@ -363,7 +362,7 @@ pub fn size_rollback_ok(method: &RollbackOk) -> Result<u64, GenError>
     size_fields(&rollback_ok_fields(method)[1..])
 }
 
-/// Puts the method id and the slots of `RollbackOk` at a place of a slice, and answers the place behind.
+/// Puts the method id and the fields of `RollbackOk` at a place of a slice, and returns the place after.
 #[tactic(auto)]
 pub fn put_rollback_ok(buf: &mut [u8], at: usize, method: &RollbackOk) -> usize
     requires { HasRoom buf.old at (method_size (rollback_ok_method method.now)) (method_bytes (rollback_ok_method method.now)) }
@@ -372,7 +371,7 @@ pub fn put_rollback_ok(buf: &mut [u8], at: usize, method: &RollbackOk) -> usize
     put_fields(buf, at, &rollback_ok_fields(method)[1..])
 }
 
-/// Appends the method id and the slots of `RollbackOk` to a vector.
+/// Appends the method id and the fields of `RollbackOk` to a vector.
 #[tactic(auto)]
 pub fn gen_rollback_ok(
     _alloc: Global,
@@ -428,7 +427,7 @@ impl AMQPMethod {
         }
     }
 
-    /// An equal method of its own.
+    /// A deep copy.
     pub fn copy(&self, _alloc: Global) -> Result<AMQPMethod, NoMemory>
         ensures { IfOk result (λ copied. copied ≡ self.now) }
     {
@@ -443,7 +442,7 @@ impl AMQPMethod {
     }
 }
 
-/// Reads the slots of the method with this id.
+/// Decodes the fields of the method with this id.
 #[tactic(auto, using(amqp_types::proofs::Judged::refuses_next), unfolding(amqp_types::specs::Rows::rows_of, amqp_types::specs::Rows::slots_at, amqp_types::specs::Methods::judge_method))]
 fn parse_method(alloc: Global, id: Identifier, i: &[u8]) -> Result<(usize, AMQPMethod), ParserError>
     ensures { Parses method_of result i.now (judge_method 90 id) }
@@ -477,7 +476,7 @@ fn parse_method(alloc: Global, id: Identifier, i: &[u8]) -> Result<(usize, AMQPM
     }
 }
 
-/// Reads a method id and the slots of that method.
+/// Decodes a method id and the fields of that method.
 #[tactic(auto, using(amqp_types::proofs::Judged::refuses_next), unfolding(amqp_types::specs::Rows::rows_of, amqp_types::specs::Methods::judge_in_class))]
 pub fn parse_tx(alloc: Global, i: &[u8]) -> Result<(usize, AMQPMethod), ParserError>
     ensures { Parses method_of result i.now (judge_in_class 90) }
@@ -487,48 +486,41 @@ pub fn parse_tx(alloc: Global, i: &[u8]) -> Result<(usize, AMQPMethod), ParserEr
     Ok((n + used, method))
 }
 
-/// The size of the class id, the method id and the slots.
+/// Calls a function with the ids and fields of a method, after the arguments given.
+macro_rules! with_fields {
+    ($method:expr, $call:ident($($argument:expr),*)) => {
+        match $method {
+            AMQPMethod::Select(method) => $call($($argument,)* &select_fields(method)),
+            AMQPMethod::SelectOk(method) => $call($($argument,)* &select_ok_fields(method)),
+            AMQPMethod::Commit(method) => $call($($argument,)* &commit_fields(method)),
+            AMQPMethod::CommitOk(method) => $call($($argument,)* &commit_ok_fields(method)),
+            AMQPMethod::Rollback(method) => $call($($argument,)* &rollback_fields(method)),
+            AMQPMethod::RollbackOk(method) => $call($($argument,)* &rollback_ok_fields(method)),
+        }
+    };
+}
+
+/// The size of the class id, the method id and the fields.
 #[tactic(auto)]
 pub fn size_tx(method: &AMQPMethod) -> Result<u64, GenError>
     ensures { Measures result (payload_size (method_of method.now)) }
 {
-    match method {
-        AMQPMethod::Select(method) => size_fields(&select_fields(method)),
-        AMQPMethod::SelectOk(method) => size_fields(&select_ok_fields(method)),
-        AMQPMethod::Commit(method) => size_fields(&commit_fields(method)),
-        AMQPMethod::CommitOk(method) => size_fields(&commit_ok_fields(method)),
-        AMQPMethod::Rollback(method) => size_fields(&rollback_fields(method)),
-        AMQPMethod::RollbackOk(method) => size_fields(&rollback_ok_fields(method)),
-    }
+    with_fields!(method, size_fields())
 }
 
-/// Puts the class id, the method id and the slots at a place of a slice, and answers the place behind.
+/// Puts the class id, the method id and the fields at a place of a slice, and returns the place after.
 #[tactic(auto)]
 pub fn put_tx(buf: &mut [u8], at: usize, method: &AMQPMethod) -> usize
     requires { HasRoom buf.old at (payload_size (method_of method.now)) (payload_bytes (method_of method.now)) }
     ensures { Puts buf.old buf.new at (payload_bytes (method_of method.now)) result }
 {
-    match method {
-        AMQPMethod::Select(method) => put_fields(buf, at, &select_fields(method)),
-        AMQPMethod::SelectOk(method) => put_fields(buf, at, &select_ok_fields(method)),
-        AMQPMethod::Commit(method) => put_fields(buf, at, &commit_fields(method)),
-        AMQPMethod::CommitOk(method) => put_fields(buf, at, &commit_ok_fields(method)),
-        AMQPMethod::Rollback(method) => put_fields(buf, at, &rollback_fields(method)),
-        AMQPMethod::RollbackOk(method) => put_fields(buf, at, &rollback_ok_fields(method)),
-    }
+    with_fields!(method, put_fields(buf, at))
 }
 
-/// Appends the class id, the method id and the slots to a vector.
+/// Appends the class id, the method id and the fields to a vector.
 #[tactic(auto)]
 pub fn gen_tx(_alloc: Global, out: &mut Vec<u8>, method: &AMQPMethod) -> Result<(), GenError>
     ensures { Appends out.old.items out.new.items (payload_size (method_of method.now)) (payload_bytes (method_of method.now)) result }
 {
-    match method {
-        AMQPMethod::Select(method) => gen_fields(out, &select_fields(method)),
-        AMQPMethod::SelectOk(method) => gen_fields(out, &select_ok_fields(method)),
-        AMQPMethod::Commit(method) => gen_fields(out, &commit_fields(method)),
-        AMQPMethod::CommitOk(method) => gen_fields(out, &commit_ok_fields(method)),
-        AMQPMethod::Rollback(method) => gen_fields(out, &rollback_fields(method)),
-        AMQPMethod::RollbackOk(method) => gen_fields(out, &rollback_ok_fields(method)),
-    }
+    with_fields!(method, gen_fields(out))
 }

@@ -1,0 +1,3 @@
+pub mod ChannelEquality
+pub mod TxEquality
+pub mod ConfirmEquality
