@@ -1,4 +1,4 @@
--- The methods of the class queue, and what their slots give.
+-- The methods of the class queue, and the items of their fields.
 use Rattle.std.specs.Prelude.{[], ◌∷◌}
 use Rattle.amqp_types.specs.Slots.{number_item, flag_item, text_item, entries_item}
 use Rattle.amqp_types.specs.Methods.{Method, method}

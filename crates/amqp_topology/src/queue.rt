@@ -86,7 +86,7 @@ impl AMQPMethod {
         }
     }
 
-    /// An equal method of its own.
+    /// A deep copy.
     pub fn copy(&self, alloc: Global) -> Result<AMQPMethod, NoMemory>
         ensures { IfOk result (λ copied. copied ≡ self.now) }
     {
@@ -105,7 +105,7 @@ impl AMQPMethod {
     }
 }
 
-/// Reads the slots of the method with this id.
+/// Decodes the fields of the method with this id.
 #[tactic(auto, using(amqp_types::proofs::Judged::refuses_next), unfolding(amqp_types::specs::Rows::rows_of, amqp_types::specs::Rows::slots_at, amqp_types::specs::Methods::judge_method))]
 fn parse_method(alloc: Global, id: Identifier, i: &[u8]) -> Result<(usize, AMQPMethod), ParserError>
     ensures { Parses method_of result i.now (judge_method 50 id) }
@@ -155,7 +155,7 @@ fn parse_method(alloc: Global, id: Identifier, i: &[u8]) -> Result<(usize, AMQPM
     }
 }
 
-/// Reads a method id and the slots of that method.
+/// Decodes a method id and the fields of that method.
 #[tactic(auto, using(amqp_types::proofs::Judged::refuses_next), unfolding(amqp_types::specs::Rows::rows_of, amqp_types::specs::Methods::judge_in_class))]
 pub fn parse_queue(alloc: Global, i: &[u8]) -> Result<(usize, AMQPMethod), ParserError>
     ensures { Parses method_of result i.now (judge_in_class 50) }
@@ -165,60 +165,45 @@ pub fn parse_queue(alloc: Global, i: &[u8]) -> Result<(usize, AMQPMethod), Parse
     Ok((n + used, method))
 }
 
-/// The size of the class id, the method id and the slots.
+/// Calls a function with the ids and fields of a method, after the arguments given.
+macro_rules! with_fields {
+    ($method:expr, $call:ident($($argument:expr),*)) => {
+        match $method {
+            AMQPMethod::Declare(method) => $call($($argument,)* &declaring::declare_fields(method)),
+            AMQPMethod::DeclareOk(method) => $call($($argument,)* &declaring::declare_ok_fields(method)),
+            AMQPMethod::Bind(method) => $call($($argument,)* &binding::bind_fields(method)),
+            AMQPMethod::BindOk(method) => $call($($argument,)* &binding::bind_ok_fields(method)),
+            AMQPMethod::Purge(method) => $call($($argument,)* &declaring::purge_fields(method)),
+            AMQPMethod::PurgeOk(method) => $call($($argument,)* &declaring::purge_ok_fields(method)),
+            AMQPMethod::Delete(method) => $call($($argument,)* &declaring::delete_fields(method)),
+            AMQPMethod::DeleteOk(method) => $call($($argument,)* &declaring::delete_ok_fields(method)),
+            AMQPMethod::Unbind(method) => $call($($argument,)* &binding::unbind_fields(method)),
+            AMQPMethod::UnbindOk(method) => $call($($argument,)* &binding::unbind_ok_fields(method)),
+        }
+    };
+}
+
+/// The size of the class id, the method id and the fields.
 #[tactic(auto)]
 pub fn size_queue(method: &AMQPMethod) -> Result<u64, GenError>
     ensures { Measures result (payload_size (method_of method.now)) }
 {
-    match method {
-        AMQPMethod::Declare(method) => size_fields(&declaring::declare_fields(method)),
-        AMQPMethod::DeclareOk(method) => size_fields(&declaring::declare_ok_fields(method)),
-        AMQPMethod::Bind(method) => size_fields(&binding::bind_fields(method)),
-        AMQPMethod::BindOk(method) => size_fields(&binding::bind_ok_fields(method)),
-        AMQPMethod::Purge(method) => size_fields(&declaring::purge_fields(method)),
-        AMQPMethod::PurgeOk(method) => size_fields(&declaring::purge_ok_fields(method)),
-        AMQPMethod::Delete(method) => size_fields(&declaring::delete_fields(method)),
-        AMQPMethod::DeleteOk(method) => size_fields(&declaring::delete_ok_fields(method)),
-        AMQPMethod::Unbind(method) => size_fields(&binding::unbind_fields(method)),
-        AMQPMethod::UnbindOk(method) => size_fields(&binding::unbind_ok_fields(method)),
-    }
+    with_fields!(method, size_fields())
 }
 
-/// Puts the class id, the method id and the slots at a place of a slice, and answers the place behind.
+/// Puts the class id, the method id and the fields at a place of a slice, and returns the place after.
 #[tactic(auto)]
 pub fn put_queue(buf: &mut [u8], at: usize, method: &AMQPMethod) -> usize
     requires { HasRoom buf.old at (payload_size (method_of method.now)) (payload_bytes (method_of method.now)) }
     ensures { Puts buf.old buf.new at (payload_bytes (method_of method.now)) result }
 {
-    match method {
-        AMQPMethod::Declare(method) => put_fields(buf, at, &declaring::declare_fields(method)),
-        AMQPMethod::DeclareOk(method) => put_fields(buf, at, &declaring::declare_ok_fields(method)),
-        AMQPMethod::Bind(method) => put_fields(buf, at, &binding::bind_fields(method)),
-        AMQPMethod::BindOk(method) => put_fields(buf, at, &binding::bind_ok_fields(method)),
-        AMQPMethod::Purge(method) => put_fields(buf, at, &declaring::purge_fields(method)),
-        AMQPMethod::PurgeOk(method) => put_fields(buf, at, &declaring::purge_ok_fields(method)),
-        AMQPMethod::Delete(method) => put_fields(buf, at, &declaring::delete_fields(method)),
-        AMQPMethod::DeleteOk(method) => put_fields(buf, at, &declaring::delete_ok_fields(method)),
-        AMQPMethod::Unbind(method) => put_fields(buf, at, &binding::unbind_fields(method)),
-        AMQPMethod::UnbindOk(method) => put_fields(buf, at, &binding::unbind_ok_fields(method)),
-    }
+    with_fields!(method, put_fields(buf, at))
 }
 
-/// Appends the class id, the method id and the slots to a vector.
+/// Appends the class id, the method id and the fields to a vector.
 #[tactic(auto)]
 pub fn gen_queue(_alloc: Global, out: &mut Vec<u8>, method: &AMQPMethod) -> Result<(), GenError>
     ensures { Appends out.old.items out.new.items (payload_size (method_of method.now)) (payload_bytes (method_of method.now)) result }
 {
-    match method {
-        AMQPMethod::Declare(method) => gen_fields(out, &declaring::declare_fields(method)),
-        AMQPMethod::DeclareOk(method) => gen_fields(out, &declaring::declare_ok_fields(method)),
-        AMQPMethod::Bind(method) => gen_fields(out, &binding::bind_fields(method)),
-        AMQPMethod::BindOk(method) => gen_fields(out, &binding::bind_ok_fields(method)),
-        AMQPMethod::Purge(method) => gen_fields(out, &declaring::purge_fields(method)),
-        AMQPMethod::PurgeOk(method) => gen_fields(out, &declaring::purge_ok_fields(method)),
-        AMQPMethod::Delete(method) => gen_fields(out, &declaring::delete_fields(method)),
-        AMQPMethod::DeleteOk(method) => gen_fields(out, &declaring::delete_ok_fields(method)),
-        AMQPMethod::Unbind(method) => gen_fields(out, &binding::unbind_fields(method)),
-        AMQPMethod::UnbindOk(method) => gen_fields(out, &binding::unbind_ok_fields(method)),
-    }
+    with_fields!(method, gen_fields(out))
 }

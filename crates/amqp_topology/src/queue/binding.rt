@@ -1,5 +1,4 @@
 //! Methods of the class queue that bind and unbind queues.
-#![tactic(auto, using(amqp_types::proofs::Judged::refuses_next), unfolding(amqp_types::specs::Rows::rows_of, amqp_types::specs::Rows::slots_at, amqp_types::specs::SlotJudging::judge_slots, amqp_types::specs::Methods::judge_method, amqp_values::specs::Fields::field_bytes, amqp_values::specs::Fields::is_deep_field, amqp_values::specs::Fields::is_long_field, amqp_values::specs::Fields::fields_bytes, amqp_values::specs::Fields::any_deep_field, amqp_values::specs::Fields::any_long_field, amqp_values::specs::Fields::fields_size, amqp_types::specs::SlotBytes::form_bytes, amqp_types::specs::SlotBytes::slots_bytes, amqp_types::specs::SlotBytes::items_size, amqp_types::specs::Methods::method_bytes, amqp_types::specs::Methods::method_size, amqp_types::specs::Methods::payload_bytes, amqp_types::specs::Methods::payload_size))]
 
 ghost use Rattle.std.specs.Prelude.{◌≡◌, ◌∷◌, [], false, IfOk};
 ghost use Rattle.amqp_types.specs.Slots.{flag_item, text_item, entries_item};
@@ -53,7 +52,7 @@ impl Bind {
         }
     }
 
-    /// An equal method of its own.
+    /// A deep copy.
     pub fn copy(&self, alloc: Global) -> Result<Bind, NoMemory>
         ensures { IfOk result (λ copied. copied ≡ self.now) }
     {
@@ -67,7 +66,7 @@ impl Bind {
     }
 }
 
-/// Reads the slots of `Bind`.
+/// Decodes the fields of `Bind`.
 pub fn parse_bind(alloc: Global, i: &[u8]) -> Result<(usize, Bind), ParserError>
     ensures { Parses bind_method result i.now (judge_method 50 20) }
 {
@@ -85,10 +84,10 @@ pub fn parse_bind(alloc: Global, i: &[u8]) -> Result<(usize, Bind), ParserError>
         nowait: flag_of_byte(flags, 0),
         arguments,
     };
-    Ok((i.len() - slots.rest.len(), method))
+    Ok((slots.used(i), method))
 }
 
-/// Its ids and slots, in order.
+/// Its ids and fields, in order.
 pub(super) fn bind_fields(method: &Bind) -> [Field<'_>; 8]
     ensures { ListsMethod result (bind_method method.now) }
 {
@@ -104,7 +103,7 @@ pub(super) fn bind_fields(method: &Bind) -> [Field<'_>; 8]
     ]
 }
 
-/// The size of the method id and the slots of `Bind`.
+/// The size of the method id and the fields of `Bind`.
 #[tactic(auto)]
 pub fn size_bind(method: &Bind) -> Result<u64, GenError>
     ensures { Measures result (method_size (bind_method method.now)) }
@@ -112,7 +111,7 @@ pub fn size_bind(method: &Bind) -> Result<u64, GenError>
     size_fields(&bind_fields(method)[1..])
 }
 
-/// Puts the method id and the slots of `Bind` at a place of a slice, and answers the place behind.
+/// Puts the method id and the fields of `Bind` at a place of a slice, and returns the place after.
 #[tactic(auto)]
 pub fn put_bind(buf: &mut [u8], at: usize, method: &Bind) -> usize
     requires { HasRoom buf.old at (method_size (bind_method method.now)) (method_bytes (bind_method method.now)) }
@@ -121,7 +120,7 @@ pub fn put_bind(buf: &mut [u8], at: usize, method: &Bind) -> usize
     put_fields(buf, at, &bind_fields(method)[1..])
 }
 
-/// Appends the method id and the slots of `Bind` to a vector.
+/// Appends the method id and the fields of `Bind` to a vector.
 #[tactic(auto)]
 pub fn gen_bind(_alloc: Global, out: &mut Vec<u8>, method: &Bind) -> Result<(), GenError>
     ensures { Appends out.old.items out.new.items (method_size (bind_method method.now)) (method_bytes (bind_method method.now)) result }
@@ -149,23 +148,23 @@ impl BindOk {
     }
 }
 
-/// Reads the slots of `BindOk`.
+/// Decodes the fields of `BindOk`.
 pub fn parse_bind_ok(_alloc: Global, i: &[u8]) -> Result<(usize, BindOk), ParserError>
     ensures parsed { Parses bind_ok_method result i.now (judge_method 50 21) }
     ensures memory { NeedsNoMemory result }
 {
     let slots = SlotReader::new(i);
-    Ok((i.len() - slots.rest.len(), BindOk {}))
+    Ok((slots.used(i), BindOk {}))
 }
 
-/// Its ids and slots, in order.
+/// Its ids and fields, in order.
 pub(super) fn bind_ok_fields(_method: &BindOk) -> [Field<'_>; 2]
     ensures { ListsMethod result (bind_ok_method _method.now) }
 {
     [Field::ShortUInt(50), Field::ShortUInt(21)]
 }
 
-/// The size of the method id and the slots of `BindOk`.
+/// The size of the method id and the fields of `BindOk`.
 #[tactic(auto)]
 pub fn size_bind_ok(method: &BindOk) -> Result<u64, GenError>
     ensures { Measures result (method_size (bind_ok_method method.now)) }
@@ -173,7 +172,7 @@ pub fn size_bind_ok(method: &BindOk) -> Result<u64, GenError>
     size_fields(&bind_ok_fields(method)[1..])
 }
 
-/// Puts the method id and the slots of `BindOk` at a place of a slice, and answers the place behind.
+/// Puts the method id and the fields of `BindOk` at a place of a slice, and returns the place after.
 #[tactic(auto)]
 pub fn put_bind_ok(buf: &mut [u8], at: usize, method: &BindOk) -> usize
     requires { HasRoom buf.old at (method_size (bind_ok_method method.now)) (method_bytes (bind_ok_method method.now)) }
@@ -182,7 +181,7 @@ pub fn put_bind_ok(buf: &mut [u8], at: usize, method: &BindOk) -> usize
     put_fields(buf, at, &bind_ok_fields(method)[1..])
 }
 
-/// Appends the method id and the slots of `BindOk` to a vector.
+/// Appends the method id and the fields of `BindOk` to a vector.
 #[tactic(auto)]
 pub fn gen_bind_ok(_alloc: Global, out: &mut Vec<u8>, method: &BindOk) -> Result<(), GenError>
     ensures { Appends out.old.items out.new.items (method_size (bind_ok_method method.now)) (method_bytes (bind_ok_method method.now)) result }
@@ -226,7 +225,7 @@ impl Unbind {
         }
     }
 
-    /// An equal method of its own.
+    /// A deep copy.
     pub fn copy(&self, alloc: Global) -> Result<Unbind, NoMemory>
         ensures { IfOk result (λ copied. copied ≡ self.now) }
     {
@@ -239,7 +238,7 @@ impl Unbind {
     }
 }
 
-/// Reads the slots of `Unbind`.
+/// Decodes the fields of `Unbind`.
 pub fn parse_unbind(alloc: Global, i: &[u8]) -> Result<(usize, Unbind), ParserError>
     ensures { Parses unbind_method result i.now (judge_method 50 50) }
 {
@@ -255,10 +254,10 @@ pub fn parse_unbind(alloc: Global, i: &[u8]) -> Result<(usize, Unbind), ParserEr
         routing_key,
         arguments,
     };
-    Ok((i.len() - slots.rest.len(), method))
+    Ok((slots.used(i), method))
 }
 
-/// Its ids and slots, in order.
+/// Its ids and fields, in order.
 pub(super) fn unbind_fields(method: &Unbind) -> [Field<'_>; 7]
     ensures { ListsMethod result (unbind_method method.now) }
 {
@@ -273,7 +272,7 @@ pub(super) fn unbind_fields(method: &Unbind) -> [Field<'_>; 7]
     ]
 }
 
-/// The size of the method id and the slots of `Unbind`.
+/// The size of the method id and the fields of `Unbind`.
 #[tactic(auto)]
 pub fn size_unbind(method: &Unbind) -> Result<u64, GenError>
     ensures { Measures result (method_size (unbind_method method.now)) }
@@ -281,7 +280,7 @@ pub fn size_unbind(method: &Unbind) -> Result<u64, GenError>
     size_fields(&unbind_fields(method)[1..])
 }
 
-/// Puts the method id and the slots of `Unbind` at a place of a slice, and answers the place behind.
+/// Puts the method id and the fields of `Unbind` at a place of a slice, and returns the place after.
 #[tactic(auto)]
 pub fn put_unbind(buf: &mut [u8], at: usize, method: &Unbind) -> usize
     requires { HasRoom buf.old at (method_size (unbind_method method.now)) (method_bytes (unbind_method method.now)) }
@@ -290,7 +289,7 @@ pub fn put_unbind(buf: &mut [u8], at: usize, method: &Unbind) -> usize
     put_fields(buf, at, &unbind_fields(method)[1..])
 }
 
-/// Appends the method id and the slots of `Unbind` to a vector.
+/// Appends the method id and the fields of `Unbind` to a vector.
 #[tactic(auto)]
 pub fn gen_unbind(_alloc: Global, out: &mut Vec<u8>, method: &Unbind) -> Result<(), GenError>
     ensures { Appends out.old.items out.new.items (method_size (unbind_method method.now)) (method_bytes (unbind_method method.now)) result }
@@ -318,23 +317,23 @@ impl UnbindOk {
     }
 }
 
-/// Reads the slots of `UnbindOk`.
+/// Decodes the fields of `UnbindOk`.
 pub fn parse_unbind_ok(_alloc: Global, i: &[u8]) -> Result<(usize, UnbindOk), ParserError>
     ensures parsed { Parses unbind_ok_method result i.now (judge_method 50 51) }
     ensures memory { NeedsNoMemory result }
 {
     let slots = SlotReader::new(i);
-    Ok((i.len() - slots.rest.len(), UnbindOk {}))
+    Ok((slots.used(i), UnbindOk {}))
 }
 
-/// Its ids and slots, in order.
+/// Its ids and fields, in order.
 pub(super) fn unbind_ok_fields(_method: &UnbindOk) -> [Field<'_>; 2]
     ensures { ListsMethod result (unbind_ok_method _method.now) }
 {
     [Field::ShortUInt(50), Field::ShortUInt(51)]
 }
 
-/// The size of the method id and the slots of `UnbindOk`.
+/// The size of the method id and the fields of `UnbindOk`.
 #[tactic(auto)]
 pub fn size_unbind_ok(method: &UnbindOk) -> Result<u64, GenError>
     ensures { Measures result (method_size (unbind_ok_method method.now)) }
@@ -342,7 +341,7 @@ pub fn size_unbind_ok(method: &UnbindOk) -> Result<u64, GenError>
     size_fields(&unbind_ok_fields(method)[1..])
 }
 
-/// Puts the method id and the slots of `UnbindOk` at a place of a slice, and answers the place behind.
+/// Puts the method id and the fields of `UnbindOk` at a place of a slice, and returns the place after.
 #[tactic(auto)]
 pub fn put_unbind_ok(buf: &mut [u8], at: usize, method: &UnbindOk) -> usize
     requires { HasRoom buf.old at (method_size (unbind_ok_method method.now)) (method_bytes (unbind_ok_method method.now)) }
@@ -351,7 +350,7 @@ pub fn put_unbind_ok(buf: &mut [u8], at: usize, method: &UnbindOk) -> usize
     put_fields(buf, at, &unbind_ok_fields(method)[1..])
 }
 
-/// Appends the method id and the slots of `UnbindOk` to a vector.
+/// Appends the method id and the fields of `UnbindOk` to a vector.
 #[tactic(auto)]
 pub fn gen_unbind_ok(_alloc: Global, out: &mut Vec<u8>, method: &UnbindOk) -> Result<(), GenError>
     ensures { Appends out.old.items out.new.items (method_size (unbind_ok_method method.now)) (method_bytes (unbind_ok_method method.now)) result }

@@ -1,5 +1,4 @@
 //! Methods of the class queue that declare, empty and delete queues.
-#![tactic(auto, using(amqp_types::proofs::Judged::refuses_next), unfolding(amqp_types::specs::Rows::rows_of, amqp_types::specs::Rows::slots_at, amqp_types::specs::SlotJudging::judge_slots, amqp_types::specs::Methods::judge_method, amqp_values::specs::Fields::field_bytes, amqp_values::specs::Fields::is_deep_field, amqp_values::specs::Fields::is_long_field, amqp_values::specs::Fields::fields_bytes, amqp_values::specs::Fields::any_deep_field, amqp_values::specs::Fields::any_long_field, amqp_values::specs::Fields::fields_size, amqp_types::specs::SlotBytes::form_bytes, amqp_types::specs::SlotBytes::slots_bytes, amqp_types::specs::SlotBytes::items_size, amqp_types::specs::Methods::method_bytes, amqp_types::specs::Methods::method_size, amqp_types::specs::Methods::payload_bytes, amqp_types::specs::Methods::payload_size))]
 
 ghost use Rattle.std.specs.Prelude.{◌≡◌, ◌∷◌, [], false, IfOk};
 ghost use Rattle.amqp_types.specs.Slots.{number_item, flag_item, text_item, entries_item};
@@ -57,7 +56,7 @@ impl Declare {
         }
     }
 
-    /// An equal method of its own.
+    /// A deep copy.
     pub fn copy(&self, alloc: Global) -> Result<Declare, NoMemory>
         ensures { IfOk result (λ copied. copied ≡ self.now) }
     {
@@ -73,7 +72,7 @@ impl Declare {
     }
 }
 
-/// Reads the slots of `Declare`.
+/// Decodes the fields of `Declare`.
 pub fn parse_declare(alloc: Global, i: &[u8]) -> Result<(usize, Declare), ParserError>
     ensures { Parses declare_method result i.now (judge_method 50 10) }
 {
@@ -91,10 +90,10 @@ pub fn parse_declare(alloc: Global, i: &[u8]) -> Result<(usize, Declare), Parser
         nowait: flag_of_byte(flags, 4),
         arguments,
     };
-    Ok((i.len() - slots.rest.len(), method))
+    Ok((slots.used(i), method))
 }
 
-/// Its ids and slots, in order.
+/// Its ids and fields, in order.
 pub(super) fn declare_fields(method: &Declare) -> [Field<'_>; 6]
     ensures { ListsMethod result (declare_method method.now) }
 {
@@ -114,7 +113,7 @@ pub(super) fn declare_fields(method: &Declare) -> [Field<'_>; 6]
     ]
 }
 
-/// The size of the method id and the slots of `Declare`.
+/// The size of the method id and the fields of `Declare`.
 #[tactic(auto)]
 pub fn size_declare(method: &Declare) -> Result<u64, GenError>
     ensures { Measures result (method_size (declare_method method.now)) }
@@ -122,7 +121,7 @@ pub fn size_declare(method: &Declare) -> Result<u64, GenError>
     size_fields(&declare_fields(method)[1..])
 }
 
-/// Puts the method id and the slots of `Declare` at a place of a slice, and answers the place behind.
+/// Puts the method id and the fields of `Declare` at a place of a slice, and returns the place after.
 #[tactic(auto)]
 pub fn put_declare(buf: &mut [u8], at: usize, method: &Declare) -> usize
     requires { HasRoom buf.old at (method_size (declare_method method.now)) (method_bytes (declare_method method.now)) }
@@ -131,7 +130,7 @@ pub fn put_declare(buf: &mut [u8], at: usize, method: &Declare) -> usize
     put_fields(buf, at, &declare_fields(method)[1..])
 }
 
-/// Appends the method id and the slots of `Declare` to a vector.
+/// Appends the method id and the fields of `Declare` to a vector.
 #[tactic(auto)]
 pub fn gen_declare(_alloc: Global, out: &mut Vec<u8>, method: &Declare) -> Result<(), GenError>
     ensures { Appends out.old.items out.new.items (method_size (declare_method method.now)) (method_bytes (declare_method method.now)) result }
@@ -173,7 +172,7 @@ impl DeclareOk {
         }
     }
 
-    /// An equal method of its own.
+    /// A deep copy.
     pub fn copy(&self, alloc: Global) -> Result<DeclareOk, NoMemory>
         ensures { IfOk result (λ copied. copied ≡ self.now) }
     {
@@ -185,7 +184,7 @@ impl DeclareOk {
     }
 }
 
-/// Reads the slots of `DeclareOk`.
+/// Decodes the fields of `DeclareOk`.
 pub fn parse_declare_ok(alloc: Global, i: &[u8]) -> Result<(usize, DeclareOk), ParserError>
     ensures { Parses declare_ok_method result i.now (judge_method 50 11) }
 {
@@ -198,10 +197,10 @@ pub fn parse_declare_ok(alloc: Global, i: &[u8]) -> Result<(usize, DeclareOk), P
         message_count,
         consumer_count,
     };
-    Ok((i.len() - slots.rest.len(), method))
+    Ok((slots.used(i), method))
 }
 
-/// Its ids and slots, in order.
+/// Its ids and fields, in order.
 pub(super) fn declare_ok_fields(method: &DeclareOk) -> [Field<'_>; 5]
     ensures { ListsMethod result (declare_ok_method method.now) }
 {
@@ -214,7 +213,7 @@ pub(super) fn declare_ok_fields(method: &DeclareOk) -> [Field<'_>; 5]
     ]
 }
 
-/// The size of the method id and the slots of `DeclareOk`.
+/// The size of the method id and the fields of `DeclareOk`.
 #[tactic(auto)]
 pub fn size_declare_ok(method: &DeclareOk) -> Result<u64, GenError>
     ensures { Measures result (method_size (declare_ok_method method.now)) }
@@ -222,7 +221,7 @@ pub fn size_declare_ok(method: &DeclareOk) -> Result<u64, GenError>
     size_fields(&declare_ok_fields(method)[1..])
 }
 
-/// Puts the method id and the slots of `DeclareOk` at a place of a slice, and answers the place behind.
+/// Puts the method id and the fields of `DeclareOk` at a place of a slice, and returns the place after.
 #[tactic(auto)]
 pub fn put_declare_ok(buf: &mut [u8], at: usize, method: &DeclareOk) -> usize
     requires { HasRoom buf.old at (method_size (declare_ok_method method.now)) (method_bytes (declare_ok_method method.now)) }
@@ -231,7 +230,7 @@ pub fn put_declare_ok(buf: &mut [u8], at: usize, method: &DeclareOk) -> usize
     put_fields(buf, at, &declare_ok_fields(method)[1..])
 }
 
-/// Appends the method id and the slots of `DeclareOk` to a vector.
+/// Appends the method id and the fields of `DeclareOk` to a vector.
 #[tactic(auto)]
 pub fn gen_declare_ok(_alloc: Global, out: &mut Vec<u8>, method: &DeclareOk) -> Result<(), GenError>
     ensures { Appends out.old.items out.new.items (method_size (declare_ok_method method.now)) (method_bytes (declare_ok_method method.now)) result }
@@ -271,7 +270,7 @@ impl Purge {
         }
     }
 
-    /// An equal method of its own.
+    /// A deep copy.
     pub fn copy(&self, alloc: Global) -> Result<Purge, NoMemory>
         ensures { IfOk result (λ copied. copied ≡ self.now) }
     {
@@ -282,7 +281,7 @@ impl Purge {
     }
 }
 
-/// Reads the slots of `Purge`.
+/// Decodes the fields of `Purge`.
 pub fn parse_purge(alloc: Global, i: &[u8]) -> Result<(usize, Purge), ParserError>
     ensures { Parses purge_method result i.now (judge_method 50 30) }
 {
@@ -294,10 +293,10 @@ pub fn parse_purge(alloc: Global, i: &[u8]) -> Result<(usize, Purge), ParserErro
         queue,
         nowait: flag_of_byte(flags, 0),
     };
-    Ok((i.len() - slots.rest.len(), method))
+    Ok((slots.used(i), method))
 }
 
-/// Its ids and slots, in order.
+/// Its ids and fields, in order.
 pub(super) fn purge_fields(method: &Purge) -> [Field<'_>; 5]
     ensures { ListsMethod result (purge_method method.now) }
 {
@@ -310,7 +309,7 @@ pub(super) fn purge_fields(method: &Purge) -> [Field<'_>; 5]
     ]
 }
 
-/// The size of the method id and the slots of `Purge`.
+/// The size of the method id and the fields of `Purge`.
 #[tactic(auto)]
 pub fn size_purge(method: &Purge) -> Result<u64, GenError>
     ensures { Measures result (method_size (purge_method method.now)) }
@@ -318,7 +317,7 @@ pub fn size_purge(method: &Purge) -> Result<u64, GenError>
     size_fields(&purge_fields(method)[1..])
 }
 
-/// Puts the method id and the slots of `Purge` at a place of a slice, and answers the place behind.
+/// Puts the method id and the fields of `Purge` at a place of a slice, and returns the place after.
 #[tactic(auto)]
 pub fn put_purge(buf: &mut [u8], at: usize, method: &Purge) -> usize
     requires { HasRoom buf.old at (method_size (purge_method method.now)) (method_bytes (purge_method method.now)) }
@@ -327,7 +326,7 @@ pub fn put_purge(buf: &mut [u8], at: usize, method: &Purge) -> usize
     put_fields(buf, at, &purge_fields(method)[1..])
 }
 
-/// Appends the method id and the slots of `Purge` to a vector.
+/// Appends the method id and the fields of `Purge` to a vector.
 #[tactic(auto)]
 pub fn gen_purge(_alloc: Global, out: &mut Vec<u8>, method: &Purge) -> Result<(), GenError>
     ensures { Appends out.old.items out.new.items (method_size (purge_method method.now)) (method_bytes (purge_method method.now)) result }
@@ -357,7 +356,7 @@ impl PurgeOk {
     }
 }
 
-/// Reads the slots of `PurgeOk`.
+/// Decodes the fields of `PurgeOk`.
 pub fn parse_purge_ok(_alloc: Global, i: &[u8]) -> Result<(usize, PurgeOk), ParserError>
     ensures parsed { Parses purge_ok_method result i.now (judge_method 50 31) }
     ensures memory { NeedsNoMemory result }
@@ -365,10 +364,10 @@ pub fn parse_purge_ok(_alloc: Global, i: &[u8]) -> Result<(usize, PurgeOk), Pars
     let mut slots = SlotReader::new(i);
     let message_count = slots.long_uint()?;
     let method = PurgeOk { message_count };
-    Ok((i.len() - slots.rest.len(), method))
+    Ok((slots.used(i), method))
 }
 
-/// Its ids and slots, in order.
+/// Its ids and fields, in order.
 pub(super) fn purge_ok_fields(method: &PurgeOk) -> [Field<'_>; 3]
     ensures { ListsMethod result (purge_ok_method method.now) }
 {
@@ -379,7 +378,7 @@ pub(super) fn purge_ok_fields(method: &PurgeOk) -> [Field<'_>; 3]
     ]
 }
 
-/// The size of the method id and the slots of `PurgeOk`.
+/// The size of the method id and the fields of `PurgeOk`.
 #[tactic(auto)]
 pub fn size_purge_ok(method: &PurgeOk) -> Result<u64, GenError>
     ensures { Measures result (method_size (purge_ok_method method.now)) }
@@ -387,7 +386,7 @@ pub fn size_purge_ok(method: &PurgeOk) -> Result<u64, GenError>
     size_fields(&purge_ok_fields(method)[1..])
 }
 
-/// Puts the method id and the slots of `PurgeOk` at a place of a slice, and answers the place behind.
+/// Puts the method id and the fields of `PurgeOk` at a place of a slice, and returns the place after.
 #[tactic(auto)]
 pub fn put_purge_ok(buf: &mut [u8], at: usize, method: &PurgeOk) -> usize
     requires { HasRoom buf.old at (method_size (purge_ok_method method.now)) (method_bytes (purge_ok_method method.now)) }
@@ -396,7 +395,7 @@ pub fn put_purge_ok(buf: &mut [u8], at: usize, method: &PurgeOk) -> usize
     put_fields(buf, at, &purge_ok_fields(method)[1..])
 }
 
-/// Appends the method id and the slots of `PurgeOk` to a vector.
+/// Appends the method id and the fields of `PurgeOk` to a vector.
 #[tactic(auto)]
 pub fn gen_purge_ok(_alloc: Global, out: &mut Vec<u8>, method: &PurgeOk) -> Result<(), GenError>
     ensures { Appends out.old.items out.new.items (method_size (purge_ok_method method.now)) (method_bytes (purge_ok_method method.now)) result }
@@ -440,7 +439,7 @@ impl Delete {
         }
     }
 
-    /// An equal method of its own.
+    /// A deep copy.
     pub fn copy(&self, alloc: Global) -> Result<Delete, NoMemory>
         ensures { IfOk result (λ copied. copied ≡ self.now) }
     {
@@ -453,7 +452,7 @@ impl Delete {
     }
 }
 
-/// Reads the slots of `Delete`.
+/// Decodes the fields of `Delete`.
 pub fn parse_delete(alloc: Global, i: &[u8]) -> Result<(usize, Delete), ParserError>
     ensures { Parses delete_method result i.now (judge_method 50 40) }
 {
@@ -467,10 +466,10 @@ pub fn parse_delete(alloc: Global, i: &[u8]) -> Result<(usize, Delete), ParserEr
         if_empty: flag_of_byte(flags, 1),
         nowait: flag_of_byte(flags, 2),
     };
-    Ok((i.len() - slots.rest.len(), method))
+    Ok((slots.used(i), method))
 }
 
-/// Its ids and slots, in order.
+/// Its ids and fields, in order.
 pub(super) fn delete_fields(method: &Delete) -> [Field<'_>; 5]
     ensures { ListsMethod result (delete_method method.now) }
 {
@@ -483,7 +482,7 @@ pub(super) fn delete_fields(method: &Delete) -> [Field<'_>; 5]
     ]
 }
 
-/// The size of the method id and the slots of `Delete`.
+/// The size of the method id and the fields of `Delete`.
 #[tactic(auto)]
 pub fn size_delete(method: &Delete) -> Result<u64, GenError>
     ensures { Measures result (method_size (delete_method method.now)) }
@@ -491,7 +490,7 @@ pub fn size_delete(method: &Delete) -> Result<u64, GenError>
     size_fields(&delete_fields(method)[1..])
 }
 
-/// Puts the method id and the slots of `Delete` at a place of a slice, and answers the place behind.
+/// Puts the method id and the fields of `Delete` at a place of a slice, and returns the place after.
 #[tactic(auto)]
 pub fn put_delete(buf: &mut [u8], at: usize, method: &Delete) -> usize
     requires { HasRoom buf.old at (method_size (delete_method method.now)) (method_bytes (delete_method method.now)) }
@@ -500,7 +499,7 @@ pub fn put_delete(buf: &mut [u8], at: usize, method: &Delete) -> usize
     put_fields(buf, at, &delete_fields(method)[1..])
 }
 
-/// Appends the method id and the slots of `Delete` to a vector.
+/// Appends the method id and the fields of `Delete` to a vector.
 #[tactic(auto)]
 pub fn gen_delete(_alloc: Global, out: &mut Vec<u8>, method: &Delete) -> Result<(), GenError>
     ensures { Appends out.old.items out.new.items (method_size (delete_method method.now)) (method_bytes (delete_method method.now)) result }
@@ -530,7 +529,7 @@ impl DeleteOk {
     }
 }
 
-/// Reads the slots of `DeleteOk`.
+/// Decodes the fields of `DeleteOk`.
 pub fn parse_delete_ok(_alloc: Global, i: &[u8]) -> Result<(usize, DeleteOk), ParserError>
     ensures parsed { Parses delete_ok_method result i.now (judge_method 50 41) }
     ensures memory { NeedsNoMemory result }
@@ -538,10 +537,10 @@ pub fn parse_delete_ok(_alloc: Global, i: &[u8]) -> Result<(usize, DeleteOk), Pa
     let mut slots = SlotReader::new(i);
     let message_count = slots.long_uint()?;
     let method = DeleteOk { message_count };
-    Ok((i.len() - slots.rest.len(), method))
+    Ok((slots.used(i), method))
 }
 
-/// Its ids and slots, in order.
+/// Its ids and fields, in order.
 pub(super) fn delete_ok_fields(method: &DeleteOk) -> [Field<'_>; 3]
     ensures { ListsMethod result (delete_ok_method method.now) }
 {
@@ -552,7 +551,7 @@ pub(super) fn delete_ok_fields(method: &DeleteOk) -> [Field<'_>; 3]
     ]
 }
 
-/// The size of the method id and the slots of `DeleteOk`.
+/// The size of the method id and the fields of `DeleteOk`.
 #[tactic(auto)]
 pub fn size_delete_ok(method: &DeleteOk) -> Result<u64, GenError>
     ensures { Measures result (method_size (delete_ok_method method.now)) }
@@ -560,7 +559,7 @@ pub fn size_delete_ok(method: &DeleteOk) -> Result<u64, GenError>
     size_fields(&delete_ok_fields(method)[1..])
 }
 
-/// Puts the method id and the slots of `DeleteOk` at a place of a slice, and answers the place behind.
+/// Puts the method id and the fields of `DeleteOk` at a place of a slice, and returns the place after.
 #[tactic(auto)]
 pub fn put_delete_ok(buf: &mut [u8], at: usize, method: &DeleteOk) -> usize
     requires { HasRoom buf.old at (method_size (delete_ok_method method.now)) (method_bytes (delete_ok_method method.now)) }
@@ -569,7 +568,7 @@ pub fn put_delete_ok(buf: &mut [u8], at: usize, method: &DeleteOk) -> usize
     put_fields(buf, at, &delete_ok_fields(method)[1..])
 }
 
-/// Appends the method id and the slots of `DeleteOk` to a vector.
+/// Appends the method id and the fields of `DeleteOk` to a vector.
 #[tactic(auto)]
 pub fn gen_delete_ok(_alloc: Global, out: &mut Vec<u8>, method: &DeleteOk) -> Result<(), GenError>
     ensures { Appends out.old.items out.new.items (method_size (delete_ok_method method.now)) (method_bytes (delete_ok_method method.now)) result }
