@@ -12,13 +12,11 @@ use Rattle.amqp_types.specs.Methods.{judge_payload, payload_bytes}
 use Rattle.amqp_types.specs.PropertyBytes.{properties_bytes}
 use Rattle.amqp_types.specs.PropertyJudging.{judge_properties}
 use Rattle.amqp_types.specs.ContentHeaders.{header_of_parts, content_header_bytes, header_slots, judge_content_header}
-use Rattle.amqp_types.specs.Writing.{Puts}
 use Rattle.amqp_types.proofs.Numbers.{number_exact}
 use Rattle.amqp_types.proofs.Bytes.{IsBytes-drop}
 use Rattle.amqp_types.proofs.Took.{bind_took, count_took, guard_took}
 use Rattle.amqp_canonical.specs.Writes.{IsRead, canonical_of}
 use Rattle.amqp_canonical.proofs.PayloadParts.{header_put, payload_put}
-use Rattle.amqp_canonical.proofs.PutParts.{Fits, fits_both}
 use Rattle.amqp_canonical.proofs.ReadParts.{is_read, took_of}
 use Rattle.amqp_lent.specs.Payloads.{header_payload, method_payload}
 
@@ -72,22 +70,6 @@ method_parts class id slots class_fits id_fits read =
     let h = payload_put (method_payload class id slots) class id read (λ r. number_back bytes2 class (number_bytes bytes2 id ++ slots) class_fits) (λ r. number_back bytes2 id slots id_fits) in
     record { shapes = h.slots; known = h.known_slots; read = h.read; bytes_are = h.bytes_are }
 
-abbrev fields_bytes : {class id : ℕ} {slots : List ℕ} → MethodParts class id slots → List ℕ
-fields_bytes {slots = slots} parts = canonical_of (slots_bytes parts.shapes) (judge_slots parts.shapes slots)
-
--- both ids and then the fields have room at a place
-pub record MethodFits (class id : ℕ) (slots old : List ℕ) (at : ℕ) : Type 0 where
-  pub parts : MethodParts class id slots
-  pub class_first : Fits old at (number_bytes bytes2 class) (number_bytes bytes2 id ++ fields_bytes parts)
-  pub id_next : (mid : List ℕ) (place : ℕ) → Puts old mid at (number_bytes bytes2 class) place → Fits mid place (number_bytes bytes2 id) (fields_bytes parts)
-
-pub method_fits : (class id : ℕ) (slots old : List ℕ) (at : ℕ) → class < 2 ^ 16 → id < 2 ^ 16 → IsRead (judge_payload (method_payload class id slots))
-    → at + length (canonical_of payload_bytes (judge_payload (method_payload class id slots))) ≤ length old → MethodFits class id slots old at
-method_fits class id slots old at class_fits id_fits read room =
-    let h = method_parts class id slots class_fits id_fits read in
-    let first = fits_both old (canonical_of payload_bytes (judge_payload (method_payload class id slots))) (number_bytes bytes2 class) (number_bytes bytes2 id ++ fields_bytes h) at h.bytes_are room in
-    record { parts = h; class_first = first; id_next = λ mid place put. fits_both mid (number_bytes bytes2 id ++ fields_bytes h) (number_bytes bytes2 id) (fields_bytes h) place refl (first.second_fits mid place put) }
-
 -- ---- content headers
 
 slot_then : (slot : Slot) (slots : List Slot) (bytes : List ℕ) (xs ys : List Item) (k m : ℕ) → judge_slot slot bytes ≡ took xs k → judge_slots slots (drop k bytes) ≡ took ys m → judge_slots (slot ∷ slots) bytes ≡ took (xs ++ ys) (k + m)
@@ -132,27 +114,6 @@ header_parts class size rest class_fits size_fits read =
     let h = header_put (header_payload class size rest) read in
     let front : canonical_of (slots_bytes header_slots) (judge_slots header_slots (header_payload class size rest)) ≡ number_bytes bytes2 class ++ (0 ∷ 0 ∷ number_bytes bytes8 size) = ap (λ j. canonical_of (slots_bytes header_slots) j) (front_of class size rest class_fits size_fits) ∙ front_bytes class size in
     record { read = h.after; bytes_are = h.bytes_are ∙ ap (λ bs. bs ++ canonical_of properties_bytes (judge_properties rest)) front }
-
-abbrev after_weight : ℕ → List ℕ → List ℕ
-after_weight size rest = number_bytes bytes8 size ++ canonical_of properties_bytes (judge_properties rest)
-
--- the class id, the weight, the body size and then the properties have room at a place
-pub record HeaderFits (class size : ℕ) (rest old : List ℕ) (at : ℕ) : Type 0 where
-  pub parts : HeaderParts class size rest
-  pub class_first : Fits old at (number_bytes bytes2 class) (0 ∷ 0 ∷ after_weight size rest)
-  pub weight_next : (mid : List ℕ) (place : ℕ) → Puts old mid at (number_bytes bytes2 class) place → Fits mid place (0 ∷ 0 ∷ []) (after_weight size rest)
-
-pub header_fits : (class size : ℕ) (rest old : List ℕ) (at : ℕ) → class < 2 ^ 16 → size < 2 ^ 64 → IsRead (judge_content_header (header_payload class size rest))
-    → at + length (canonical_of content_header_bytes (judge_content_header (header_payload class size rest))) ≤ length old → HeaderFits class size rest old at
-header_fits class size rest old at class_fits size_fits read room =
-    let h = header_parts class size rest class_fits size_fits read in
-    let first = fits_both old (canonical_of content_header_bytes (judge_content_header (header_payload class size rest))) (number_bytes bytes2 class) (0 ∷ 0 ∷ after_weight size rest) at h.bytes_are room in
-    record { parts = h; class_first = first; weight_next = λ mid place put. fits_both mid (0 ∷ 0 ∷ after_weight size rest) (0 ∷ 0 ∷ []) (after_weight size rest) place refl (first.second_fits mid place put) }
-
--- after the weight, the body size and then the properties have room
-pub size_fits : {mid new : List ℕ} {place size_place size : ℕ} {rest : List ℕ} → Fits mid place (0 ∷ 0 ∷ []) (after_weight size rest) → Puts mid new place (0 ∷ 0 ∷ []) size_place
-    → Fits new size_place (number_bytes bytes8 size) (canonical_of properties_bytes (judge_properties rest))
-size_fits {new = new} {size_place = size_place} {size = size} {rest = rest} fits put = fits_both new (after_weight size rest) (number_bytes bytes8 size) (canonical_of properties_bytes (judge_properties rest)) size_place refl (fits.second_fits new size_place put)
 
 -- ---- the parts of a payload
 
