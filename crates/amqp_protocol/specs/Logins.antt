@@ -9,7 +9,7 @@ pub record Login : Type 0 where
   pub username : List ℕ
   pub password : List ℕ
 
--- an entry of a table: a key, and behind it the tag of a long string and the string
+-- an entry of a table: a key, and after it the tag of a long string and the string
 abbrev pub login_entry : List ℕ → List ℕ → List ℕ
 login_entry key content = short_string_bytes key ++ (codes "S" ++ with_length content)
 
@@ -21,6 +21,6 @@ login_bytes mechanism.External login = []
 login_bytes mechanism.Plain login = 0 ∷ (login.username ++ (0 ∷ login.password))
 login_bytes mechanism.RabbitCrDemo login = login.username
 
--- what the mechanism RabbitCrDemo answers with
+-- the response of the mechanism RabbitCrDemo
 abbrev pub demo_answer : Login → List ℕ
 demo_answer login = codes "My password is " ++ login.password

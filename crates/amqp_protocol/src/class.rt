@@ -74,7 +74,7 @@ impl AMQPClass {
         }
     }
 
-    /// An equal method of its own.
+    /// A deep copy.
     pub fn copy(&self, alloc: Global) -> Result<AMQPClass, NoMemory>
         ensures { IfOk result (λ copied. copied ≡ self.now) }
     {
@@ -91,7 +91,7 @@ impl AMQPClass {
     }
 }
 
-/// Reads a method id, and the slots of that method of the class.
+/// Decodes a method id, and the fields of that method of the class.
 #[tactic(auto, using(amqp_types::proofs::Judged::refuses_next), unfolding(amqp_types::specs::Methods::judge_in_class, amqp_types::specs::Rows::rows_of))]
 fn parse_in_class(
     alloc: Global,
@@ -137,7 +137,7 @@ fn parse_in_class(
     }
 }
 
-/// Reads a class id, a method id, and the slots of that method. Later bytes stay unread.
+/// Decodes a class id, a method id, and the fields of that method. Later bytes stay unread.
 #[tactic(auto, using(amqp_types::proofs::Judged::refuses_next), unfolding(amqp_types::specs::Methods::judge_payload))]
 pub fn parse_class(alloc: Global, i: &[u8]) -> Result<(usize, AMQPClass), ParserError>
     ensures { Parses method_of result i.now judge_payload }
@@ -147,7 +147,7 @@ pub fn parse_class(alloc: Global, i: &[u8]) -> Result<(usize, AMQPClass), Parser
     Ok((n + used, method))
 }
 
-/// The number of bytes that the class id, the method id and the slots are written in.
+/// The number of bytes that the class id, the method id and the fields are written in.
 pub fn size_class(class: &AMQPClass) -> Result<u64, GenError>
     ensures { Measures result (payload_size (method_of class.now)) }
 {
@@ -163,7 +163,7 @@ pub fn size_class(class: &AMQPClass) -> Result<u64, GenError>
     }
 }
 
-/// Puts the class id, the method id and the slots at a place of a slice, and answers the place behind
+/// Puts the class id, the method id and the fields at a place of a slice, and returns the place after
 /// them.
 pub fn put_class(buf: &mut [u8], at: usize, class: &AMQPClass) -> usize
     requires { HasRoom buf.old at (payload_size (method_of class.now)) (payload_bytes (method_of class.now)) }
@@ -181,7 +181,7 @@ pub fn put_class(buf: &mut [u8], at: usize, class: &AMQPClass) -> usize
     }
 }
 
-/// Appends the class id, the method id and the slots to a vector.
+/// Appends the class id, the method id and the fields to a vector.
 pub fn gen_class(alloc: Global, out: &mut Vec<u8>, class: &AMQPClass) -> Result<(), GenError>
     ensures { Appends out.old.items out.new.items (payload_size (method_of class.now)) (payload_bytes (method_of class.now)) result }
 {

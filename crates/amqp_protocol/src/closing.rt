@@ -1,4 +1,4 @@
-//! Errors as the methods that close channels and connections tell them.
+//! Errors as the methods that close channels and connections report them.
 
 ghost use Rattle.std.specs.Prelude.{◌≡◌, Some, None, IfOk, IfErr};
 ghost use Rattle.amqp_protocol.specs.ErrorCodes.{kind_at, error_of};

@@ -19,10 +19,10 @@ pub enum SASLMechanism {
     /// By what the transport knows of the client.
     External,
 
-    /// User name and password, each behind a zero byte.
+    /// User name and password, each after a zero byte.
     Plain,
 
-    /// A challenge and its answer, for the demonstration of such mechanisms.
+    /// A challenge and its response, for the demonstration of such mechanisms.
     RabbitCrDemo,
 }
 
@@ -37,7 +37,7 @@ pub struct AMQPUserInfo {
 }
 
 impl AMQPUserInfo {
-    /// An equal value of its own.
+    /// A deep copy.
     pub fn copy(&self, alloc: Global) -> Result<AMQPUserInfo, NoMemory>
         ensures { IfOk result (λ copied. copied ≡ self.now) }
     {
@@ -112,7 +112,7 @@ fn amqplain(alloc: Global, username: &[u8], password: &[u8]) -> Result<LongStrin
     long_string(alloc, &out)
 }
 
-/// User name and password, each behind a zero byte.
+/// User name and password, each after a zero byte.
 fn plain(alloc: Global, username: &[u8], password: &[u8]) -> Result<LongString, MakeError>
     ensures ok { IfOk result (λ string. string ≡ 0 ∷ (username.now ++ (0 ∷ password.now))) }
     ensures fits { OnOk result (length (0 ∷ (username.now ++ (0 ∷ password.now))) < 2 ^ 32) }
@@ -164,7 +164,7 @@ impl Credentials {
         &self.password
     }
 
-    /// Equal credentials of their own.
+    /// A deep copy.
     pub fn copy(&self, alloc: Global) -> Result<Credentials, NoMemory>
         ensures { IfOk result (λ copied. copied ≡ self.now) }
     {
@@ -201,7 +201,7 @@ impl Credentials {
         "Please tell me your password"
     }
 
-    /// What the client answers to that.
+    /// The response of the client to that.
     pub fn rabbit_cr_demo_answer(&self, alloc: Global) -> Result<LongString, MakeError>
         ensures ok { IfOk result (λ string. string ≡ demo_answer self.now) }
         ensures fits { OnOk result (length (demo_answer self.now) < 2 ^ 32) }

@@ -18,7 +18,7 @@ pub enum AMQPSoftError {
     /// An immediate message reaches no consumer.
     NOCONSUMERS,
 
-    /// The client has no leave to use this.
+    /// The client may not use this.
     ACCESSREFUSED,
 
     /// There is nothing of this name.
@@ -337,7 +337,7 @@ impl AMQPError {
         &self.message
     }
 
-    /// An equal error of its own.
+    /// A deep copy.
     pub fn copy(&self, alloc: Global) -> Result<AMQPError, NoMemory>
         ensures { IfOk result (λ copied. copied ≡ self.now) }
     {

@@ -1,6 +1,21 @@
-//! Laws of error codes, login strings and methods, each the contract of a function that does nothing.
+//! Laws of error codes, login strings, methods and constants, each the contract of a function that does next to nothing.
 
+ghost use Rattle.std.specs.Prelude.{◌≡◌, ◌∷◌, [], codes};
+ghost use Rattle.amqp_values.specs.HeldMethods.{IsHeldMethod};
+ghost use Rattle.amqp_protocol.specs.Classes.{method_of};
 ghost use Rattle.amqp_protocol.specs.ProtocolLaws.{CodesNameErrors, PlainLoginsNameCredentials, PayloadsBeginWithIds};
+
+use crate::class::AMQPClass;
+use crate::constants::{
+    FRAME_BODY, FRAME_END, FRAME_HEADER, FRAME_HEARTBEAT, FRAME_METHOD, FRAME_MIN_SIZE,
+    REPLY_SUCCESS,
+};
+use crate::metadata::{MAJOR_VERSION, MINOR_VERSION, NAME, PORT, REVISION};
+use amqp_basic::basic_method_held;
+use amqp_channel::{channel_method_held, confirm_method_held, tx_method_held};
+use amqp_connection::{access_method_held, connection_method_held};
+use amqp_topology::{exchange_method_held, queue_method_held};
+use amqp_types::{LongUInt, ShortShortUInt};
 
 /// Codes and errors name each other.
 pub fn codes_name_errors()
@@ -13,7 +28,62 @@ pub fn plain_logins_name_credentials()
     ensures { PlainLoginsNameCredentials }
 {}
 
-/// The payload of a method begins with the ids that the method tells.
+/// The payload of a method begins with the ids that the method reports.
 pub fn payloads_begin_with_ids()
     ensures { PayloadsBeginWithIds }
 {}
+
+/// A method of any class is held, whatever a program does: the premise of the laws that read canonical bytes back.
+pub fn class_held(class: &AMQPClass)
+    ensures { IsHeldMethod (method_of class.now) }
+{
+    match class {
+        AMQPClass::Basic(method) => basic_method_held(method),
+        AMQPClass::Connection(method) => connection_method_held(method),
+        AMQPClass::Channel(method) => channel_method_held(method),
+        AMQPClass::Access(method) => access_method_held(method),
+        AMQPClass::Exchange(method) => exchange_method_held(method),
+        AMQPClass::Queue(method) => queue_method_held(method),
+        AMQPClass::Tx(method) => tx_method_held(method),
+        AMQPClass::Confirm(method) => confirm_method_held(method),
+    }
+}
+
+/// The first bytes of method, content header, body and heartbeat frames, and the last byte of each frame.
+pub fn frame_numbers() -> [ShortShortUInt; 5]
+    ensures { result ≡ 1 ∷ 2 ∷ 3 ∷ 8 ∷ 206 ∷ [] }
+{
+    [
+        FRAME_METHOD,
+        FRAME_HEADER,
+        FRAME_BODY,
+        FRAME_HEARTBEAT,
+        FRAME_END,
+    ]
+}
+
+/// The frame size that each peer takes, and the reply code of success.
+pub fn reply_numbers() -> [LongUInt; 2]
+    ensures { result ≡ 8192 ∷ 200 ∷ [] }
+{
+    [FRAME_MIN_SIZE, LongUInt::from(REPLY_SUCCESS)]
+}
+
+/// The protocol's version in its three parts, and its port.
+pub fn protocol_numbers() -> [LongUInt; 4]
+    ensures { result ≡ 0 ∷ 9 ∷ 1 ∷ 5672 ∷ [] }
+{
+    [
+        LongUInt::from(MAJOR_VERSION),
+        LongUInt::from(MINOR_VERSION),
+        LongUInt::from(REVISION),
+        PORT,
+    ]
+}
+
+/// The protocol's name.
+pub fn protocol_name() -> &'static str
+    ensures { result.now ≡ codes "AMQP" }
+{
+    NAME
+}

@@ -6,6 +6,7 @@ mod class;
 mod closing;
 pub mod constants;
 mod credentials;
+mod equality_laws;
 mod errors;
 mod laws;
 pub mod metadata;
@@ -15,8 +16,15 @@ pub use amqp_connection::{access, connection};
 pub use amqp_topology::{exchange, queue};
 pub use class::{AMQPClass, gen_class, parse_class, put_class, size_class};
 pub use credentials::{AMQPUserInfo, Credentials, SASLMechanism};
+pub use equality_laws::{
+    equal_classes, equal_credentials, equal_error_kinds, equal_errors, equal_hard_errors,
+    equal_mechanisms, equal_soft_errors, equal_user_infos,
+};
 pub use errors::{AMQPError, AMQPErrorKind, AMQPHardError, AMQPSoftError};
-pub use laws::{codes_name_errors, payloads_begin_with_ids, plain_logins_name_credentials};
+pub use laws::{
+    class_held, codes_name_errors, frame_numbers, payloads_begin_with_ids,
+    plain_logins_name_credentials, protocol_name, protocol_numbers, reply_numbers,
+};
 
 /// What a message says of itself.
 pub type BasicProperties = basic::AMQPProperties;

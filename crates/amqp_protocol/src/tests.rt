@@ -1,3 +1,5 @@
+//! Tests of the name, error codes and their texts, and login strings.
+
 use super::*;
 use crate::metadata::{MAJOR_VERSION, MINOR_VERSION, NAME, REVISION};
 use amqp_types::{LongString, ShortString};
