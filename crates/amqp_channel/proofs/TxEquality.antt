@@ -1,5 +1,5 @@
 -- Two methods of the class tx are equal exactly where contracts see the same.
-use Rattle.std.proofs.Common.{◌≡◌, true, true≢false, refl, sym, ap, subst, rules}
+use Rattle.std.proofs.Common.{◌≡◌, true, true≢false, refl, sym, subst}
 use Rattle.std.specs.Bool.{Decides}
 use Rattle.amqp_channel.specs.declared.tx.AMQPMethod.{AMQPMethod}
 use Rattle.amqp_channel.specs.declared.tx.AMQPMethod.TheVariants as variant

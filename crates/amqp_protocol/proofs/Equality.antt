@@ -13,16 +13,13 @@ use Rattle.amqp_protocol.specs.declared.class.AMQPClass.{AMQPClass}
 use Rattle.amqp_protocol.specs.declared.class.AMQPClass.TheVariants as classes
 use Rattle.amqp_protocol.specs.contracts.class.AMQPClassPartialEq.TheImpl as class
 use Rattle.amqp_protocol.specs.declared.errors.AMQPSoftError.{AMQPSoftError}
-use Rattle.amqp_protocol.specs.declared.errors.AMQPSoftError.TheVariants as soft
 use Rattle.amqp_protocol.specs.contracts.errors.AMQPSoftErrorPartialEq.TheImpl as soft_error
 use Rattle.amqp_protocol.specs.declared.errors.AMQPHardError.{AMQPHardError}
-use Rattle.amqp_protocol.specs.declared.errors.AMQPHardError.TheVariants as hard
 use Rattle.amqp_protocol.specs.contracts.errors.AMQPHardErrorPartialEq.TheImpl as hard_error
 use Rattle.amqp_protocol.specs.declared.errors.AMQPErrorKind.{AMQPErrorKind}
 use Rattle.amqp_protocol.specs.declared.errors.AMQPErrorKind.TheVariants as kinds
 use Rattle.amqp_protocol.specs.contracts.errors.AMQPErrorKindPartialEq.TheImpl as error_kind
 use Rattle.amqp_protocol.specs.declared.credentials.SASLMechanism.{SASLMechanism}
-use Rattle.amqp_protocol.specs.declared.credentials.SASLMechanism.TheVariants as mechanisms
 use Rattle.amqp_protocol.specs.contracts.credentials.SASLMechanismPartialEq.TheImpl as mechanism
 
 -- ---- methods

@@ -1,6 +1,6 @@
 -- A text without zero bytes ends where the first zero byte stands.
-use Rattle.std.proofs.Common.{◌≡◌, ℕ, List, [], ◌∷◌, ◌++◌, refl, sym, ap, ap₂}
-use Rattle.std.specs.Prelude.{◌≢◌, ◌↔◌, All}
+use Rattle.std.proofs.Common.{◌≡◌, ℕ, List, [], ◌∷◌, ◌++◌, refl, ap, ap₂}
+use Rattle.std.specs.Prelude.{◌≢◌, All}
 use Rattle.std.proofs.lemmas.List.Elements.{All-head, All-tail}
 use Rattle.amqp_protocol.specs.declared.credentials.SASLMechanism.TheVariants as mechanism
 use Rattle.amqp_protocol.specs.Logins.{Login, login_bytes}
