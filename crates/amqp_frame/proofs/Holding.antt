@@ -1,65 +1,11 @@
--- What typed structs hold: of the values left in an array or a table it is held of all, and of each field of the whole.
-use Rattle.std.proofs.Common.{◌≡◌, ℕ, suc, ◌+◌, ◌<◌, ◌≤◌, List, [], ◌∷◌, length, get_or, drop, drop-cons, add-one, map, sym, ap, subst, ◌∙◌, refl, arith}
-use Rattle.std.specs.Prelude.{Option, Some, None, option_map}
-use Rattle.std.specs.Str.{IsUtf8}
-use Rattle.amqp_types.specs.Numbers.{bytes1, bytes8}
-use Rattle.amqp_types.specs.Slots.{Item, number_item, text_item, entries_item, Slot, number_form, short_string_form, table_form}
+-- A method that is held has slots in the table, and its items are held in them.
+use Rattle.std.proofs.Common.{◌≡◌, List, refl}
+use Rattle.std.specs.Prelude.{Option, Some, None}
+use Rattle.amqp_types.specs.Slots.{Slot}
 use Rattle.amqp_types.specs.Rows.{slots_at}
 use Rattle.amqp_types.specs.Methods.{Method}
-use Rattle.amqp_types.specs.Properties.{Property, properties, later_properties}
-use Rattle.amqp_types.specs.PropertyLaws.{AreOptionsHeld}
-use Rattle.amqp_types.specs.Values.{FieldValue, Entry, table_value, values_of, entries_of, weight, entries_weight}
-use Rattle.amqp_types.specs.Settling.{IsRising}
-use Rattle.amqp_types.specs.ValueLaws.{IsHeld, AllHeld, AllEntriesHeld}
-use Rattle.amqp_values.specs.Views.{value_of}
-use Rattle.amqp_values.specs.declared.value.AMQPValue.{AMQPValue}
-use Rattle.amqp_values.proofs.Conversions.{pairs-entries_of}
-use Rattle.amqp_properties.specs.Options.{options}
-use Rattle.amqp_properties.specs.declared.properties.AMQPProperties.{AMQPProperties}
+use Rattle.amqp_values.specs.HeldMethods.{AreHeldIn, IsHeldMethod}
 use Rattle.amqp_frame.specs.Laws.{IsMethodHeld}
-use Rattle.amqp_frame.specs.Held.{AreHeldIn, IsHeldMethod, IsHeldOption}
-
--- an array's values from a place on
-pub record LeftValues (items : List AMQPValue) (array : List FieldValue) (place : ℕ) : Type 0 where
-  pub all : map value_of items ≡ array
-  pub left : AllHeld (values_of (map value_of (drop place items))) → AllHeld (values_of array)
-
-pub no_value : (items : List AMQPValue) (array : List FieldValue) → map value_of items ≡ array → LeftValues items array 0
-no_value items array all = record { all = all; left = λ h. subst (λ vs. AllHeld (values_of vs)) all h }
-
-pub one_value : {items : List AMQPValue} {array : List FieldValue} {place : ℕ} (value : AMQPValue) → LeftValues items array place → place < length items → value ≡ get_or items place value → IsHeld (value_of value) → LeftValues items array (place + 1)
-one_value {items = items} {place = place} value h some is held =
-    let here : drop place items ≡ value ∷ drop (place + 1) items = rw add-one (drop-cons items place value some ∙ ap (λ v. v ∷ drop (suc place) items) (sym is)) in
-    record {
-      all = h.all;
-      left = λ rest. h.left (subst (λ vs. AllHeld (values_of (map value_of vs))) (sym here) (held, rest));
-    }
-
--- a table's entries that are still to come
-pub record LeftEntries (iter table : List Entry) : Type 0 where
-  pub left : AllEntriesHeld (entries_of iter) → AllEntriesHeld (entries_of table)
-  pub smaller : entries_weight (entries_of iter) ≤ entries_weight (entries_of table)
-
-pub no_entry : (iter table : List Entry) → iter ≡ table → LeftEntries iter table
-no_entry iter table is = record { left = λ h. subst (λ es. AllEntriesHeld (entries_of es)) is h; smaller = omega (arith, ap (λ es. entries_weight (entries_of es)) is) }
-
-pub one_entry : {iter table : List Entry} (entry : Entry) (next : List Entry) → LeftEntries iter table → iter ≡ entry ∷ next → length entry.0 < 256 → IsUtf8 entry.0 → IsHeld entry.1 → LeftEntries next table
-one_entry {iter = iter} entry next h is short utf8 held = record {
-  left = λ rest. h.left (subst (λ es. AllEntriesHeld (entries_of es)) (sym is) (short, utf8, held, rest));
-  smaller = omega (arith, h.smaller, ap (λ es. entries_weight (entries_of es)) is);
-}
-
--- entries weigh more than the value of the first
-pub first_lighter : (iter : List Entry) (entry : Entry) (next : List Entry) → iter ≡ entry ∷ next → weight entry.1 < entries_weight (entries_of iter)
-first_lighter iter entry next is = omega (arith, ap (λ es. entries_weight (entries_of es)) is)
-
-pub all_entries : {iter table : List Entry} → LeftEntries iter table → iter ≡ [] → AllEntriesHeld (entries_of table)
-all_entries h none = h.left (subst (λ es. AllEntriesHeld (entries_of es)) (sym none) tt)
-
-pub whole_table : (table : List Entry) → IsRising table → AllEntriesHeld (entries_of table) → IsHeld (table_value (entries_of table))
-whole_table table rising held = (subst (λ es. IsRising es) (sym (pairs-entries_of table)) rising, held)
-
--- ---- methods and properties
 
 pub method_is_held : (m : Method) → IsHeldMethod m → IsMethodHeld m
 method_is_held m h = by_slots (slots_at m.class m.id) refl h
@@ -67,25 +13,3 @@ method_is_held m h = by_slots (slots_at m.class m.id) refl h
     by_slots : (found : Option (List Slot)) → slots_at m.class m.id ≡ found → AreHeldIn found m.items → IsMethodHeld m
     by_slots None is h = absurd h
     by_slots (Some slots) is h = record { slots = slots; known = is; held = h }
-
--- each is held by itself
-abbrev AreHeldOptions : List Property → List (Option Item) → Type 0
-AreHeldOptions [] [] = Unit {0}
-AreHeldOptions [] (option ∷ options) = ⊥
-AreHeldOptions (p ∷ ps) [] = ⊥
-AreHeldOptions (p ∷ ps) (option ∷ options) = IsHeldOption p.form option × AreHeldOptions ps options
-
-each_held : (ps : List Property) (options : List (Option Item)) → AreHeldOptions ps options → AreOptionsHeld ps options
-each_held [] [] h = tt
-each_held [] (option ∷ options) h = absurd h
-each_held (p ∷ ps) [] h = absurd h
-each_held (p ∷ ps) (None ∷ options) h = each_held ps options h.1
-each_held (p ∷ ps) (Some item ∷ options) h = (h.0, each_held ps options h.1)
-
-pub options_held : (p : AMQPProperties) → IsHeldOption short_string_form (option_map text_item p.content_type) → IsHeldOption short_string_form (option_map text_item p.content_encoding) → IsHeldOption table_form (option_map entries_item p.headers)
-    → IsHeldOption (number_form bytes1) (option_map number_item p.delivery_mode) → IsHeldOption (number_form bytes1) (option_map number_item p.priority) → IsHeldOption short_string_form (option_map text_item p.correlation_id)
-    → IsHeldOption short_string_form (option_map text_item p.reply_to) → IsHeldOption short_string_form (option_map text_item p.expiration) → IsHeldOption short_string_form (option_map text_item p.message_id)
-    → IsHeldOption (number_form bytes8) (option_map number_item p.timestamp) → IsHeldOption short_string_form (option_map text_item p.kind) → IsHeldOption short_string_form (option_map text_item p.user_id)
-    → IsHeldOption short_string_form (option_map text_item p.app_id) → IsHeldOption short_string_form (option_map text_item p.cluster_id) → AreOptionsHeld properties (options p)
-unfolding properties later_properties
-options_held p a b c d e f g h i j k l m n = each_held properties (options p) (a, (b, (c, (d, (e, (f, (g, (h, (i, (j, (k, (l, (m, (n, tt))))))))))))))

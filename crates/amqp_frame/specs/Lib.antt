@@ -9,6 +9,5 @@ pub mod Canonical
 pub mod Outlines
 pub mod Fronts
 pub mod Laws
-pub mod Held
 pub mod Rewrites
 pub mod Judgements

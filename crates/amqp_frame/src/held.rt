@@ -1,107 +1,15 @@
-//! What frames of any value hold: numbers within their ranges, texts that are UTF-8, keys in ascending order. Calls that
-//! write and decode speak of such frames, so a caller has this of each frame by a call of `frame_held`.
+//! What frames hold, whatever a program does: the premise of the law that reads their canonical bytes back.
 
-mod methods;
-mod properties;
-
-ghost use Rattle.std.specs.Prelude.{◌<◌, ◌^◌, length};
-ghost use Rattle.std.specs.Str.{IsUtf8};
-ghost use Rattle.amqp_types.specs.Values.{entries_of, values_of};
-ghost use Rattle.amqp_types.specs.Settling.{IsRising};
-ghost use Rattle.amqp_types.specs.ValueLaws.{AllEntriesHeld, AllHeld, IsHeld};
+ghost use Rattle.std.specs.Prelude.{◌<◌, ◌^◌};
 ghost use Rattle.amqp_types.specs.ContentHeaders.{IsHeaderHeld};
-ghost use Rattle.amqp_values.specs.Views.{value_of};
 ghost use Rattle.amqp_frame.specs.Frames.{frame_of, header_of};
 ghost use Rattle.amqp_frame.specs.Laws.{IsFrameHeld};
 
 use crate::content_header::AMQPContentHeader;
 use crate::frame::AMQPFrame;
-use amqp_types::{ChannelId, Identifier, LongUInt, PayloadSize, ShortShortUInt, ShortString};
-use amqp_values::{AMQPValue, FieldArray, FieldTable};
-use methods::class_held;
-use properties::properties_held;
-
-/// A short string.
-pub(crate) fn text_held(text: &ShortString)
-    ensures short { length text.now < 256 }
-    ensures utf8 { IsUtf8 text.now }
-{
-    let _text = text.as_str();
-}
-
-/// A scale and a number.
-fn decimal_held(scale: ShortShortUInt, value: LongUInt)
-    ensures scale { scale < 2 ^ 8 }
-    ensures value { value < 2 ^ 32 }
-{}
-
-/// A value.
-#[cycle(held)]
-pub(crate) fn value_held(value: &AMQPValue)
-    ensures { IsHeld (value_of value.now) }
-{
-    match value {
-        AMQPValue::Boolean(_) => {}
-        AMQPValue::ShortShortInt(n) => {
-            let _n = *n;
-        }
-        AMQPValue::ShortShortUInt(n) => {
-            let _n = *n;
-        }
-        AMQPValue::ShortInt(n) => {
-            let _n = *n;
-        }
-        AMQPValue::ShortUInt(n) => {
-            let _n = *n;
-        }
-        AMQPValue::LongInt(n) => {
-            let _n = *n;
-        }
-        AMQPValue::LongUInt(n) => {
-            let _n = *n;
-        }
-        AMQPValue::LongLongInt(n) => {
-            let _n = *n;
-        }
-        AMQPValue::Float(n) => {
-            let _n = *n;
-        }
-        AMQPValue::Double(n) => {
-            let _n = *n;
-        }
-        AMQPValue::DecimalValue(decimal) => decimal_held(decimal.scale, decimal.value),
-        AMQPValue::LongString(_) => {}
-        AMQPValue::FieldArray(array) => array_held(array),
-        AMQPValue::Timestamp(n) => {
-            let _n = *n;
-        }
-        AMQPValue::FieldTable(table) => table_held(table),
-        AMQPValue::ByteArray(_) => {}
-        AMQPValue::Void => {}
-    }
-}
-
-/// The values of an array.
-#[cycle(held)]
-fn array_held(array: &FieldArray)
-    ensures { AllHeld (values_of array.now) }
-{
-    for value in array.as_slice() {
-        value_held(value);
-    }
-}
-
-/// The entries of a table.
-#[cycle(held)]
-pub(crate) fn table_held(table: &FieldTable)
-    ensures rising { IsRising table.now }
-    ensures held { AllEntriesHeld (entries_of table.now) }
-{
-    for (key, value) in table.iter() {
-        text_held(key);
-        value_held(value);
-    }
-}
+use amqp_properties::properties_held;
+use amqp_protocol::class_held;
+use amqp_types::{ChannelId, Identifier, PayloadSize, ShortShortUInt};
 
 /// Three numbers of 1 byte.
 fn octets_held(a: ShortShortUInt, b: ShortShortUInt, c: ShortShortUInt)
