@@ -12,6 +12,7 @@ pub mod Strictness
 pub mod ReadingBack
 pub mod Sizes
 pub mod Holding
+pub mod EqualFrames
 pub mod Parts
 pub mod Within
 pub mod Judged

@@ -23,8 +23,8 @@ pub use amqp_types::{GenError, ParserError};
 pub use channel::AMQPChannel;
 pub use content_header::{AMQPContentHeader, parse_content_header};
 pub use equality::{
-    channels_are_equal, frame_types_are_equal, judgements_are_equal, layouts_are_equal,
-    looks_are_equal, outlines_are_equal, raw_frames_are_equal, versions_are_equal,
+    equal_channels, equal_content_headers, equal_frame_types, equal_frames, equal_judgements,
+    equal_layouts, equal_looks, equal_outlines, equal_raw_frames, equal_versions,
 };
 pub use frame::{AMQPFrame, release};
 pub use frame_type::AMQPFrameType;
