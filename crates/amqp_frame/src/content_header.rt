@@ -63,7 +63,7 @@ pub fn parse_content_header(
 {
     let mut slots = SlotReader::new(i);
     let (class_id, body_size) = read_start(&mut slots)?;
-    let used = i.len() - slots.rest.len();
+    let used = slots.used(i);
     let (n, properties) = parse_properties(alloc, slots.rest)?;
     let header = AMQPContentHeader {
         class_id,

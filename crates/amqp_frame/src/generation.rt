@@ -13,7 +13,10 @@ use crate::content_header::{AMQPContentHeader, put_content_header, size_content_
 use crate::frame::AMQPFrame;
 use crate::version::ProtocolVersion;
 use amqp_protocol::{AMQPClass, put_class, size_class};
-use amqp_types::{ChannelId, ChunkSize, GenError, grow, put_bytes, put_long_uint, put_short_uint};
+use amqp_types::{
+    ChannelId, ChunkSize, FRAME_BODY, FRAME_END, FRAME_HEADER, FRAME_HEARTBEAT, FRAME_METHOD,
+    GenError, grow, put_bytes, put_long_uint, put_short_uint,
+};
 use std::alloc::Global;
 
 /// Type, channel and length, which come before a payload of this length.
@@ -48,7 +51,16 @@ pub fn heartbeat_bytes(channel_id: ChannelId) -> [u8; 8]
     ensures { result ≡ framed 8 channel_id [] }
 {
     let channel = channel_id.to_be_bytes();
-    [8, channel[0], channel[1], 0, 0, 0, 0, 206]
+    [
+        FRAME_HEARTBEAT,
+        channel[0],
+        channel[1],
+        0,
+        0,
+        0,
+        0,
+        FRAME_END,
+    ]
 }
 
 /// The number of bytes of a frame, by that of its payload.
@@ -125,7 +137,7 @@ pub fn put_around(
         → Puts before buf.new at (framed frame_type channel_id payload) result }
 {
     put_head(buf, at, frame_type, channel_id, (end - at - 7) as u32);
-    put_array(buf, end, [206])
+    put_array(buf, end, [FRAME_END])
 }
 
 /// Puts a frame of this type with a payload, and returns the place after it.
@@ -153,7 +165,7 @@ fn put_method(buf: &mut [u8], at: usize, channel_id: ChannelId, class: &AMQPClas
     ensures { Puts buf.old buf.new at (framed 1 channel_id (payload_bytes (method_of class.now))) result }
 {
     let end = put_class(buf, at + 7, class);
-    put_around(buf, at, end, 1, channel_id)
+    put_around(buf, at, end, FRAME_METHOD, channel_id)
 }
 
 /// Puts the frame of a content header.
@@ -164,7 +176,7 @@ fn put_header(buf: &mut [u8], at: usize, channel_id: ChannelId, header: &AMQPCon
     ensures { Puts buf.old buf.new at (framed 2 channel_id (content_header_bytes (header_of header.now))) result }
 {
     let end = put_content_header(buf, at + 7, header);
-    put_around(buf, at, end, 2, channel_id)
+    put_around(buf, at, end, FRAME_HEADER, channel_id)
 }
 
 /// Puts the canonical bytes at a place of a slice, and returns the place after them.
@@ -179,7 +191,7 @@ pub fn put_frame(buf: &mut [u8], at: usize, frame: &AMQPFrame) -> usize
         AMQPFrame::Method(channel_id, class) => put_method(buf, at, *channel_id, class),
         AMQPFrame::Header(channel_id, header) => put_header(buf, at, *channel_id, header),
         AMQPFrame::Body(channel_id, content) => {
-            put_framed(buf, at, 3, *channel_id, content.as_slice())
+            put_framed(buf, at, FRAME_BODY, *channel_id, content.as_slice())
         }
         AMQPFrame::Heartbeat => put_bytes(buf, at, &heartbeat_bytes(0)),
         AMQPFrame::InvalidHeartbeat(channel_id) => {

@@ -5,7 +5,7 @@ ghost use Rattle.amqp_frame.specs.Looks.{looked, looked_behind, IsInside, IsBehi
 ghost use Rattle.amqp_frame.specs.Outer.{outer, judge_raw, version_at, begins_as};
 
 use crate::frame_type::AMQPFrameType;
-use amqp_types::ChannelId;
+use amqp_types::{ChannelId, FRAME_BODY, FRAME_END, FRAME_HEADER, FRAME_HEARTBEAT, FRAME_METHOD};
 
 /// Where the parts of a frame lie, counted from its first byte.
 #[derive(Clone, Copy, Debug, PartialEq, Eq)]
@@ -49,10 +49,10 @@ pub fn look_at(max_payload: Option<u32>, bytes: &[u8]) -> Look
     match bytes {
         [] => Look::Incomplete,
         [65, rest @ ..] => look_version(rest),
-        [1, rest @ ..] => look_raw(max_payload, AMQPFrameType::Method, rest),
-        [2, rest @ ..] => look_raw(max_payload, AMQPFrameType::Header, rest),
-        [3, rest @ ..] => look_raw(max_payload, AMQPFrameType::Body, rest),
-        [8, rest @ ..] => look_raw(max_payload, AMQPFrameType::Heartbeat, rest),
+        [FRAME_METHOD, rest @ ..] => look_raw(max_payload, AMQPFrameType::Method, rest),
+        [FRAME_HEADER, rest @ ..] => look_raw(max_payload, AMQPFrameType::Header, rest),
+        [FRAME_BODY, rest @ ..] => look_raw(max_payload, AMQPFrameType::Body, rest),
+        [FRAME_HEARTBEAT, rest @ ..] => look_raw(max_payload, AMQPFrameType::Heartbeat, rest),
         [_, ..] => Look::UnknownFrameType,
     }
 }
@@ -111,7 +111,7 @@ pub(crate) fn look_raw(max_payload: Option<u32>, frame_type: AMQPFrameType, rest
     if rest.len() - 6 <= payload_len {
         return Look::Incomplete;
     }
-    if rest[6 + payload_len] != 206 {
+    if rest[6 + payload_len] != FRAME_END {
         return Look::BadFrameEnd;
     }
     Look::Whole(FrameLayout {

@@ -23,7 +23,10 @@ use crate::looking::{Look, agrees, look_at, look_raw};
 use crate::raw_frame::AMQPRawFrame;
 use crate::version::ProtocolVersion;
 use amqp_protocol::{AMQPClass, parse_class};
-use amqp_types::{ByteArray, ChannelId, ParserError, parse_id};
+use amqp_types::{
+    ByteArray, ChannelId, FRAME_BODY, FRAME_HEADER, FRAME_HEARTBEAT, FRAME_METHOD, ParserError,
+    parse_id,
+};
 use std::alloc::Global;
 
 /// Decodes a channel's number, 2 bytes.
@@ -46,10 +49,10 @@ pub fn parse_frame_type(i: &[u8]) -> Result<(usize, AMQPFrameType), ParserError>
     match i {
         [] => Err(ParserError::Incomplete),
         [65, ..] => Ok((1, AMQPFrameType::ProtocolHeader)),
-        [1, ..] => Ok((1, AMQPFrameType::Method)),
-        [2, ..] => Ok((1, AMQPFrameType::Header)),
-        [3, ..] => Ok((1, AMQPFrameType::Body)),
-        [8, ..] => Ok((1, AMQPFrameType::Heartbeat)),
+        [FRAME_METHOD, ..] => Ok((1, AMQPFrameType::Method)),
+        [FRAME_HEADER, ..] => Ok((1, AMQPFrameType::Header)),
+        [FRAME_BODY, ..] => Ok((1, AMQPFrameType::Body)),
+        [FRAME_HEARTBEAT, ..] => Ok((1, AMQPFrameType::Heartbeat)),
         [_, ..] => Err(ParserError::UnknownFrameType),
     }
 }

@@ -16,7 +16,7 @@ use crate::generation::{heartbeat_bytes, put_around, put_framed};
 use crate::judging::{FrameJudgement, judge_frame};
 use crate::raw_frame::AMQPRawFrame;
 use amqp_canonical::{Mark, put_content_header, put_payload};
-use amqp_types::{ChannelId, ParserError, put_bytes};
+use amqp_types::{ChannelId, FRAME_BODY, FRAME_HEADER, FRAME_METHOD, ParserError, put_bytes};
 
 /// Puts the canonical bytes of a method's frame.
 fn put_method(
@@ -32,7 +32,7 @@ fn put_method(
     ensures { Puts buf.old buf.new at (framed 1 channel_id (canonical_of payload_bytes (judge_payload payload.now))) result }
 {
     let end = put_payload(buf, at + 7, scratch, payload);
-    put_around(buf, at, end, 1, channel_id)
+    put_around(buf, at, end, FRAME_METHOD, channel_id)
 }
 
 /// Puts the canonical bytes of a content header's frame.
@@ -49,7 +49,7 @@ fn put_header(
     ensures { Puts buf.old buf.new at (framed 2 channel_id (canonical_of content_header_bytes (judge_content_header payload.now))) result }
 {
     let end = put_content_header(buf, at + 7, scratch, payload);
-    put_around(buf, at, end, 2, channel_id)
+    put_around(buf, at, end, FRAME_HEADER, channel_id)
 }
 
 /// Puts the canonical bytes of the frame that a payload of this type encodes.
@@ -74,11 +74,15 @@ fn put_judged(
             let at = put_bytes(buf, at, b"AMQP\0");
             put_bytes(buf, at, payload)
         }
-        AMQPFrameType::Method if judged.canonical => put_framed(buf, at, 1, channel_id, payload),
+        AMQPFrameType::Method if judged.canonical => {
+            put_framed(buf, at, FRAME_METHOD, channel_id, payload)
+        }
         AMQPFrameType::Method => put_method(buf, at, scratch, channel_id, payload),
-        AMQPFrameType::Header if judged.canonical => put_framed(buf, at, 2, channel_id, payload),
+        AMQPFrameType::Header if judged.canonical => {
+            put_framed(buf, at, FRAME_HEADER, channel_id, payload)
+        }
         AMQPFrameType::Header => put_header(buf, at, scratch, channel_id, payload),
-        AMQPFrameType::Body => put_framed(buf, at, 3, channel_id, payload),
+        AMQPFrameType::Body => put_framed(buf, at, FRAME_BODY, channel_id, payload),
         AMQPFrameType::Heartbeat => put_bytes(buf, at, &heartbeat_bytes(channel_id)),
     }
 }
