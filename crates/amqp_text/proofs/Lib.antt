@@ -17,3 +17,13 @@ pub mod SlotSteps
 pub mod ReadLines
 pub mod LineSteps
 pub mod LinesApart
+pub mod TextFronts
+pub mod Deciding
+pub mod Gathering
+pub mod LineBack
+pub mod Undumps
+pub mod Completing
+pub mod Exactly
+pub mod CanonBytes
+pub mod TextLaws
+pub mod OneLine

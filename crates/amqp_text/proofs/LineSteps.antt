@@ -1,5 +1,5 @@
 -- What calls read of the words of a line, step by step.
-use Rattle.std.proofs.Common.{◌≡◌, ℕ, ◌-◌, ◌^◌, ◌<◌, ◌≤◌, List, [], ◌∷◌, ◌++◌, length, drop, Option, Some, None, Result, Ok, Err, refl, sym, ap, ap₂, subst, ◌∙◌, append_assoc, append-nil, arith}
+use Rattle.std.proofs.Common.{◌≡◌, ℕ, ◌<◌, ◌≤◌, List, [], ◌∷◌, ◌++◌, length, drop, Option, Some, None, Result, Ok, Err, refl, sym, ap, subst, ◌∙◌, append_assoc, append-nil, arith}
 use Rattle.std.specs.Prelude.{codes}
 use Rattle.amqp_types.specs.Numbers.{bytes1, bytes2, number_bytes}
 use Rattle.amqp_types.specs.Rows.{slots_at}
@@ -12,7 +12,7 @@ use Rattle.amqp_text.specs.declared.errors.TextError.{TextError}
 use Rattle.amqp_text.specs.declared.errors.TextError.TheVariants as texts
 use Rattle.amqp_text.specs.Reading.{Reading, Reader, ◌>>=◌, read_bits, read_number, read_hex, read_slots, read_properties, strip, Finds, Reads}
 use Rattle.amqp_text.specs.ReadingLines.{read_id, read_later, read_version, read_fields, read_method_of, read_method, read_header, read_beat, of_kind, on_channel, by_word, read_words, ReadsWords}
-use Rattle.amqp_text.proofs.ReadSteps.{out_of_memory, unread, failed, both_read, parted_read}
+use Rattle.amqp_text.proofs.ReadSteps.{failed, both_read, parted_read}
 
 -- ---- words after one another
 

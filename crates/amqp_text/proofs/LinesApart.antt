@@ -1,10 +1,10 @@
 -- Equal lines are those of equal frames, and equal texts those of equal sequences.
-use Rattle.std.proofs.Common.{◌≡◌, ◌≢◌, ℕ, ◌+◌, ◌^◌, ◌<◌, List, [], ◌∷◌, ◌++◌, length, get_or, take, drop, Option, Some, refl, sym, ap, ap₂, subst, ◌∙◌, append_assoc, arith}
+use Rattle.std.proofs.Common.{◌≡◌, ◌≢◌, ℕ, List, [], ◌∷◌, ◌++◌, length, take, Option, Some, refl, sym, ap, ap₂, subst, ◌∙◌, append_assoc, arith}
 use Rattle.std.specs.Prelude.{codes, None}
 use Rattle.std.specs.List.{AllByRecursion, flat_map}
 use Rattle.std.proofs.lemmas.List.{length-append, take_at}
 use Rattle.amqp_types.specs.Levels.{strict}
-use Rattle.amqp_types.specs.Judging.{IsBytes, took}
+use Rattle.amqp_types.specs.Judging.{IsBytes}
 use Rattle.amqp_types.specs.Methods.{payload_bytes}
 use Rattle.amqp_types.specs.ContentHeaders.{content_header_bytes}
 use Rattle.amqp_types.specs.MethodSpelling.{SpellsPayload}
@@ -19,7 +19,7 @@ use Rattle.amqp_frame.specs.Verdicts.{verdict}
 use Rattle.amqp_frame.proofs.Spelled.{verdict-spelled}
 use Rattle.amqp_text.specs.Lines.{words, line, lines}
 use Rattle.amqp_text.specs.Payloads.{IsPayload}
-use Rattle.amqp_text.specs.Laws.{HasOneNewline, IsStrict}
+use Rattle.amqp_text.specs.Laws.{IsStrict}
 use Rattle.amqp_text.specs.ReadingLines.{read_words}
 use Rattle.amqp_text.proofs.ReadWords.{bytes_behind, bytes_front}
 use Rattle.amqp_text.proofs.ReadLines.{IsNumbered, kind_of, words_back}
@@ -58,7 +58,7 @@ numbers_fit (Body channel content) fits h = h.channel_fits
 numbers_fit Beat fits h = tt
 numbers_fit (BadBeat channel) fits h = (h.0, h.1.is_framed.channel_fits)
 
-raw_canon : (f : Frame) → raw_bytes (record { kind = kind_of f; channel = channel_id_of f; payload = payload_of f }) ≡ canon f
+pub raw_canon : (f : Frame) → raw_bytes (record { kind = kind_of f; channel = channel_id_of f; payload = payload_of f }) ≡ canon f
 unfolding canon
 raw_canon (Proto a b c) = refl
 raw_canon (Meth channel m) = refl
@@ -98,7 +98,7 @@ head_same : (x y : ℕ) (xs ys : List ℕ) → x ∷ xs ≡ y ∷ ys → (x ≡ 
 head_same x y xs ys h = (cc, cc)
 
 -- where newlines end the fronts, these are the same
-newline_once : (a b x y : List ℕ) → AllByRecursion (λ c. c ≢ 10) a → AllByRecursion (λ c. c ≢ 10) b → a ++ (10 ∷ x) ≡ b ++ (10 ∷ y) → (a ≡ b) × (x ≡ y)
+pub newline_once : (a b x y : List ℕ) → AllByRecursion (λ c. c ≢ 10) a → AllByRecursion (λ c. c ≢ 10) b → a ++ (10 ∷ x) ≡ b ++ (10 ∷ y) → (a ≡ b) × (x ≡ y)
 newline_once [] [] x y p q h = (refl, (head_same 10 10 x y h).1)
 newline_once [] (c ∷ cs) x y p q h = absurd (q.0 (sym (head_same 10 c x (cs ++ (10 ∷ y)) h).0))
 newline_once (c ∷ cs) [] x y p q h = absurd (p.0 (head_same c 10 (cs ++ (10 ∷ x)) y h).0)
@@ -108,11 +108,11 @@ newline_once (c ∷ cs) (d ∷ ds) x y p q h =
     (ap₂ (λ (z : ℕ) (zs : List ℕ). z ∷ zs) e.0 r.0, r.1)
 
 -- a line and the text after it
-record Split (f g : Frame) (x y : List ℕ) : Type 0 where
-  first : line f ≡ line g
-  others : x ≡ y
+pub record Split (f g : Frame) (x y : List ℕ) : Type 0 where
+  pub first : line f ≡ line g
+  pub others : x ≡ y
 
-split : (f g : Frame) (x y : List ℕ) → line f ++ x ≡ line g ++ y → Split f g x y
+pub split : (f g : Frame) (x y : List ℕ) → line f ++ x ≡ line g ++ y → Split f g x y
 split f g x y h =
     let a = one_newline f in
     let b = one_newline g in
@@ -121,7 +121,7 @@ split f g x y h =
     let same = newline_once a.front b.front x y a.none_before b.none_before (sym left ∙ h ∙ right) in
     record { first = a.parts ∙ ap (λ (xs : List ℕ). xs ++ codes "\n") same.0 ∙ sym b.parts; others = same.1 }
 
-line_some : (f : Frame) (x : List ℕ) → [] ≡ line f ++ x → ⊥
+pub line_some : (f : Frame) (x : List ℕ) → [] ≡ line f ++ x → ⊥
 line_some f x h =
     let a = one_newline f in
     omega (arith, ap length h, length-append (line f) x, ap length a.parts, length-append a.front (10 ∷ []))

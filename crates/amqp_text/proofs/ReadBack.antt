@@ -1,23 +1,22 @@
 -- Values, arrays and tables are read back to the bytes that they tell, whatever follows.
-use Rattle.std.proofs.Common.{◌≡◌, ℕ, zero, suc, ◌+◌, ◌<◌, ◌≤◌, ◌^◌, List, [], ◌∷◌, ◌++◌, length, get_or, drop, map, Bool, true, false, Option, Some, None, refl, sym, ap, ap₂, subst, ◌∙◌, append_assoc, append-nil, arith}
+use Rattle.std.proofs.Common.{◌≡◌, ℕ, zero, suc, ◌<◌, List, [], ◌∷◌, ◌++◌, length, drop, map, true, false, Option, Some, None, refl, sym, ap, subst, ◌∙◌, append_assoc, append-nil, arith}
 use Rattle.std.specs.Prelude.{codes, ◌==◌}
-use Rattle.std.specs.Fmt.{decimal, signed_decimal}
+use Rattle.std.specs.Fmt.{decimal}
 use Rattle.std.proofs.lemmas.List.{length-append}
 use Rattle.amqp_types.specs.Levels.{strict}
 use Rattle.amqp_types.specs.Judging.{IsBytes}
-use Rattle.amqp_types.specs.Numbers.{NumberWidth, bytes1, bytes2, bytes4, bytes8, number_bytes, SpellsNumber}
-use Rattle.amqp_types.specs.Signed.{SpellsSigned}
+use Rattle.amqp_types.specs.Numbers.{bytes1, bytes2, bytes4, bytes8}
 use Rattle.amqp_types.specs.Booleans.{SpellsBoolean}
-use Rattle.amqp_types.specs.Strings.{SpellsShortString, SpellsLongString}
+use Rattle.amqp_types.specs.Strings.{SpellsLongString}
 use Rattle.amqp_types.specs.Values.{FieldValue, FieldValues, FieldEntries, Entry, short_short_int, short_int, long_int, long_long_int, short_short_uint, short_uint, long_uint, float, double, timestamp, long_string, byte_array, boolean_value, signed_value, unsigned_value, decimal_value, bytes_value, array_value, table_value, void_value, no_values, next_value, no_entries, next_entry, items, pairs, entries_of}
-use Rattle.amqp_types.specs.Tags.{tag_at, tag_of, tag_byte}
+use Rattle.amqp_types.specs.Tags.{tag_of, tag_byte}
 use Rattle.amqp_types.specs.declared.tag.FieldTag.{FieldTag}
 use Rattle.amqp_types.specs.declared.tag.FieldTag.TheVariants as tag
-use Rattle.amqp_types.specs.ValueSpelling.{SpellsEach, SpellsEntry, SpellsDecimal, SpellsArray, SpellsTable, SpellsBehind, SpellsTagged, SpellsValue, SpellsFieldTable}
+use Rattle.amqp_types.specs.ValueSpelling.{SpellsEach, SpellsEntry, SpellsDecimal, SpellsTable, SpellsBehind, SpellsTagged, SpellsValue, SpellsFieldTable}
 use Rattle.amqp_values.proofs.Conversions.{entries_of-pairs, pairs-entries_of}
 use Rattle.amqp_text.specs.Words.{hex, quoted, parted}
 use Rattle.amqp_text.specs.Values.{tag_text, truth_text, content_text, values_texts, entries_texts, value_text, table_text}
-use Rattle.amqp_text.specs.Reading.{Reader, ◌>>=◌, is_hex, is_digit, read_number, read_truth, read_decimal, read_hex, read_byte_array, listed, inside, or_comma, framed_long, read_short_string, read_long_string, read_entry, read_array, read_table, read_behind, read_after, read_tagged, read_nested, read_value}
+use Rattle.amqp_text.specs.Reading.{Reader, ◌>>=◌, is_hex, is_digit, read_number, read_truth, read_decimal, read_byte_array, listed, inside, or_comma, framed_long, read_entry, read_array, read_table, read_behind, read_tagged, read_nested, read_value}
 use Rattle.amqp_text.proofs.ReadWords.{Ends, IsReadAs, Begins, begins_more, listed_end, listed_comma, listed_item, no_comma, bytes_behind, bytes_front, framed_back, long_content, number_back, signed_back, hex_back, long_string_back, short_string_back}
 
 -- ---- what fills an array or a table

@@ -1,28 +1,26 @@
 -- The words of a line are read back to the frame that they tell.
-use Rattle.std.proofs.Common.{◌≡◌, ℕ, zero, suc, ◌+◌, ◌-◌, ◌^◌, ◌<◌, ◌≤◌, List, [], ◌∷◌, ◌++◌, length, get_or, take, drop, Option, Some, None, Bool, true, false, refl, sym, ap, ap₂, subst, ◌∙◌, append_assoc, append-nil, arith}
+use Rattle.std.proofs.Common.{◌≡◌, ℕ, zero, suc, ◌-◌, ◌^◌, ◌<◌, List, [], ◌∷◌, ◌++◌, get_or, drop, Some, false, refl, sym, ap, ap₂, subst, ◌∙◌, append_assoc, append-nil, arith}
 use Rattle.std.specs.Prelude.{codes, unwrap_or, ◌==◌}
 use Rattle.std.specs.Fmt.{decimal}
-use Rattle.std.proofs.lemmas.List.{length-append, take_at, drop_at}
 use Rattle.std.proofs.lemmas.Bool.{ne_eqb}
 use Rattle.amqp_types.specs.Levels.{strict}
 use Rattle.amqp_types.specs.Judging.{IsBytes}
-use Rattle.amqp_types.specs.Numbers.{bytes1, bytes2, bytes8, number_bytes, SpellsNumber}
+use Rattle.amqp_types.specs.Numbers.{bytes1, bytes2, number_bytes}
 use Rattle.amqp_types.specs.Rows.{slots_at}
-use Rattle.amqp_types.specs.Slots.{Item, number_item, number_form, Slot, kept_slot, reserved_slot}
-use Rattle.amqp_types.specs.SlotSpelling.{SpellsSlots}
+use Rattle.amqp_types.specs.Slots.{number_item}
 use Rattle.amqp_types.specs.Properties.{properties}
 use Rattle.amqp_types.specs.Methods.{Method}
 use Rattle.amqp_types.specs.MethodSpelling.{SpellsPayload}
-use Rattle.amqp_types.specs.ContentHeaders.{ContentHeader, header_slots, header_items, header_of_parts, SpellsContentHeader}
+use Rattle.amqp_types.specs.ContentHeaders.{ContentHeader, header_slots, header_of_parts, SpellsContentHeader}
 use Rattle.amqp_frame.specs.declared.frame_type.AMQPFrameType.{AMQPFrameType}
 use Rattle.amqp_frame.specs.declared.frame_type.AMQPFrameType.TheVariants as kinds
-use Rattle.amqp_frame.specs.Frames.{Frame, Proto, Meth, Head, Body, Beat, BadBeat, Raw, channel_id_of}
+use Rattle.amqp_frame.specs.Frames.{Frame, Proto, Meth, Head, Body, Beat, BadBeat, channel_id_of}
 use Rattle.amqp_text.specs.Words.{hex}
 use Rattle.amqp_text.specs.Slots.{slots_text, form_text, set_text}
 use Rattle.amqp_text.specs.Lines.{spaced, method_words, header_words, beat_words, words}
 use Rattle.amqp_text.specs.Payloads.{IsPayload}
-use Rattle.amqp_text.specs.Reading.{Reading, Reader, ◌>>=◌, is_hex, is_digit, read_bits, read_number, read_hex, read_slots, read_properties, strip}
-use Rattle.amqp_text.specs.ReadingLines.{read_id, read_version, read_later, read_fields, read_method_of, read_method, read_header, read_beat, of_kind, on_channel, by_word, read_words}
+use Rattle.amqp_text.specs.Reading.{Reader, ◌>>=◌, is_hex, is_digit, read_bits, read_number, read_hex, read_slots, read_properties}
+use Rattle.amqp_text.specs.ReadingLines.{read_id, read_version, read_later, read_fields, read_method_of, read_method, read_header, read_beat, of_kind, on_channel, read_words}
 use Rattle.amqp_text.proofs.ReadWords.{Ends, bytes_behind, bytes_front, other, number_back, bits_back, hex_back}
 use Rattle.amqp_text.proofs.ReadSlots.{slots_back, slots_end, set_end, space_ends, properties_back}
 

@@ -1,18 +1,17 @@
 -- Slots and properties are read back to the bytes that they tell.
-use Rattle.std.proofs.Common.{◌≡◌, ℕ, zero, suc, ◌+◌, ◌%◌, ◌^◌, ◌<◌, ◌≤◌, List, [], ◌∷◌, ◌++◌, length, take, drop, map, Bool, true, false, cond, Option, Some, None, refl, sym, ap, ap₂, subst, ◌∙◌, append_assoc, append-nil, arith}
+use Rattle.std.proofs.Common.{◌≡◌, ℕ, ◌+◌, ◌%◌, ◌^◌, ◌<◌, List, [], ◌∷◌, ◌++◌, length, take, drop, Bool, true, false, cond, Option, Some, None, refl, sym, ap, ap₂, ◌∙◌, append_assoc, arith}
 use Rattle.std.specs.Prelude.{codes, ◌&&◌, ◌==◌, if◌then◌else◌}
-use Rattle.std.specs.Fmt.{decimal}
 use Rattle.std.proofs.lemmas.Bool.{eq-eqb}
-use Rattle.std.proofs.lemmas.List.{length-append, take_at, drop_at}
+use Rattle.std.proofs.lemmas.List.{take_at, drop_at}
 use Rattle.amqp_types.specs.Levels.{plain, strict}
 use Rattle.amqp_types.specs.Judging.{IsBytes}
 use Rattle.amqp_types.specs.Numbers.{bytes2, number_bytes}
-use Rattle.amqp_types.specs.Flags.{flag_at, flags_from, flags_byte, SpellsFlags}
-use Rattle.amqp_types.specs.Slots.{Item, number_item, flag_item, text_item, bytes_item, entries_item, Form, number_form, flags_form, short_string_form, long_string_form, table_form, Slot, kept_slot, reserved_slot}
+use Rattle.amqp_types.specs.Flags.{flag_at, flags_from}
+use Rattle.amqp_types.specs.Slots.{Item, Form, number_form, flags_form, short_string_form, long_string_form, table_form, Slot, kept_slot, reserved_slot}
 use Rattle.amqp_types.specs.SlotBytes.{item_count, flags_of, form_bytes}
-use Rattle.amqp_types.specs.SlotSpelling.{SpellsForm, SpellsSlot, SpellsSlots}
+use Rattle.amqp_types.specs.SlotSpelling.{SpellsForm, SpellsSlots}
 use Rattle.amqp_types.specs.Properties.{Property, properties, later_properties}
-use Rattle.amqp_types.specs.PropertyBytes.{mask_of, worth_of, optional_bytes, set_bytes, properties_bytes}
+use Rattle.amqp_types.specs.PropertyBytes.{mask_of, worth_of, set_bytes, properties_bytes}
 use Rattle.amqp_types.specs.PropertyJudging.{first_item}
 use Rattle.amqp_types.specs.PropertyLaws.{gives_one, give_one}
 use Rattle.amqp_types.specs.PropertySpelling.{SpellsOptional, SpellsSet, SpellsProperties}
@@ -21,10 +20,9 @@ use Rattle.amqp_types.proofs.FormLaws.{flags_byte_back}
 use Rattle.amqp_values.proofs.SlotForms.{flags_of-map, forms_lawful, form_gives}
 use Rattle.amqp_values.proofs.SlotLaws.{both_true}
 use Rattle.amqp_properties.proofs.PropertyLaws.{properties_lawful}
-use Rattle.amqp_text.specs.Words.{quoted, signs}
-use Rattle.amqp_text.specs.Values.{table_text}
-use Rattle.amqp_text.specs.Slots.{form_text, slots_text, property_name, property_names, option_text, set_text}
-use Rattle.amqp_text.specs.Reading.{Reading, Reader, ◌>>=◌, is_hex, is_digit, read_number, read_signs, read_flags, read_short_string, read_long_string, read_table, read_value, read_form, read_slot, read_slots, strip, named, read_option, read_set, read_properties}
+use Rattle.amqp_text.specs.Words.{signs}
+use Rattle.amqp_text.specs.Slots.{form_text, slots_text, property_name, option_text, set_text}
+use Rattle.amqp_text.specs.Reading.{◌>>=◌, is_hex, is_digit, read_number, read_signs, read_flags, read_short_string, read_long_string, read_table, read_value, read_form, read_slot, read_slots, strip, named, read_option, read_set, read_properties}
 use Rattle.amqp_text.proofs.ReadWords.{Ends, IsReadAs, bytes_behind, bytes_front, number_back, long_string_back, short_string_back, signs_back}
 use Rattle.amqp_text.proofs.ReadBack.{field_table_back}
 use Rattle.amqp_text.proofs.SlotsBack.{one_text, give_one_each}

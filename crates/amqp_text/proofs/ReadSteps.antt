@@ -2,7 +2,7 @@
 use Rattle.std.proofs.Common.{◌≡◌, ℕ, zero, suc, ◌+◌, ◌-◌, ◌*◌, ◌^◌, ◌<◌, ◌≤◌, List, [], ◌∷◌, ◌++◌, length, get_or, drop, take, Bool, true, false, cond, Option, Some, None, Result, Ok, Err, refl, sym, ap, ap₂, subst, ◌∙◌, append_assoc, append-nil, arith}
 use Rattle.std.specs.Prelude.{nat_lt, nat_le, ◌==◌}
 use Rattle.std.proofs.lemmas.Bool.Decides.{nat_tests}
-use Rattle.std.proofs.lemmas.List.{length-append, nil_from_length, take_at, drop_at}
+use Rattle.std.proofs.lemmas.List.{length-append, take_at, drop_at}
 use Rattle.amqp_types.specs.Numbers.{NumberWidth, bytes1, bytes4, number_limit, number_bytes}
 use Rattle.amqp_types.specs.Flags.{bit_of}
 use Rattle.amqp_types.specs.Strings.{with_length, short_string_bytes}

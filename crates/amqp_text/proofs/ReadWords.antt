@@ -1,6 +1,6 @@
 -- The words of a line are read back to the bytes that they tell: numbers, hex, strings and flags.
-use Rattle.std.proofs.Common.{◌≡◌, ℕ, zero, suc, ◌+◌, ◌-◌, ◌*◌, ◌/◌, ◌%◌, ◌^◌, ◌<◌, ◌≤◌, List, [], ◌∷◌, ◌++◌, length, get_or, drop, take, map, Bool, true, false, cond, Option, Some, None, refl, sym, ap, ap₂, subst, ◌∙◌, append_assoc, arith, leb, ltb, eqb}
-use Rattle.std.specs.Prelude.{ℤ, codes, nat_lt, nat_le, ◌==◌, ◌&&◌, ◌||◌, pos, negsuc}
+use Rattle.std.proofs.Common.{◌≡◌, ℕ, zero, suc, ◌+◌, ◌-◌, ◌*◌, ◌/◌, ◌%◌, ◌^◌, ◌<◌, ◌≤◌, List, [], ◌∷◌, ◌++◌, length, get_or, drop, take, Bool, true, false, cond, Some, None, refl, sym, ap, ap₂, subst, ◌∙◌, append_assoc, arith, ltb}
+use Rattle.std.specs.Prelude.{nat_lt, nat_le, ◌==◌, ◌||◌, pos, negsuc}
 use Rattle.std.specs.List.{flat_map}
 use Rattle.std.specs.Fmt.{decimal, signed_decimal}
 use Rattle.std.specs.Int.{Width, w8, w16, w32, w64, cast_signed}
@@ -9,16 +9,14 @@ use Rattle.std.proofs.lemmas.Bool.{eq-eqb}
 use Rattle.std.proofs.lemmas.Bool.Decides.{nat_tests}
 use Rattle.std.proofs.lemmas.Fmt.{decimal_by_steps}
 use Rattle.std.proofs.lemmas.List.{length-append, drop_at, take_at}
-use Rattle.amqp_types.specs.Levels.{strict}
 use Rattle.amqp_types.specs.Judging.{IsBytes}
 use Rattle.amqp_types.specs.Numbers.{NumberWidth, bytes1, bytes2, bytes4, bytes8, width_of, number_limit, number_bytes, SpellsNumber}
 use Rattle.amqp_types.specs.Signed.{SpellsSigned}
-use Rattle.amqp_types.specs.Strings.{SpellsShortString, SpellsLongString, with_length, short_string_bytes}
-use Rattle.amqp_types.specs.Flags.{bit_of, flags_from, flags_byte, SpellsFlags}
+use Rattle.amqp_types.specs.Strings.{SpellsShortString, SpellsLongString}
+use Rattle.amqp_types.specs.Flags.{bit_of, flags_byte}
 use Rattle.amqp_types.proofs.Bytes.{IsBytes-drop, IsBytes-take}
-use Rattle.amqp_types.proofs.FormLaws.{flags_byte_back, flags_byte_within}
 use Rattle.amqp_text.specs.Words.{hex_digit, hex_byte, hex, is_plain, escaped, quoted, sign, signs}
-use Rattle.amqp_text.specs.Reading.{Reading, Reader, ◌>>=◌, is_digit, read_digits, capped, below_zero, read_bits, read_positive, read_negative, read_number, with_sign, read_signs, read_flags, is_hex, nibble, read_hex, first_is, listed, inside, or_comma, read_escaped, framed_long, framed_short, read_long_string, read_short_string}
+use Rattle.amqp_text.specs.Reading.{Reading, Reader, ◌>>=◌, is_digit, read_digits, capped, below_zero, read_bits, read_positive, read_negative, read_number, with_sign, read_signs, is_hex, nibble, read_hex, first_is, listed, inside, or_comma, read_escaped, framed_long, framed_short, read_long_string, read_short_string}
 
 -- what does not go on with a digit
 abbrev pub Ends : List ℕ → Type 0

@@ -7,15 +7,14 @@ use Rattle.amqp_types.specs.Slots.{Slot}
 use Rattle.amqp_types.specs.Properties.{Property, properties}
 use Rattle.amqp_types.specs.Writing.{written}
 use Rattle.amqp_canonical.specs.declared.shapes.Shape.{Shape}
-use Rattle.amqp_canonical.specs.declared.shapes.Shape.TheVariants as shapes
 use Rattle.amqp_canonical.specs.Shapes.{form_of, property_of, slot_of, slots_of}
 use Rattle.amqp_text.specs.declared.errors.TextError.{TextError}
 use Rattle.amqp_text.specs.declared.errors.TextError.TheVariants as texts
 use Rattle.amqp_text.specs.Slots.{property_name}
 use Rattle.amqp_text.specs.Telling.{is_reserved}
-use Rattle.amqp_text.specs.Reading.{Reading, Reader, ◌>>=◌, first_is, read_form, read_slot, read_slots, strip, named, read_option, read_set, read_properties, constant_bytes, Reads, ReadsSet, FindsText}
+use Rattle.amqp_text.specs.Reading.{Reading, ◌>>=◌, first_is, read_form, read_slot, read_slots, strip, named, read_option, read_set, read_properties, constant_bytes, Reads, ReadsSet, FindsText}
 use Rattle.amqp_text.proofs.ReadWords.{chosen, other}
-use Rattle.amqp_text.proofs.ReadSteps.{out_of_memory, unread, read_so, failed, both_read, put_at, put_whole}
+use Rattle.amqp_text.proofs.ReadSteps.{failed, both_read, put_at}
 use Rattle.amqp_text.proofs.ToldSlots.{kept, reserved}
 
 -- ---- slots

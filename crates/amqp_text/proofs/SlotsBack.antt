@@ -1,18 +1,17 @@
 -- What is told of the canonical bytes of slots and properties is their text, whatever follows.
-use Rattle.std.proofs.Common.{◌≡◌, ℕ, suc, ◌+◌, ◌^◌, ◌<◌, List, [], ◌∷◌, ◌++◌, length, take, drop, map, Bool, true, false, Option, Some, None, refl, sym, ap, ap₂, subst, ◌∙◌, append_assoc, append-nil, arith}
-use Rattle.std.specs.Prelude.{codes, ◌&&◌}
+use Rattle.std.proofs.Common.{◌≡◌, ℕ, ◌+◌, ◌^◌, ◌<◌, List, [], ◌∷◌, ◌++◌, length, drop, Bool, true, false, refl, sym, ap, ap₂, ◌∙◌, append_assoc, arith}
+use Rattle.std.specs.Prelude.{codes}
 use Rattle.std.specs.Fmt.{decimal}
 use Rattle.std.proofs.lemmas.List.{length-append, take_at, drop_at}
 use Rattle.amqp_types.specs.Levels.{plain, strict}
-use Rattle.amqp_types.specs.Judging.{Judge, took, ◌>>=◌}
-use Rattle.amqp_types.specs.Sequences.{judge_map, judge_both}
+use Rattle.amqp_types.specs.Judging.{took, ◌>>=◌}
 use Rattle.amqp_types.specs.Numbers.{bytes2, number_bytes, judge_number, SpellsNumber}
 use Rattle.amqp_types.specs.Flags.{flag_at, judge_flags, SpellsFlags}
 use Rattle.amqp_types.specs.Strings.{judge_short_string, judge_long_string, SpellsShortString, SpellsLongString}
-use Rattle.amqp_types.specs.Slots.{Item, number_item, flag_item, text_item, bytes_item, entries_item, Form, number_form, flags_form, short_string_form, long_string_form, table_form, Slot, kept_slot, reserved_slot}
-use Rattle.amqp_types.specs.SlotBytes.{item_count, flags_of}
+use Rattle.amqp_types.specs.Slots.{Item, Form, number_form, flags_form, short_string_form, long_string_form, table_form, Slot, kept_slot, reserved_slot}
+use Rattle.amqp_types.specs.SlotBytes.{item_count}
 use Rattle.amqp_types.specs.SlotJudging.{judge_form}
-use Rattle.amqp_types.specs.SlotSpelling.{SpellsForm, SpellsSlot, SpellsSlots}
+use Rattle.amqp_types.specs.SlotSpelling.{SpellsForm, SpellsSlots}
 use Rattle.amqp_types.specs.Properties.{Property, properties, later_properties}
 use Rattle.amqp_types.specs.PropertyJudging.{first_item}
 use Rattle.amqp_types.specs.PropertyLaws.{gives_one, give_one}
@@ -24,9 +23,8 @@ use Rattle.amqp_types.proofs.Sequences.{map_taken}
 use Rattle.amqp_values.proofs.SlotForms.{flags_of-map, forms_lawful, form_gives}
 use Rattle.amqp_values.proofs.SlotLaws.{both_true}
 use Rattle.amqp_text.specs.Words.{quoted, signs}
-use Rattle.amqp_text.specs.Values.{table_text}
 use Rattle.amqp_text.specs.Slots.{form_text, slots_text, property_name, option_text, set_text}
-use Rattle.amqp_text.specs.Telling.{told_form, told_number, told_option, told_properties, told_set, told_slot, told_slots, told_table, told_value}
+use Rattle.amqp_text.specs.Telling.{told_form, told_option, told_properties, told_set, told_slot, told_slots}
 use Rattle.amqp_text.proofs.ToldBack.{IsToldAs, both_back, field_table_back}
 
 -- ---- one slot

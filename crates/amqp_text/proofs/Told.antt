@@ -1,5 +1,5 @@
 -- What is told of bytes, step by step.
-use Rattle.std.proofs.Common.{◌≡◌, ℕ, zero, suc, ◌+◌, ◌-◌, ◌<◌, ◌≤◌, List, [], ◌∷◌, ◌++◌, length, get_or, take, drop, Option, Some, None, Result, Ok, Err, Bool, cond, refl, sym, ap, ap₂, subst, ◌∙◌, append_assoc, append-nil, add-one, one-add, arith}
+use Rattle.std.proofs.Common.{◌≡◌, ℕ, zero, suc, ◌+◌, ◌-◌, ◌<◌, ◌≤◌, List, [], ◌∷◌, ◌++◌, length, get_or, take, drop, Option, Some, None, Result, Ok, Err, refl, sym, ap, subst, ◌∙◌, append_assoc, append-nil, add-one, one-add, arith}
 use Rattle.std.specs.Prelude.{codes, nat_lt}
 use Rattle.std.specs.Str.{is_utf8}
 use Rattle.std.proofs.Math.Seq.{drop-nil}
@@ -17,7 +17,7 @@ use Rattle.amqp_canonical.specs.Writes.{IsRead, key_in, after_key}
 use Rattle.amqp_types.specs.declared.errors.NoMemory.{NoMemory}
 use Rattle.amqp_text.specs.Words.{quoted, parted}
 use Rattle.amqp_text.specs.Values.{tag_text}
-use Rattle.amqp_text.specs.Telling.{Tells, TellsAll, Writes, comma_before, told_after, told_behind, told_entry, told_items, told_nested, told_table, told_tagged, told_value}
+use Rattle.amqp_text.specs.Telling.{Tells, TellsAll, comma_before, told_after, told_behind, told_entry, told_items, told_nested, told_table, told_tagged, told_value}
 
 -- where nothing was read, nothing is told
 pub untold : {A : Type 0} (j : Judged A) (f : A × ℕ → Judged (List ℕ)) (old new : List ℕ) (r : Result ℕ NoMemory) → (IsRead j → ⊥) → Tells (j >>= f) old new r

@@ -9,12 +9,11 @@ use Rattle.amqp_types.specs.Sequences.{judge_map, judge_both}
 use Rattle.amqp_types.specs.Numbers.{NumberWidth, bytes1, bytes2, bytes4, bytes8, judge_number, SpellsNumber}
 use Rattle.amqp_types.specs.Signed.{judge_signed, SpellsSigned}
 use Rattle.amqp_types.specs.Booleans.{judge_boolean, SpellsBoolean}
-use Rattle.amqp_types.specs.Strings.{judge_short_string, judge_long_string, SpellsShortString, SpellsLongString}
+use Rattle.amqp_types.specs.Strings.{judge_short_string, judge_long_string, SpellsLongString}
 use Rattle.amqp_types.specs.Values.{FieldValue, FieldValues, FieldEntries, Entry, short_short_int, short_int, long_int, long_long_int, short_short_uint, short_uint, long_uint, float, double, timestamp, long_string, byte_array, boolean_value, signed_value, unsigned_value, decimal_value, bytes_value, array_value, table_value, void_value, no_values, next_value, no_entries, next_entry, items, pairs, entries_of}
-use Rattle.amqp_types.specs.ValueBytes.{signed_width, unsigned_width}
-use Rattle.amqp_types.specs.Tags.{tag_at, tag_of}
+use Rattle.amqp_types.specs.Tags.{tag_of}
 use Rattle.amqp_types.specs.ValueJudging.{filled, read_map, whole, judge_decimal}
-use Rattle.amqp_types.specs.ValueSpelling.{SpellsEach, SpellsEntry, SpellsDecimal, SpellsArray, SpellsTable, SpellsBehind, SpellsTagged, SpellsValue, SpellsFieldTable}
+use Rattle.amqp_types.specs.ValueSpelling.{SpellsEach, SpellsEntry, SpellsDecimal, SpellsTable, SpellsBehind, SpellsTagged, SpellsValue, SpellsFieldTable}
 use Rattle.amqp_types.proofs.Numbers.{number_exact}
 use Rattle.amqp_types.proofs.Texts.{signed_exact, long_string_exact, short_string_exact}
 use Rattle.amqp_types.proofs.Sequences.{map_taken, both_exact}

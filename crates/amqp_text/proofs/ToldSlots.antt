@@ -5,7 +5,7 @@ use Rattle.amqp_types.specs.Judging.{Judged, Judge, took, past, fault, ◌>>=◌
 use Rattle.amqp_types.specs.Flags.{flag_at}
 use Rattle.amqp_types.specs.Numbers.{bytes2, judge_number}
 use Rattle.amqp_types.specs.Properties.{properties}
-use Rattle.amqp_types.specs.Slots.{Item, Form, Slot, kept_slot, reserved_slot}
+use Rattle.amqp_types.specs.Slots.{Item, Slot, kept_slot, reserved_slot}
 use Rattle.amqp_types.specs.SlotJudging.{judge_form}
 use Rattle.amqp_types.specs.declared.errors.NoMemory.{NoMemory}
 use Rattle.amqp_canonical.specs.declared.shapes.Shape.{Shape}

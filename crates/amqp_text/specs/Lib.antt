@@ -5,9 +5,13 @@ pub mod Telling
 pub mod Lines
 pub mod Payloads
 pub mod LineTexts
+pub mod OneLine
 pub mod Dumping
+pub mod Undumping
 pub mod Typed
 pub mod Laws
+pub mod UndumpLaws
 pub mod Errors
 pub mod Reading
 pub mod ReadingLines
+pub mod LineReading

@@ -75,3 +75,71 @@ impl<T: Drop> From<AllocFailed<T>> for TextError {
         TextError::NoMemory
     }
 }
+
+/// Why a stream of lines was not read to its end.
+#[derive(Clone, Copy, Debug, PartialEq, Eq)]
+pub enum UndumpError {
+    /// A line that is that of no frame within the limit.
+    BadText,
+
+    /// The source ended inside a line.
+    CutShort,
+
+    /// A further read is wanted, and none is left of the read budget.
+    TurnsSpent,
+
+    /// A read failed.
+    ReadFault,
+
+    /// A write failed.
+    WriteFault,
+
+    /// Out of memory.
+    NoMemory,
+}
+
+impl UndumpError {
+    ghost use Rattle.std.specs.Prelude.{◌≡◌};
+    ghost use Rattle.amqp_text.specs.Errors.{undump_error_name, undump_error_status};
+
+    /// The variant's name.
+    pub fn name(&self) -> &'static str
+        ensures { result.now ≡ undump_error_name self.now }
+    {
+        match self {
+            UndumpError::BadText => "BadText",
+            UndumpError::CutShort => "CutShort",
+            UndumpError::TurnsSpent => "TurnsSpent",
+            UndumpError::ReadFault => "ReadFault",
+            UndumpError::WriteFault => "WriteFault",
+            UndumpError::NoMemory => "NoMemory",
+        }
+    }
+
+    /// The status that a program ends with.
+    pub fn status(&self) -> u8
+        ensures { result ≡ undump_error_status self.now }
+    {
+        match self {
+            UndumpError::BadText => 26,
+            UndumpError::CutShort => 21,
+            UndumpError::TurnsSpent => 22,
+            UndumpError::ReadFault => 4,
+            UndumpError::WriteFault => 5,
+            UndumpError::NoMemory => 3,
+        }
+    }
+}
+
+impl fmt::Display for UndumpError {
+    ghost use Rattle.std.specs.Prelude.{Some};
+    ghost use Rattle.amqp_text.specs.Errors.{undump_error_name};
+
+    ghost output = { λ error. Some (undump_error_name error) };
+
+    fn fmt<W: fmt::Write>(&self, f: &mut fmt::Formatter<W>) -> fmt::Result {
+        f.write_str(self.name())
+    }
+}
+
+impl Error for UndumpError {}

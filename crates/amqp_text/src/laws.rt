@@ -1,6 +1,7 @@
 //! Laws of lines, each the contract of a function that does nothing.
 
 ghost use Rattle.amqp_text.specs.Laws.{EqualLinesAreEqualFrames, EqualTextsAreEqualSequences, LinesHaveOneNewline};
+ghost use Rattle.amqp_text.specs.UndumpLaws.{CorrespondOneToOne, DumpedTextIsReadBack, OneLongestText, StrictFramesAreUsual};
 
 /// A line holds one newline, which is its last byte.
 pub fn lines_have_one_newline()
@@ -15,4 +16,25 @@ pub fn equal_lines_are_equal_frames()
 /// Two sequences of such frames are equal where their texts are.
 pub fn equal_texts_are_equal_sequences()
     ensures { EqualTextsAreEqualSequences }
+{}
+
+/// Bytes begin with one longest text.
+pub fn one_longest_text()
+    ensures { OneLongestText }
+{}
+
+/// What `dump` writes for some bytes is read back by `undump` as the canonical bytes of the frames at their front.
+pub fn dumped_text_is_read_back()
+    ensures { DumpedTextIsReadBack }
+{}
+
+/// Strict bytes and texts correspond one to one.
+pub fn bytes_and_texts_correspond()
+    ensures { CorrespondOneToOne }
+{}
+
+/// A frame that programs hold has a line that is read back, where `gen_line` refuses it not and it is no heartbeat on channel 0 that does
+/// not belong there.
+pub fn strict_frames_are_usual()
+    ensures { StrictFramesAreUsual }
 {}

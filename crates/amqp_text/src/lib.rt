@@ -6,18 +6,32 @@ mod errors;
 mod generation;
 mod held;
 mod laws;
+mod line_reading;
 mod line_text;
 mod lines;
+mod one_line;
 mod reading;
 mod slots;
+mod undumping;
 mod values;
 mod words;
 
 pub use dumping::dump;
+pub use errors::{TextError, UndumpError};
 pub use generation::gen_line;
 pub use laws::{
-    equal_lines_are_equal_frames, equal_texts_are_equal_sequences, lines_have_one_newline,
+    bytes_and_texts_correspond, dumped_text_is_read_back, equal_lines_are_equal_frames,
+    equal_texts_are_equal_sequences, lines_have_one_newline, one_longest_text,
+    strict_frames_are_usual,
 };
+pub use one_line::{dump_line, parse_line, undump_line};
+pub use undumping::undump;
 
 #[cfg(test)]
+mod method_rows;
+#[cfg(test)]
+mod one_line_tests;
+#[cfg(test)]
 mod tests;
+#[cfg(test)]
+mod undump_tests;

@@ -1,29 +1,27 @@
 //! Frames and their lines as tables, and the calls where reads, writes and memory fail.
 
-use crate::{
-    dump, equal_lines_are_equal_frames, equal_texts_are_equal_sequences, gen_line,
-    lines_have_one_newline,
-};
-use amqp_frame::{AMQPFrame, GenError};
+use crate::{dump, gen_line, lines_have_one_newline};
+use amqp_canonical::bytes_from;
+use amqp_frame::{AMQPFrame, GenError, parse_frame};
 use amqp_stream::{PieceSource, ScriptSink, StreamError, VecSink};
 use std::alloc::Global;
 use std::test::Fail;
 
 /// The limit on payloads, in bytes.
-const LIMIT: u32 = 131_072;
+pub(crate) const LIMIT: u32 = 131_072;
 
 /// Pieces of one byte.
-const ONES: [usize; 180] = [1; 180];
+pub(crate) const ONES: [usize; 180] = [1; 180];
 
 /// A client's message on channel 1: `basic.publish`, its content header and its body, of 22, 34 and 13 bytes.
-const MESSAGE: [u8; 69] = [
+pub(crate) const MESSAGE: [u8; 69] = [
     1, 0, 1, 0, 0, 0, 14, 0, 60, 0, 40, 0, 0, 0, 5, 104, 101, 108, 108, 111, 0, 206, 2, 0, 1, 0, 0,
     0, 26, 0, 60, 0, 0, 0, 0, 0, 0, 0, 0, 0, 5, 144, 0, 10, 116, 101, 120, 116, 47, 112, 108, 97,
     105, 110, 2, 206, 3, 0, 1, 0, 0, 0, 5, 104, 101, 108, 108, 111, 206,
 ];
 
 /// Its lines, of 29, 56 and 19 bytes.
-const MESSAGE_LINES: &str =
+pub(crate) const MESSAGE_LINES: &str =
     "method 1 60.40 \"\" \"hello\" --\nheader 1 60 5 content_type=\"text/plain\" delivery_mode=2\nbody 1 x68656c6c6f\n";
 
 /// `queue.declare` with all of its flags.
@@ -41,7 +39,7 @@ const START: [u8; 97] = [
 ];
 
 /// `queue.declare` whose arguments have a value of each kind, at the bounds of its numbers.
-const KINDS: [u8; 159] = [
+pub(crate) const KINDS: [u8; 159] = [
     1, 0, 1, 0, 0, 0, 151, 0, 50, 0, 10, 0, 0, 1, 113, 0, 0, 0, 0, 138, 1, 97, 116, 1, 1, 98, 98,
     128, 1, 99, 66, 255, 1, 100, 115, 128, 0, 1, 101, 117, 255, 255, 1, 102, 73, 128, 0, 0, 0, 1,
     103, 105, 255, 255, 255, 255, 1, 104, 108, 128, 0, 0, 0, 0, 0, 0, 0, 1, 105, 102, 63, 128, 0,
@@ -69,7 +67,7 @@ const PROPERTIES: [u8; 56] = [
 const SHORT: [u8; 12] = [1, 0, 1, 0, 0, 0, 4, 0, 50, 0, 10, 206];
 
 /// The line of `KINDS`.
-const KINDS_LINE: &str =
+pub(crate) const KINDS_LINE: &str =
     "method 1 50.10 \"q\" ----- {\"a\"=t:1,\"b\"=b:-128,\"c\"=B:255,\"d\"=s:-32768,\"e\"=u:65535,\"f\"=I:-2147483648,\"g\"=i:4294967295,\"h\"=l:-9223372036854775808,\"i\"=f:1065353216,\"j\"=d:18446744073709551615,\"k\"=D:2/123,\"l\"=S:\"\\0a\\22\\5c~\\7f\\ffA\",\"m\"=A:[V,t:0],\"n\"=T:0,\"o\"=F:{},\"p\"=x:dead,\"q\"=V,\"r\"=b:127,\"s\"=I:2147483647}\n";
 
 /// The line of `PROPERTIES`.
@@ -110,6 +108,32 @@ fn frames_are_dumped_as_lines(rt: HostRuntime) -> Result<(), Fail> {
             assert_eq!(rt; found, Ok(()));
             assert_eq!(rt; sink.bytes(), lines.as_bytes());
         }
+    }
+    Ok(())
+}
+
+/// The lines of frames that are read as typed ones.
+fn typed_lines(alloc: Global, input: &[u8]) -> Result<Vec<u8>, Fail> {
+    let mut lines = Vec::new(alloc);
+    let mut rest = input;
+    for _ in 0..input.len() {
+        if rest.is_empty() {
+            break;
+        }
+        let (used, frame) = parse_frame(alloc, rest)?;
+        gen_line(alloc, &mut lines, &frame)?;
+        rest = bytes_from(rest, used);
+    }
+    Ok(lines)
+}
+
+#[test]
+fn typed_frames_have_the_same_lines(rt: HostRuntime) -> Result<(), Fail> {
+    lines_have_one_newline();
+    let alloc = rt.alloc();
+    for (input, lines) in ROWS {
+        let found = typed_lines(alloc, input)?;
+        assert_eq!(rt; found.as_slice(), lines.as_bytes());
     }
     Ok(())
 }
@@ -168,29 +192,16 @@ fn lines_before_a_failed_read_are_written(rt: HostRuntime) -> Result<(), Fail> {
     Ok(())
 }
 
-/// How a dump of the message ends, and what it has written, where its sink takes one byte a write and these writes fail.
-fn dumped_until(
-    alloc: Global,
-    failing: &[u64],
-) -> Result<(Result<(), StreamError>, Vec<u8>), Fail> {
-    let mut source = PieceSource::new(&MESSAGE, &[], &[]);
-    let mut sink = ScriptSink::new(alloc, &ONES, failing);
-    let found = dump(alloc, &mut source, &mut sink, LIMIT, 200);
-    Ok((found, Vec::from_slice(alloc, sink.bytes())?))
-}
-
-/// The write that fails, and how many bytes are written before it.
-const FAILED_WRITES: [(&[u64], usize); 4] = [(&[0], 0), (&[1], 1), (&[29], 29), (&[103], 103)];
-
 #[test]
 fn a_failed_write_leaves_a_front(rt: HostRuntime) -> Result<(), Fail> {
-    for (failing, count) in FAILED_WRITES {
-        let (found, written) = dumped_until(rt.alloc(), failing)?;
+    let alloc = rt.alloc();
+    for write in 0..MESSAGE_LINES.len() {
+        let failing = [write as u64];
+        let mut source = PieceSource::new(&MESSAGE, &[], &[]);
+        let mut sink = ScriptSink::new(alloc, &ONES, &failing);
+        let found = dump(alloc, &mut source, &mut sink, LIMIT, 200);
         assert_eq!(rt; found, Err(StreamError::WriteFault));
-        assert_eq!(rt;
-            Some(written.as_slice()),
-            MESSAGE_LINES.as_bytes().get(..count)
-        );
+        assert_eq!(rt; Some(sink.bytes()), MESSAGE_LINES.as_bytes().get(..write));
     }
     Ok(())
 }
@@ -239,11 +250,4 @@ fn refused_memory_leaves_a_vector(rt: HostRuntime) {
             }
         }
     }
-}
-
-#[test]
-fn laws_are_called() {
-    lines_have_one_newline();
-    equal_lines_are_equal_frames();
-    equal_texts_are_equal_sequences();
 }

@@ -1,4 +1,4 @@
-use Rattle.std.proofs.Common.{◌≡◌, length, drop, true, false, refl, sym, ap, ◌∙◌, arith}
+use Rattle.std.proofs.Common.{◌≡◌, length, true, false, refl, sym, ap, ◌∙◌, arith}
 use Rattle.std.proofs.lemmas.List.{length-drop}
 use Rattle.amqp_text.specs.Reading.{after_colon, first_is, inside, or_comma, framed_long, read_entry, read_value, read_array, read_table}
 use Rattle.amqp_text.proofs.ReadSteps.{unread, failed, long_framed, begins_at, listed_on, inside_done, inside_failed, comma_read, thing_read, value_none, value_unknown, value_read, deep_array, deep_table, array_behind, table_behind, entry_failed, entry_read}

@@ -1,4 +1,4 @@
-use Rattle.std.proofs.Common.{rules, ◌≡◌, ◌<◌, ◌≤◌, ◌+◌, ◌-◌, ◌%◌, ◌^◌, ℕ, [], ◌∷◌, length, refl, ap, ◌∙◌, arith}
+use Rattle.std.proofs.Common.{rules, ◌≡◌, ◌≤◌, ◌+◌, ℕ, [], ◌∷◌, length, refl, ap, arith}
 use Rattle.amqp_types.specs.Numbers.{bytes1, number_bytes}
 use Rattle.amqp_types.specs.Writing.{written}
 use Rattle.amqp_text.proofs.ReadSteps.{put_whole, short_set, short_unset}

@@ -1,0 +1,5 @@
+use Rattle.amqp_text.proofs.TextLaws.{one_text, one_sequence}
+use Rattle.amqp_text.proofs.laws.bytes_and_texts_correspond.Goals as goal
+
+pub returns : goal.returns
+returns c = record { one_text = one_text; one_sequence = one_sequence }

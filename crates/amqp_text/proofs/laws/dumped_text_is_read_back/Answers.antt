@@ -1,0 +1,5 @@
+use Rattle.amqp_text.proofs.TextLaws.{dumped_back}
+use Rattle.amqp_text.proofs.laws.dumped_text_is_read_back.Goals as goal
+
+pub returns : goal.returns
+returns c = dumped_back

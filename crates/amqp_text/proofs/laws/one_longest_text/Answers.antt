@@ -1,0 +1,5 @@
+use Rattle.amqp_text.proofs.TextLaws.{one_longest}
+use Rattle.amqp_text.proofs.laws.one_longest_text.Goals as goal
+
+pub returns : goal.returns
+returns c = one_longest

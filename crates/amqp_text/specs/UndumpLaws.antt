@@ -1,0 +1,47 @@
+-- Laws of reading lines back.
+use Rattle.std.specs.Prelude.{◌≡◌, ◌≢◌, ◌↔◌, ℕ, List, [], Some, false}
+use Rattle.amqp_types.specs.Levels.{plain, strict}
+use Rattle.amqp_types.specs.Judging.{IsBytes}
+use Rattle.amqp_frame.specs.Frames.{Frame, BadBeat}
+use Rattle.amqp_frame.specs.Fronts.{front}
+use Rattle.amqp_frame.specs.Spelling.{Row}
+use Rattle.amqp_frame.specs.Canonical.{canon, is_deep, is_long}
+use Rattle.amqp_frame.specs.Laws.{IsFrameHeld}
+use Rattle.amqp_text.specs.Dumping.{dumped}
+use Rattle.amqp_text.specs.Laws.{IsStrict}
+use Rattle.amqp_text.specs.Lines.{lines}
+use Rattle.amqp_text.specs.Undumping.{IsLongestText}
+
+-- some bytes begin with one longest text
+pub record IsSameText (fs gs : List Frame) (rest more : List ℕ) : Type 0 where
+  pub frames : fs ≡ gs
+  pub rests : rest ≡ more
+
+abbrev pub OneLongestText : Type 0
+OneLongestText = (m : ℕ) (bytes : List ℕ) (fs gs : List Frame) (rest more : List ℕ) → IsLongestText m bytes fs rest → IsLongestText m bytes gs more → IsSameText fs gs rest more
+
+-- What is dumped of some bytes is a text, to its end that of the frames at the front of the bytes. So their canonical bytes are read back.
+abbrev pub DumpedTextIsReadBack : Type 0
+DumpedTextIsReadBack = (m : ℕ) (bytes : List ℕ) → IsBytes bytes → IsLongestText m (dumped m bytes) (front plain (Some m) bytes) []
+
+-- bytes that encode a sequence of frames strictly within a limit, and its text
+pub record AreBytesAndText (m : ℕ) (bytes text : List ℕ) : Type 0 where
+  pub are_bytes : IsBytes bytes
+  pub frames : List Frame
+  pub is_row : Row strict (Some m) bytes frames
+  pub is_text : text ≡ lines frames
+
+-- they correspond one to one
+pub record CorrespondOneToOne : Type 0 where
+  pub one_text : (m : ℕ) (bytes t u : List ℕ) → AreBytesAndText m bytes t → AreBytesAndText m bytes u → t ≡ u
+  pub one_sequence : (m : ℕ) (b c text : List ℕ) → AreBytesAndText m b text → AreBytesAndText m c text → b ≡ c
+
+-- A frame that programs hold is encoded strictly exactly where it is no heartbeat on channel 0 that does not belong there, and neither too
+-- deep nor long.
+pub record IsUsual (frame : Frame) : Type 0 where
+  pub belongs : frame ≢ BadBeat 0
+  pub not_deep : is_deep frame ≡ false
+  pub not_long : is_long frame ≡ false
+
+abbrev pub StrictFramesAreUsual : Type 0
+StrictFramesAreUsual = (frame : Frame) → IsFrameHeld frame → IsBytes (canon frame) → IsStrict frame ↔ IsUsual frame
