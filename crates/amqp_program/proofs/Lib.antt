@@ -6,5 +6,6 @@ pub mod TextRuns
 pub mod Selections
 pub mod SelectRuns
 pub mod Statuses
+pub mod Owners
 pub mod Numerals
 pub mod MakeRuns

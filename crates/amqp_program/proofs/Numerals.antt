@@ -143,9 +143,10 @@ one_word word wanted h =
     (other_word _ commands.Tidy wanted _ (λ (e : commands.Tidy ≡ wanted). subst IsNumbered (sym e) h)
     (other_word _ commands.Lent wanted _ (λ (e : commands.Lent ≡ wanted). subst IsNumbered (sym e) h)
     (other_word _ commands.Dump wanted _ (λ (e : commands.Dump ≡ wanted). subst IsNumbered (sym e) h)
+    (other_word _ commands.Undump wanted _ (λ (e : commands.Undump ≡ wanted). subst IsNumbered (sym e) h)
     (other_word _ commands.Help wanted _ (λ (e : commands.Help ≡ wanted). subst IsNumbered (sym e) h)
     (other_word _ commands.Version wanted _ (λ (e : commands.Version ≡ wanted). subst IsNumbered (sym e) h)
-    (λ (e : None ≡ Some wanted). cc)))))))
+    (λ (e : None ≡ Some wanted). cc))))))))
 
 -- a size is a number other than 0
 sized : (k n : ℕ) (none : Bool) → (k == 0) ≡ none → (if none then None else Some (commands.Recut k)) ≡ Some (commands.Recut n) → (k ≡ n) × (1 ≤ n)

@@ -1,5 +1,5 @@
 -- Statuses of errors and answers, told apart.
-use Rattle.std.proofs.Common.{◌≡◌, ◌≢◌, ℕ, List, Result, Ok, Err, refl, sym, ap, ◌∙◌, arith}
+use Rattle.std.proofs.Common.{◌≡◌, ◌≢◌, ℕ, ◌<◌, ◌≤◌, List, Result, Ok, Err, refl, sym, ap, ◌∙◌, arith}
 use Rattle.hex.specs.declared.error.FromHexError.{FromHexError}
 use Rattle.amqp_types.specs.Levels.{Level}
 use Rattle.amqp_stream.specs.declared.errors.StreamError.{StreamError}
@@ -16,6 +16,28 @@ not_zero e h = grind arith
 
 pub not_two : (e : StreamError) → stream_error_status e ≢ 2
 not_two e h = grind arith
+
+pub at_most_23 : (e : StreamError) → stream_error_status e ≤ 23
+at_most_23 e = grind arith
+
+pub only_tidy : (e : StreamError) → stream_error_status e ≡ 23 → e ≡ errors.NotTidy
+only_tidy e h = grind arith
+
+not_23 : (e : StreamError) → e ≢ errors.NotTidy → stream_error_status e < 23
+not_23 e other =
+    let most = at_most_23 e in
+    let not : stream_error_status e ≢ 23 = λ h. other (only_tidy e h) in
+    grind (arith, most, not)
+
+-- 23 is the greatest, and that of NotTidy
+pub greatest : (e : StreamError) → 23 ≤ stream_error_status e → (stream_error_status e ≡ 23) × (e ≡ errors.NotTidy)
+greatest e most =
+    let is : stream_error_status e ≡ 23 = omega (arith, at_most_23 e, most) in
+    (is, only_tidy e is)
+
+-- a run at level plain ends below 23
+pub below_23 : (e : StreamError) → (r : Result (Unit {0}) StreamError) → r ≢ Err errors.NotTidy → r ≡ Err e → stream_error_status e < 23
+below_23 e r other is = not_23 e (λ same. other (is ∙ ap Err same))
 
 only_memory : (e : StreamError) → stream_error_status e ≡ 3 → e ≡ errors.NoMemory
 only_memory e h = grind arith

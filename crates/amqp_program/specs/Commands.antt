@@ -19,8 +19,9 @@ command_named word =
     else (if bytes_eq word (codes "tidy") then Some commands.Tidy
     else (if bytes_eq word (codes "lent") then Some commands.Lent
     else (if bytes_eq word (codes "dump") then Some commands.Dump
+    else (if bytes_eq word (codes "undump") then Some commands.Undump
     else (if bytes_eq word (codes "--help") then Some commands.Help
-    else (if bytes_eq word (codes "--version") then Some commands.Version else None))))))
+    else (if bytes_eq word (codes "--version") then Some commands.Version else None)))))))
 
 -- the number that a word names, up to a greatest: the word is how the number is printed
 unfoldable pub number_named : ℕ → List ℕ → Option ℕ
@@ -28,7 +29,7 @@ number_named most word =
     let n = digits_value 10 word in
     if bytes_eq word (decimal n) && nat_le n most then Some n else None
 
--- no number is printed so: a plus stands first, or a zero and more behind it
+-- no number is printed so: a plus stands first, or a zero and more after it
 abbrev pub has_padding : List ℕ → Bool
 has_padding word = (slice_index word 0 == 43) || (nat_lt 1 (length word) && (slice_index word 0 == 48))
 

@@ -1,5 +1,5 @@
 -- What a run of each command does. a is the source before the run and b after it, k and l the sink.
-use Rattle.std.specs.Prelude.{◌≡◌, ◌⊎◌, ℕ, ◌+◌, ◌^◌, ◌<◌, ◌≤◌, List, [], ◌∷◌, ◌++◌, length, Some, Result, Ok, Err}
+use Rattle.std.specs.Prelude.{◌≡◌, ◌⊎◌, ℕ, ◌+◌, ◌^◌, ◌<◌, ◌≤◌, List, [], ◌∷◌, ◌++◌, length, Option, Some, Result, Ok, Err}
 use Rattle.hex.specs.Hex.{decode_of, encode_lower}
 use Rattle.std.specs.Io.BufRead.{strip_last}
 use Rattle.amqp_types.specs.Levels.{Level, plain}
@@ -18,8 +18,14 @@ use Rattle.amqp_recut.specs.Recutting.{Recuts, RecutsExactly, IsComplete}
 use Rattle.amqp_recut.specs.Recutting.{NeverBegan as NeverRecut}
 use Rattle.amqp_text.specs.Lines.{lines}
 use Rattle.amqp_text.specs.Dumping.{Dumps}
+use Rattle.amqp_text.specs.Undumping.{Undumps, UndumpsExactly}
+use Rattle.amqp_text.specs.Undumping.{IsValidText as IsValidLines}
+use Rattle.amqp_text.specs.Errors.{undump_error_status}
+use Rattle.amqp_text.specs.declared.errors.UndumpError.{UndumpError}
 use Rattle.amqp_program.specs.Texts.{longest}
 use Rattle.amqp_program.specs.Reports.{max_payload, report}
+use Rattle.amqp_program.specs.declared.command.Command.{Command}
+use Rattle.amqp_program.specs.declared.command.Command.TheVariants as commands
 
 -- the whole text was taken
 pub record IsWhole (text : List ℕ) (b : Supply) : Type 0 where
@@ -102,6 +108,19 @@ pub record RunsDump (a b : Supply) (k l : Store) (status : ℕ) : Type 0 where
   pub exact : (input : List ℕ) → a.left ≡ Some input → TranscribesExactly lines plain max_payload input k l answer
   pub complete : (input : List ℕ) → a.left ≡ Some input → IsValid plain max_payload raw_turns input → NoFaults a b k l → IsDoneOrNoMemory status
 
+-- the status of an answer of undumping
+abbrev pub undump_status_of : Result (Unit {0}) UndumpError → ℕ
+undump_status_of (Ok done) = 0
+undump_status_of (Err error) = undump_error_status error
+
+-- the canonical bytes of the frames of lines were written
+pub record RunsUndump (a b : Supply) (k l : Store) (status : ℕ) : Type 0 where
+  pub answer : Result (Unit {0}) UndumpError
+  pub status_is : status ≡ undump_status_of answer
+  pub stream : Undumps max_payload raw_turns a b k l answer
+  pub exact : (input : List ℕ) → a.left ≡ Some input → UndumpsExactly max_payload input k l answer
+  pub complete : (input : List ℕ) → a.left ≡ Some input → IsValidLines max_payload raw_turns input → NoFaults a b k l → IsDoneOrNoMemory status
+
 -- the status of an answer of recutting
 abbrev pub recut_status_of : Result (Unit {0}) RecutError → ℕ
 recut_status_of (Ok done) = 0
@@ -120,3 +139,10 @@ pub record Prints (text : List ℕ) (k l : Store) (status : ℕ) : Type 0 where
   pub written : List ℕ
   pub gains : Gains k l written
   pub ends : ((status ≡ 0) × (written ≡ text)) ⊎ ((status ≡ 5) × IsPrefix written text × Rises k.faults l.faults)
+
+-- the statuses from 23 on with which a command may end
+abbrev pub MayEndWith : Option Command → ℕ → Type 0
+MayEndWith (Some commands.Tidy) status = status ≡ 23
+MayEndWith (Some (commands.Recut n)) status = (status ≡ 24) ⊎ (status ≡ 25)
+MayEndWith (Some commands.Undump) status = status ≡ 26
+MayEndWith other status = ⊥

@@ -26,6 +26,9 @@ pub enum Command {
     /// `dump`: writes a line of text for each frame.
     Dump,
 
+    /// `undump`: writes the canonical bytes of the frame of each line.
+    Undump,
+
     /// `recut N`: canonicalizes bytes, and cuts the bodies of messages into bodies of N bytes.
     Recut(u32),
 
@@ -46,7 +49,7 @@ const MAX_FRAMES: u32 = 100_000;
 /// The largest size that bodies are cut into, in bytes.
 const MAX_SIZE: u32 = 131_072;
 
-/// Whether a word begins with a sign, or with a zero and more behind it.
+/// Whether a word begins with a sign, or with a zero and more after it.
 fn is_padded(word: &str) -> bool
     ensures { result ≡ has_padding word.now }
 {
@@ -76,6 +79,7 @@ fn parse_word(word: &str) -> Option<Command>
         "tidy" => Some(Command::Tidy),
         "lent" => Some(Command::Lent),
         "dump" => Some(Command::Dump),
+        "undump" => Some(Command::Undump),
         "--help" => Some(Command::Help),
         "--version" => Some(Command::Version),
         _ => None,

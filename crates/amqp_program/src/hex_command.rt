@@ -1,6 +1,8 @@
 //! The commands over a hex text: `hex`, and `tidy`, which takes tidy frames alone.
 
+ghost use Rattle.std.specs.Prelude.{◌≡◌, ◌≤◌};
 ghost use Rattle.amqp_types.specs.Levels.{level_of};
+ghost use Rattle.amqp_stream.specs.Writing.{AsksTidy};
 ghost use Rattle.amqp_program.specs.Runs.{RunsHex};
 
 use crate::report::report_of;
@@ -17,7 +19,8 @@ pub fn run_hex<S: Source, K: Sink>(
     source: &mut S,
     sink: &mut K,
 ) -> u8
-    ensures { RunsHex (level_of profile) (S.supply source.old) (S.supply source.new) (K.store sink.old) (K.store sink.new) result }
+    ensures report { RunsHex (level_of profile) (S.supply source.old) (S.supply source.new) (K.store sink.old) (K.store sink.new) result }
+    ensures few { 23 ≤ result → (result ≡ 23) × AsksTidy (level_of profile) }
 {
     let text = match read_text(alloc, source) {
         Ok(text) => text,

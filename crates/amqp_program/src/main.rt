@@ -1,4 +1,4 @@
-//! Canonicalizes AMQP 0-9-1 frames: what is read is written in its one canonical spelling.
+//! Canonicalizes AMQP 0-9-1 frames: what is read is written in its one canonical encoding.
 #![tactic(auto)]
 
 mod command;
@@ -12,6 +12,7 @@ mod report;
 mod run;
 mod select_command;
 mod text;
+mod undump_command;
 
 use amqp_stream::{StdSink, StdSource};
 use run::run;

@@ -1,3 +1,5 @@
+//! Makes frames, and prints how many bytes they have.
+
 ghost use Rattle.std.specs.Prelude.{◌≡◌, ◌≤◌, IfOk, string_bytes};
 ghost use Rattle.amqp_stream.specs.Made.{most_frames};
 ghost use Rattle.amqp_program.specs.Makes.{bytes_read, bytes_written, make_text, RunsMake};
@@ -54,7 +56,8 @@ fn line_of(alloc: Global, frames: u32) -> Result<String, NoMemory>
 /// line is made whole before it is written.
 pub fn run_make<K: Sink>(alloc: Global, frames: u32, sink: &mut K) -> u8
     requires { frames ≤ most_frames }
-    ensures { RunsMake frames (K.store sink.old) (K.store sink.new) result }
+    ensures run { RunsMake frames (K.store sink.old) (K.store sink.new) result }
+    ensures few { result ≤ 5 }
 {
     let Ok(line) = line_of(alloc, frames) else {
         return 3;

@@ -1,3 +1,6 @@
+//! What is printed for `--help` and `--version`.
+
+ghost use Rattle.std.specs.Prelude.{◌≤◌};
 ghost use Rattle.amqp_program.specs.Runs.{Prints};
 
 use amqp_stream::{Sink, write_all};
@@ -7,12 +10,13 @@ pub const HELP: &str = "feksroum: reads AMQP 0-9-1 frames and writes their canon
 
   feksroum hex        reads a hex text, and prints the canonical bytes of the frames in
                       front in hex; a fault is named on a line of its own
-  feksroum raw        reads bytes, and writes canonical bytes as it reads; a fault is told
+  feksroum raw        reads bytes, and writes canonical bytes as it reads; a fault is said
                       by the status alone
-  feksroum tidy       as hex, and takes tidy frames alone: those in which all that reading
+  feksroum tidy       as hex, and takes tidy frames alone: those in which all that decoding
                       drops stands as it is written
   feksroum lent       as raw, by borrowed frames: memory is taken before the first read alone
   feksroum dump       reads bytes, and writes a line of text for each frame
+  feksroum undump     reads such lines, and writes the canonical bytes of their frames
   feksroum select RULE..
                       as raw, and writes the frames alone for which the first rule that
                       matches says keep: 1 to 64 rules, each keep or drop and then any of
@@ -26,11 +30,12 @@ pub const HELP: &str = "feksroum: reads AMQP 0-9-1 frames and writes their canon
   feksroum --version  prints the version
 
 The status is 0 where all of the input was frames. Others: 1 words that cannot be had,
-2 other words, 3 want of memory, 4 a read failed, 5 a write failed, 6 more than 16777216
+2 other words, 3 out of memory, 4 a read failed, 5 a write failed, 6 more than 16777216
 bytes of text, 7 BadHex, 10 UnknownFrameType, 11 BadProtocolHeader, 12 TooLarge (a payload
 above 131072 bytes), 13 BadFrameEnd, 14 UnknownClass, 15 UnknownMethod, 16 ShortPayload,
 17 TrailingBytes, 18 NotUtf8, 19 UnknownTag, 20 TooDeep, 21 CutShort, 22 TurnsSpent, 23 NotTidy,
-24 BadContent (a frame that is not in turn on its channel), 25 OpenContent (the input ends in a message).
+24 BadContent (a frame that is not in turn on its channel), 25 OpenContent (the input ends in a
+message), 26 BadText (a line that is no frame's).
 ";
 
 /// The version.
@@ -38,7 +43,8 @@ pub const VERSION: &str = "feksroum 0.1.0\n";
 
 /// Prints a text, and nothing else.
 pub fn print<K: Sink>(sink: &mut K, text: &str) -> u8
-    ensures { Prints text.now (K.store sink.old) (K.store sink.new) result }
+    ensures printed { Prints text.now (K.store sink.old) (K.store sink.new) result }
+    ensures few { result ≤ 5 }
 {
     match write_all(sink, text.as_bytes()) {
         Ok(()) => 0,

@@ -1,9 +1,10 @@
 //! What a command prints for a text, made whole before it is written.
 
-ghost use Rattle.std.specs.Prelude.{◌≡◌, ◌≢◌, ◌++◌, ◌∷◌, [], Err, IfOk};
+ghost use Rattle.std.specs.Prelude.{◌≡◌, ◌≢◌, ◌≤◌, ◌++◌, ◌∷◌, [], Err, IfOk};
 ghost use Rattle.amqp_types.specs.Levels.{level_of};
 ghost use Rattle.amqp_frame.specs.Canonical.{canon_row};
 ghost use Rattle.amqp_stream.specs.Transcribing.{IsAnswerTo};
+ghost use Rattle.amqp_stream.specs.Writing.{AsksTidy};
 ghost use Rattle.amqp_program.specs.Reports.{max_payload, printed_of, printed, report, report_at};
 ghost use Rattle.hex.specs.Hex.{encode_lower};
 
@@ -29,6 +30,7 @@ fn canonical(
 ) -> Result<(VecSink, Result<(), StreamError>), NoMemory>
     ensures answer { IfOk result (λ r. IsAnswerTo canon_row (level_of profile) max_payload bytes.now r.0.bytes r.1) }
     ensures memory { IfOk result (λ r. r.1 ≢ Err StreamError.NoMemory) }
+    ensures untidy { IfOk result (λ r. r.1 ≡ Err StreamError.NotTidy → AsksTidy (level_of profile)) }
 {
     let mut source = SliceSource::new(bytes);
     let mut sink = VecSink::new(alloc);
@@ -39,8 +41,14 @@ fn canonical(
 }
 
 /// The lower-case hex of what was written, and then the name of what ended it.
-fn told(alloc: Global, written: &[u8], answer: Result<(), StreamError>) -> Result<Report, NoMemory>
-    ensures { IfOk result (λ r. printed_of r ≡ printed (encode_lower written.now ++ 10 ∷ []) answer) }
+#[tactic(auto, using(crate::proofs::Statuses::greatest))]
+fn report_with(
+    alloc: Global,
+    written: &[u8],
+    answer: Result<(), StreamError>,
+) -> Result<Report, NoMemory>
+    ensures printed { IfOk result (λ r. printed_of r ≡ printed (encode_lower written.now ++ 10 ∷ []) answer) }
+    ensures few { IfOk result (λ r. 23 ≤ r.status → (r.status ≡ 23) × (answer ≡ Err StreamError.NotTidy)) }
 {
     let digits = hex::encode(alloc, written)?;
     let mut text = Vec::from_slice(alloc, digits.as_bytes())?;
@@ -61,20 +69,22 @@ fn told(alloc: Global, written: &[u8], answer: Result<(), StreamError>) -> Resul
 /// The report on decoded bytes.
 #[tactic(auto, unfolding(crate::specs::Reports::report_at))]
 fn report_on(alloc: Global, profile: Profile, bytes: &[u8]) -> Result<Report, NoMemory>
-    ensures { IfOk result (λ r. printed_of r ≡ report_at (level_of profile) bytes.now) }
+    ensures report { IfOk result (λ r. printed_of r ≡ report_at (level_of profile) bytes.now) }
+    ensures few { IfOk result (λ r. 23 ≤ r.status → (r.status ≡ 23) × AsksTidy (level_of profile)) }
 {
     let (sink, answer) = canonical(alloc, profile, bytes)?;
     match answer {
         Err(StreamError::WriteFault) => Err(NoMemory),
         Err(StreamError::ReadFault) => Err(NoMemory),
         Err(StreamError::TurnsSpent) => Err(NoMemory),
-        answer => told(alloc, sink.bytes(), answer),
+        answer => report_with(alloc, sink.bytes(), answer),
     }
 }
 
 /// The report on a hex text, read in a profile.
 pub fn report_of(alloc: Global, profile: Profile, text: &[u8]) -> Result<Report, NoMemory>
-    ensures { IfOk result (λ r. printed_of r ≡ report (level_of profile) text.now) }
+    ensures report { IfOk result (λ r. printed_of r ≡ report (level_of profile) text.now) }
+    ensures few { IfOk result (λ r. 23 ≤ r.status → (r.status ≡ 23) × AsksTidy (level_of profile)) }
 {
     let digits = match text {
         [digits @ .., 10] => digits,

@@ -1,12 +1,12 @@
 //! What the program does for each form of words.
 
-ghost use Rattle.std.specs.Prelude.{◌≡◌, ◌↔◌, ℕ, List, Some};
+ghost use Rattle.std.specs.Prelude.{◌≡◌, ◌↔◌, ◌≤◌, ℕ, List, Some};
 ghost use Rattle.amqp_types.specs.Levels.{plain, tidy};
 ghost use Rattle.amqp_select.specs.declared.rule.Rule.{Rule};
 ghost use Rattle.amqp_select.specs.Refusals.{texts_of};
 ghost use Rattle.amqp_program.specs.Commands.{command_of, IsNoForm, IsSelection};
 ghost use Rattle.amqp_program.specs.Makes.{RunsMake};
-ghost use Rattle.amqp_program.specs.Runs.{RunsDump, RunsHex, RunsRaw, RunsRecut, RunsSelect, Prints};
+ghost use Rattle.amqp_program.specs.Runs.{RunsDump, RunsHex, RunsRaw, RunsRecut, RunsSelect, RunsUndump, Prints, MayEndWith};
 
 use crate::command::{Command, parse_command, rules_of};
 use crate::dump_command::run_dump;
@@ -16,13 +16,13 @@ use crate::print_command::{HELP, VERSION, print};
 use crate::raw_command::{run_lent, run_raw};
 use crate::recut_command::run_recut;
 use crate::select_command::run_select;
+use crate::undump_command::run_undump;
 use amqp_stream::{Sink, Source};
 use amqp_types::Profile;
 use std::alloc::Global;
 
-/// Does all that the program does, and answers its exit status. The words are those after the
-/// program's name.
-#[tactic(auto, using(crate::proofs::HexRuns::hex_not_two, crate::proofs::RawRuns::raw_not_two))]
+/// Does all that the program does, and returns its exit status. The words are those after the program's name.
+#[tactic(auto, using(crate::proofs::HexRuns::hex_not_two, crate::proofs::RawRuns::raw_not_two, crate::proofs::Owners::owns_none, crate::proofs::Owners::owns))]
 pub fn run<S: Source, K: Sink>(alloc: Global, words: &[String], source: &mut S, sink: &mut K) -> u8
     ensures hex { command_of (texts_of words.now) ≡ Some Command.Hex
         → RunsHex plain (S.supply source.old) (S.supply source.new) (K.store sink.old) (K.store sink.new) result }
@@ -36,6 +36,8 @@ pub fn run<S: Source, K: Sink>(alloc: Global, words: &[String], source: &mut S, 
         → RunsMake n (K.store sink.old) (K.store sink.new) result × (source.new ≡ source.old) }
     ensures dump { command_of (texts_of words.now) ≡ Some Command.Dump
         → RunsDump (S.supply source.old) (S.supply source.new) (K.store sink.old) (K.store sink.new) result }
+    ensures undump { command_of (texts_of words.now) ≡ Some Command.Undump
+        → RunsUndump (S.supply source.old) (S.supply source.new) (K.store sink.old) (K.store sink.new) result }
     ensures recut { (n : ℕ) → command_of (texts_of words.now) ≡ Some (Command.Recut n)
         → RunsRecut n (S.supply source.old) (S.supply source.new) (K.store sink.old) (K.store sink.new) result }
     ensures select { (rules : List Rule) → IsSelection (texts_of words.now) rules
@@ -44,6 +46,9 @@ pub fn run<S: Source, K: Sink>(alloc: Global, words: &[String], source: &mut S, 
         → Prints HELP.now (K.store sink.old) (K.store sink.new) result × (source.new ≡ source.old) }
     ensures version { command_of (texts_of words.now) ≡ Some Command.Version
         → Prints VERSION.now (K.store sink.old) (K.store sink.new) result × (source.new ≡ source.old) }
+
+    // NotTidy, BadContent, OpenContent and BadText are each of one command.
+    ensures own { 23 ≤ result → MayEndWith (command_of (texts_of words.now)) result }
 
     // Words that are none of the forms, and only they, end with 2. Nothing is read or written.
     ensures usage { (result ≡ 2) ↔ IsNoForm (texts_of words.now) }
@@ -58,6 +63,7 @@ pub fn run<S: Source, K: Sink>(alloc: Global, words: &[String], source: &mut S, 
         Some(Command::Raw) => run_raw(alloc, source, sink),
         Some(Command::Lent) => run_lent(alloc, source, sink),
         Some(Command::Dump) => run_dump(alloc, source, sink),
+        Some(Command::Undump) => run_undump(alloc, source, sink),
         Some(Command::Recut(size)) => run_recut(alloc, size, source, sink),
         Some(Command::Make(frames)) => run_make(alloc, frames, sink),
         Some(Command::Help) => print(sink, HELP),

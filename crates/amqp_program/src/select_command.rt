@@ -1,6 +1,6 @@
 //! Writes the frames of a stream that rules keep.
 
-ghost use Rattle.std.specs.Prelude.{◌≡◌, ◌↔◌, List};
+ghost use Rattle.std.specs.Prelude.{◌≡◌, ◌↔◌, ◌<◌, List};
 ghost use Rattle.amqp_select.specs.declared.rule.Rule.{Rule};
 ghost use Rattle.amqp_select.specs.Refusals.{Spell, texts_of};
 ghost use Rattle.amqp_program.specs.Runs.{RunsSelect};
@@ -11,10 +11,11 @@ use amqp_select::{RuleError, Rules, select};
 use amqp_stream::{Sink, Source};
 use std::alloc::Global;
 
-/// Writes the canonical bytes of the frames that rules keep, and tells a fault by the status alone.
-#[tactic(auto, using(crate::proofs::SelectRuns::select_runs))]
+/// Writes the canonical bytes of the frames that rules keep, and reports a fault by the status alone.
+#[tactic(auto, using(crate::proofs::SelectRuns::select_runs, crate::proofs::Statuses::below_23))]
 fn run_rules<S: Source, K: Sink>(alloc: Global, rules: &Rules, source: &mut S, sink: &mut K) -> u8
-    ensures { RunsSelect rules.now (S.supply source.old) (S.supply source.new) (K.store sink.old) (K.store sink.new) result }
+    ensures run { RunsSelect rules.now (S.supply source.old) (S.supply source.new) (K.store sink.old) (K.store sink.new) result }
+    ensures few { result < 23 }
 {
     match select(alloc, rules, source, sink, MAX_PAYLOAD, RAW_TURNS) {
         Ok(()) => 0,
@@ -31,6 +32,7 @@ pub fn run_select<S: Source, K: Sink>(
 ) -> u8
     ensures rules { (rules : List Rule) → Spell (texts_of words.now) rules
         → RunsSelect rules (S.supply source.old) (S.supply source.new) (K.store sink.old) (K.store sink.new) result }
+    ensures few { result < 23 }
     ensures usage { (result ≡ 2) ↔ ((rules : List Rule) → ¬ Spell (texts_of words.now) rules) }
     ensures nothing { result ≡ 2 → (source.new ≡ source.old) × (sink.new ≡ sink.old) }
 {

@@ -1,4 +1,4 @@
-//! The words `dump`: the lines of frames, and how it ends.
+//! The words `dump` and `undump`: lines of frames, frames of lines, and how each ends.
 
 use super::*;
 use crate::tests::{MESSAGE, ran};
@@ -42,6 +42,39 @@ fn frames_are_lines(rt: HostRuntime) -> Result<(), Fail> {
             let found = ran(rt.alloc(), &["dump"], input, pieces)?;
             assert_eq!(rt; found.0, status);
             assert_eq!(rt; found.1.as_slice(), lines.as_bytes());
+        }
+    }
+    Ok(())
+}
+
+/// Text, the bytes of its frames, and the status.
+const TEXTS: [(&str, &[u8], u8); 9] = [
+    (
+        "method 1 60.40 \"\" \"hello\" --\nheader 1 60 5 content_type=\"text/plain\" delivery_mode=2\nbody 1 x68656c6c6f\n",
+        &MESSAGE,
+        0,
+    ),
+    ("method 1 50.10 \"some_queue\" +++++ {}\n", &DECLARE, 0),
+    ("", &[], 0),
+    ("beat 0\n", &[], 26),
+    ("method 1 50.10 \"q\" ----- {\"b\"=V,\"a\"=V}\n", &[], 26),
+    ("beat\nbeat", &[8, 0, 0, 0, 0, 0, 0, 206], 21),
+    ("beat\n\nbeat\n", &[8, 0, 0, 0, 0, 0, 0, 206], 26),
+    ("beat\nbody 1 x6G\n", &[8, 0, 0, 0, 0, 0, 0, 206], 26),
+    (
+        "proto 0.9.1\nbody 1 x4\n",
+        &[65, 77, 81, 80, 0, 0, 9, 1],
+        26,
+    ),
+];
+
+#[test]
+fn lines_are_frames(rt: HostRuntime) -> Result<(), Fail> {
+    for (text, bytes, status) in TEXTS {
+        for pieces in [[].as_slice(), [1; 200].as_slice()] {
+            let found = ran(rt.alloc(), &["undump"], text.as_bytes(), pieces)?;
+            assert_eq!(rt; found.0, status);
+            assert_eq!(rt; found.1.as_slice(), bytes);
         }
     }
     Ok(())

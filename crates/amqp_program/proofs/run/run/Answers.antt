@@ -10,12 +10,12 @@ use Rattle.amqp_program.proofs.run.run.Goals as goal
 pub returns-in-Some-Hex-clause-usage : goal.returns-in-Some-Hex-clause-usage
 returns-in-Some-Hex-clause-usage g c =
     let named : command_of (texts_of c.args.words.now) ≡ Some commands.Hex = search rules in
-    (λ e. absurd (hex_not_two _ _ _ _ _ _ c.run_hex.ensures e), λ e. absurd (let same = sym named ∙ e.no_command in cc))
+    (λ e. absurd (hex_not_two _ _ _ _ _ _ c.run_hex.ensures.report e), λ e. absurd (let same = sym named ∙ e.no_command in cc))
 
 pub returns-in-Some-Tidy-clause-usage : goal.returns-in-Some-Tidy-clause-usage
 returns-in-Some-Tidy-clause-usage g c =
     let named : command_of (texts_of c.args.words.now) ≡ Some commands.Tidy = search rules in
-    (λ e. absurd (hex_not_two _ _ _ _ _ _ c.run_hex-in-Some-Tidy.ensures e), λ e. absurd (let same = sym named ∙ e.no_command in cc))
+    (λ e. absurd (hex_not_two _ _ _ _ _ _ c.run_hex-in-Some-Tidy.ensures.report e), λ e. absurd (let same = sym named ∙ e.no_command in cc))
 
 pub run_recut-requires : goal.run_recut-requires
 run_recut-requires g c =
