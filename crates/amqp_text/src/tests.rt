@@ -1,8 +1,11 @@
 //! Frames and their lines as tables, and the calls where reads, writes and memory fail.
 
-use crate::{dump, gen_line, lines_have_one_newline};
-use amqp_canonical::bytes_from;
-use amqp_frame::{AMQPFrame, GenError, parse_frame};
+use crate::{
+    bytes_and_texts_correspond, dump, dumped_text_is_read_back, equal_lines_are_equal_frames,
+    equal_texts_are_equal_sequences, gen_line, lines_have_one_newline, one_longest_text,
+    strict_frames_are_usual,
+};
+use amqp_frame::{AMQPFrame, GenError};
 use amqp_stream::{PieceSource, ScriptSink, StreamError, VecSink};
 use std::alloc::Global;
 use std::test::Fail;
@@ -112,32 +115,6 @@ fn frames_are_dumped_as_lines(rt: HostRuntime) -> Result<(), Fail> {
     Ok(())
 }
 
-/// The lines of frames that are read as typed ones.
-fn typed_lines(alloc: Global, input: &[u8]) -> Result<Vec<u8>, Fail> {
-    let mut lines = Vec::new(alloc);
-    let mut rest = input;
-    for _ in 0..input.len() {
-        if rest.is_empty() {
-            break;
-        }
-        let (used, frame) = parse_frame(alloc, rest)?;
-        gen_line(alloc, &mut lines, &frame)?;
-        rest = bytes_from(rest, used);
-    }
-    Ok(lines)
-}
-
-#[test]
-fn typed_frames_have_the_same_lines(rt: HostRuntime) -> Result<(), Fail> {
-    lines_have_one_newline();
-    let alloc = rt.alloc();
-    for (input, lines) in ROWS {
-        let found = typed_lines(alloc, input)?;
-        assert_eq!(rt; found.as_slice(), lines.as_bytes());
-    }
-    Ok(())
-}
-
 #[test]
 fn a_bad_heartbeat_on_channel_0_is_a_heartbeat(rt: HostRuntime) -> Result<(), Fail> {
     let mut lines = Vec::new(rt.alloc());
@@ -192,16 +169,29 @@ fn lines_before_a_failed_read_are_written(rt: HostRuntime) -> Result<(), Fail> {
     Ok(())
 }
 
+/// How a dump of the message ends, and what it has written, where its sink takes one byte a write and these writes fail.
+fn dumped_until(
+    alloc: Global,
+    failing: &[u64],
+) -> Result<(Result<(), StreamError>, Vec<u8>), Fail> {
+    let mut source = PieceSource::new(&MESSAGE, &[], &[]);
+    let mut sink = ScriptSink::new(alloc, &ONES, failing);
+    let found = dump(alloc, &mut source, &mut sink, LIMIT, 200);
+    Ok((found, Vec::from_slice(alloc, sink.bytes())?))
+}
+
+/// The write that fails, and how many bytes are written before it.
+const FAILED_WRITES: [(&[u64], usize); 4] = [(&[0], 0), (&[1], 1), (&[29], 29), (&[103], 103)];
+
 #[test]
 fn a_failed_write_leaves_a_front(rt: HostRuntime) -> Result<(), Fail> {
-    let alloc = rt.alloc();
-    for write in 0..MESSAGE_LINES.len() {
-        let failing = [write as u64];
-        let mut source = PieceSource::new(&MESSAGE, &[], &[]);
-        let mut sink = ScriptSink::new(alloc, &ONES, &failing);
-        let found = dump(alloc, &mut source, &mut sink, LIMIT, 200);
+    for (failing, count) in FAILED_WRITES {
+        let (found, written) = dumped_until(rt.alloc(), failing)?;
         assert_eq!(rt; found, Err(StreamError::WriteFault));
-        assert_eq!(rt; Some(sink.bytes()), MESSAGE_LINES.as_bytes().get(..write));
+        assert_eq!(rt;
+            Some(written.as_slice()),
+            MESSAGE_LINES.as_bytes().get(..count)
+        );
     }
     Ok(())
 }
@@ -250,4 +240,15 @@ fn refused_memory_leaves_a_vector(rt: HostRuntime) {
             }
         }
     }
+}
+
+#[test]
+fn laws_are_called() {
+    lines_have_one_newline();
+    equal_lines_are_equal_frames();
+    equal_texts_are_equal_sequences();
+    one_longest_text();
+    dumped_text_is_read_back();
+    bytes_and_texts_correspond();
+    strict_frames_are_usual();
 }

@@ -3,6 +3,7 @@
 use crate::tests::{LIMIT, MESSAGE, MESSAGE_LINES, ONES};
 use crate::{UndumpError, undump};
 use amqp_stream::{PieceSource, ScriptSink, VecSink};
+use std::alloc::Global;
 use std::test::Fail;
 
 /// The bytes of a heartbeat.
@@ -80,16 +81,26 @@ fn frames_before_a_failed_read_are_written(rt: HostRuntime) -> Result<(), Fail> 
     Ok(())
 }
 
+/// How reading the message back ends, and what it has written, where its sink takes one byte a write and these writes fail.
+fn undumped_until(
+    alloc: Global,
+    failing: &[u64],
+) -> Result<(Result<(), UndumpError>, Vec<u8>), Fail> {
+    let mut source = PieceSource::new(MESSAGE_LINES.as_bytes(), &[], &[]);
+    let mut sink = ScriptSink::new(alloc, &ONES, failing);
+    let found = undump(alloc, &mut source, &mut sink, LIMIT, 200);
+    Ok((found, Vec::from_slice(alloc, sink.bytes())?))
+}
+
+/// The write that fails, and how many bytes are written before it.
+const FAILED_WRITES: [(&[u64], usize); 4] = [(&[0], 0), (&[1], 1), (&[22], 22), (&[68], 68)];
+
 #[test]
 fn a_failed_write_leaves_a_front_of_frames(rt: HostRuntime) -> Result<(), Fail> {
-    let alloc = rt.alloc();
-    for write in 0..MESSAGE.len() {
-        let failing = [write as u64];
-        let mut source = PieceSource::new(MESSAGE_LINES.as_bytes(), &[], &[]);
-        let mut sink = ScriptSink::new(alloc, &ONES, &failing);
-        let found = undump(alloc, &mut source, &mut sink, LIMIT, 200);
+    for (failing, count) in FAILED_WRITES {
+        let (found, written) = undumped_until(rt.alloc(), failing)?;
         assert_eq!(rt; found, Err(UndumpError::WriteFault));
-        assert_eq!(rt; Some(sink.bytes()), MESSAGE.as_slice().get(..write));
+        assert_eq!(rt; Some(written.as_slice()), MESSAGE.as_slice().get(..count));
     }
     Ok(())
 }
