@@ -6,7 +6,6 @@ pub mod SlotsBack
 pub mod Lining
 pub mod Borrowed
 pub mod Dumps
-pub mod Holding
 pub mod Generated
 pub mod Newlines
 pub mod ReadWords

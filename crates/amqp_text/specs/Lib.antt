@@ -8,7 +8,6 @@ pub mod LineTexts
 pub mod OneLine
 pub mod Dumping
 pub mod Undumping
-pub mod Typed
 pub mod Laws
 pub mod UndumpLaws
 pub mod Errors

@@ -6,10 +6,9 @@ ghost use Rattle.amqp_frame.specs.Frames.{frame_of};
 ghost use Rattle.amqp_text.specs.LineTexts.{AppendsLine};
 ghost use Rattle.amqp_text.specs.Lines.{line};
 
-use crate::held::frame_held;
 use crate::line_text::payload_in;
 use crate::lines::write_line;
-use amqp_frame::{AMQPFrame, gen_frame};
+use amqp_frame::{AMQPFrame, frame_held, gen_frame};
 use amqp_types::{GenError, append_bytes};
 use std::alloc::Global;
 

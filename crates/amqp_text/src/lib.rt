@@ -4,7 +4,6 @@
 mod dumping;
 mod errors;
 mod generation;
-mod held;
 mod laws;
 mod line_reading;
 mod line_text;
