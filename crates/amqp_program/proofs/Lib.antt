@@ -1,5 +1,6 @@
 pub mod TextReading
 pub mod HexRuns
+pub mod HexApart
 pub mod RawRuns
 pub mod RecutRuns
 pub mod TextRuns

@@ -3,3 +3,4 @@ pub mod Texts
 pub mod Reports
 pub mod Runs
 pub mod Makes
+pub mod HexLaws

@@ -76,11 +76,14 @@ status_of (Err error) = stream_error_status error
 abbrev pub raw_turns : ℕ
 raw_turns = 2 ^ 40
 
--- where a run ended with 0, all that was taken is a row of frames, none is left, and their canonical bytes were written
-pub record AcceptsRaw (b : Supply) (taken written : List ℕ) : Type 0 where
-  pub row : IsRow plain max_payload taken
+-- where a run ended with 0, all that was taken is a sequence of frames, none is left, and their canonical bytes were written
+pub record AcceptsRaw (a b : Supply) (k l : Store) : Type 0 where
+  pub taken : List ℕ
+  pub reads : ℕ
+  pub takes : Takes a b taken reads
   pub end : IsEmpty b.left
-  pub canonical : written ≡ canon_of plain max_payload taken
+  pub row : IsRow plain max_payload taken
+  pub canonical : Gains k l (canon_of plain max_payload taken)
 
 pub record RunsRaw (a b : Supply) (k l : Store) (status : ℕ) : Type 0 where
   pub answer : Result (Unit {0}) StreamError
@@ -88,6 +91,7 @@ pub record RunsRaw (a b : Supply) (k l : Store) (status : ℕ) : Type 0 where
   pub stream : Canonicalizes plain max_payload raw_turns a b k l answer ⊎ NeverBegan a b k l answer
   pub memory : answer ≡ Err errors.NoMemory → NeverBegan a b k l answer
   pub no_memory : status ≡ 3 → NeverBegan a b k l answer
+  pub accepts : status ≡ 0 → AcceptsRaw a b k l
   pub exact : (input : List ℕ) → a.left ≡ Some input → AnswersExactly plain max_payload input k l answer
   pub complete : (input : List ℕ) → a.left ≡ Some input → IsValid plain max_payload raw_turns input → NoFaults a b k l → IsDoneOrNoMemory status
 

@@ -4,6 +4,7 @@
 mod command;
 mod dump_command;
 mod hex_command;
+mod laws;
 mod make_command;
 mod print_command;
 mod raw_command;
