@@ -1,7 +1,8 @@
 /* Feksroum: the wire layer of AMQP 0-9-1, for C and C++.
  *
- * Bytes in, bytes out. No function takes memory, calls back, reads or writes anything but what it is given, or keeps
- * anything between two calls. So any number of threads may call at once, with nothing to set up or to free.
+ * Bytes in, bytes out. No function calls back, reads or writes anything but what it is given, or keeps anything between two
+ * calls. So any number of threads may call at once, with nothing to set up or to free. No function takes memory but
+ * feksroum_dump and feksroum_undump, which take it from malloc and free it before they return.
  *
  * A frame is a protocol header, a method, a content header, a body or a heartbeat. It is read at a level:
  *
@@ -13,17 +14,18 @@
  *
  * Arguments
  *
- *   A pointer to bytes comes with their length, in bytes. Both belong together: so many bytes have to be there, and they
- *   have to stay as they are until the call returns. Where the length is 0 the pointer may be NULL. A buffer that is
- *   written must not overlap the bytes that are read. Nothing else is asked of a caller: all other arguments are tested.
- *   No pointer is kept after a call.
+ *   A pointer comes with a length: of bytes in bytes, of marks in marks. Both belong together: so much has to be there, and
+ *   it has to stay as it is until the call returns. Where the length is 0 the pointer may be NULL. A buffer or a scratch
+ *   that is written must overlap nothing else that is passed. Nothing else is asked of a caller: all other arguments are
+ *   tested. No pointer is kept after a call.
  *
  *   max_payload is the longest payload that is accepted, in bytes, without the 8 bytes around it. The program uses
  *   131072. It does not hold for protocol headers, which have 8 bytes in all.
  *
  * Stack: a call takes at most about 40 KiB of it, however large a frame is.
- * Time: linear in the bytes, but for tables of more than 256 entries that stand in no order, which take time quadratic in
- * the number of their entries. The README beside the bindings has numbers.
+ * Time: linear in the bytes, but for tables whose entries stand in no order. Those are sorted, in time n log n for n entries,
+ * where feksroum_canonicalize is lent a scratch (feksroum_scratch says how long); without one a table of more than 256
+ * entries takes time quadratic in their number. The README beside the bindings has numbers.
  */
 #ifndef FEKSROUM_H
 #define FEKSROUM_H
@@ -38,12 +40,14 @@
 extern "C" {
 #endif
 
-/* Statuses. They are the exit statuses of the program, and two that only calls have. feksroum_name tells their names. */
+/* Statuses. They are the exit statuses of the program, and two that only calls have. feksroum_name has their names. */
 enum {
     FEKSROUM_OK = 0,
 
-    /* Of streams, for callers that read and write: no function here returns these. */
+    /* Out of memory. Of the functions here, only feksroum_dump and feksroum_undump return it. */
     FEKSROUM_NO_MEMORY = 3,
+
+    /* Of streams, for callers that read and write: no function here returns these. */
     FEKSROUM_READ_FAULT = 4,
     FEKSROUM_WRITE_FAULT = 5,
 
@@ -71,8 +75,11 @@ enum {
     /* At level tidy: a frame that can be read and is not tidy. */
     FEKSROUM_NOT_TIDY = 23,
 
+    /* Of text: a line that is the line of no frame. */
+    FEKSROUM_BAD_TEXT = 26,
+
     /* Of calls. */
-    FEKSROUM_BUFFER_TOO_SMALL = 40, /* the buffer is shorter than the bytes */
+    FEKSROUM_BUFFER_TOO_SMALL = 40, /* the buffer is too short for what is written */
     FEKSROUM_BAD_ARGUMENT = 41 /* the level is none */
 };
 
@@ -94,6 +101,16 @@ enum {
 /* How long the name of a status is at most. */
 #define FEKSROUM_NAME_MAX 17
 
+/* A mark of an entry of a table: 16 bytes of scratch, aligned to 8. What it holds means nothing before or after a call. */
+typedef struct feksroum_mark {
+    uint64_t numbers[2];
+} feksroum_mark;
+
+/* How many marks of scratch are enough for the tables in so many bytes: half of that number, since each entry of a table has
+ * two bytes at least. More marks than feksroum_scratch(max_payload) are of no use, since a table lies in one payload: with
+ * the limit of 131072 bytes those take 1 MiB. */
+size_t feksroum_scratch(size_t length);
+
 /* The frame in front of some bytes. Where there is none, all but status is 0. */
 typedef struct feksroum_frame {
     size_t used; /* how many bytes the whole frame has */
@@ -105,7 +122,7 @@ typedef struct feksroum_frame {
 } feksroum_frame;
 
 /* Scans the header of the frame in front: its type and channel, where its payload lies, how many bytes it uses. The payload
- * is not looked into.
+ * is not decoded.
  *
  * status: 0 where a whole frame is in front; 21 where the bytes end inside one, or there are none; else its fault, 10 to
  * 13. A frame or a fault stays the same, whatever bytes follow. */
@@ -138,6 +155,10 @@ typedef struct feksroum_progress {
 /* Writes the canonical bytes of the whole frames in front into `out`, which has to be at least as long as the bytes. What
  * comes after the bytes written is left as it was.
  *
+ * scratch: where entries of tables in no order are sorted, of any length in marks, also NULL and 0. Only the time depends on
+ * it: a call uses it where it is longer than the 256 marks that it has on the stack. One scratch serves any number of
+ * calls, one after another.
+ *
  * status: 0 where nothing follows these frames; 21 where the bytes end inside the next one; else the fault of what
  * follows. The frames before a fault are used and written all the same.
  * 40 where `out` is shorter than the bytes, and 41 where the level is none: nothing is used or written.
@@ -146,13 +167,35 @@ typedef struct feksroum_progress {
  * written, what is left and the last status are then those of one call with all the bytes. A fault stays, whatever follows.
  * At most max_payload + 7 bytes are ever left at status 21, so max_payload + 8 bytes of room never fill up. */
 feksroum_progress feksroum_canonicalize(const uint8_t *bytes, size_t length, uint8_t *out, size_t out_length,
-                                        uint32_t max_payload, uint8_t level);
+                                        feksroum_mark *scratch, size_t scratch_length, uint32_t max_payload, uint8_t level);
+
+/* One frame and its line, of which one was read and the other written. Where neither was, all but status is 0. */
+typedef struct feksroum_line {
+    size_t used; /* how many bytes of what was given the frame, or its line, has */
+    size_t length; /* how many bytes the other one has: those that are written, or at status 40 those that `out` needs */
+    uint8_t status; /* 0, 3, 26, 40, or 10 to 21 */
+} feksroum_line;
+
+/* Writes the line of the frame in front, as `body 1 x6869`, into `out`. The line is ASCII and ends with a newline; no 0 byte
+ * follows it. What comes after it is left as it was. Two frames have equal lines only where they have equal canonical bytes.
+ * docs/FORMAT.md has the grammar.
+ *
+ * status: 0 where the line is written; 40 where `out` is shorter than `length`, which is then what it needs, and nothing is
+ * written; 3 where memory ran out; 21 where the bytes end inside a frame, or there are none; else the frame's fault, 10 to
+ * 20. At 3, 10 to 21 and 40 `out` is as it was. */
+feksroum_line feksroum_dump(const uint8_t *bytes, size_t length, uint8_t *out, size_t out_length, uint32_t max_payload);
+
+/* Writes into `out` the canonical bytes of the frame whose line is in front of the text, up to the first newline. What comes
+ * after them is left as it was. A frame's line is read as it is written: each number, string and table in its one form.
+ *
+ * status: 0 where they are written; 40 where `out` is shorter than `length`, which is then what it needs; 3 where memory ran
+ * out; 21 where no newline is in the text; 26 where what is in front of it is the line of no frame with a payload of at
+ * most max_payload bytes. At 3, 21, 26 and 40 `out` is as it was. */
+feksroum_line feksroum_undump(const uint8_t *text, size_t length, uint8_t *out, size_t out_length, uint32_t max_payload);
 
 /* Writes the name of a status, as "BadFrameEnd", at the front of `out` where it fits, and returns its length. No 0 byte
  * follows it. Returns 0 where the status is no error's. A buffer of FEKSROUM_NAME_MAX bytes is enough for each. */
 size_t feksroum_name(uint8_t status, uint8_t *out, size_t out_length);
-
-/* Frames as lines of text, and back, will come here: feksroum_dump and feksroum_undump. */
 
 #ifdef __cplusplus
 }

@@ -1,6 +1,8 @@
 /* Runs cases through one of the drivers, and writes what came out:
  *
- *     cases whole|filter|proxy CASES RESULTS
+ *     cases whole|filter|proxy|lines CASES RESULTS
+ *
+ * `lines` goes from frame to frame, writes the line of each, and reads that back: all have to write the same.
  *
  * CASES has, one after another: the level (1 byte), a length (4 bytes, the lowest first) and as many bytes, a count (2 bytes)
  * and as many sizes of pieces (2 bytes each) in which they are read; what is left after these is read at once. RESULTS has
@@ -82,7 +84,7 @@ static ssize_t write_case(void *context, const uint8_t *bytes, size_t length) {
 
 static int run_whole(test_case *test) {
     feksroum_progress progress =
-        feksroum_canonicalize(test->bytes, test->length, test->out, test->length, MAX_PAYLOAD, test->level);
+        feksroum_canonicalize(test->bytes, test->length, test->out, test->length, NULL, 0, MAX_PAYLOAD, test->level);
     test->written = progress.written;
     return progress.status;
 }
@@ -94,21 +96,81 @@ static int run_filter(test_case *test) {
 
 static int run_proxy(test_case *test) {
     static proxy_connection connection;
+    static proxy_scratch scratch;
     proxy_open(&connection, test->level);
     for (;;) {
         uint8_t *room;
         const uint8_t *pending;
         size_t size = proxy_room(&connection, &room);
         ssize_t more = size ? read_case(test, room, size) : 0;
-        proxy_received(&connection, (size_t)more);
+        proxy_received(&connection, &scratch, (size_t)more);
         size_t count = proxy_pending(&connection, &pending);
         if (more == 0 && count == 0) {
             return proxy_ended(&connection);
         }
         if (count) {
-            proxy_sent(&connection, (size_t)write_case(test, pending, count));
+            proxy_sent(&connection, &scratch, (size_t)write_case(test, pending, count));
         }
     }
+}
+
+/* A line and its bytes have to be taken whole. */
+static size_t convert(feksroum_line (*call)(const uint8_t *, size_t, uint8_t *, size_t, uint32_t), const uint8_t *bytes,
+                      size_t length, size_t used, uint8_t **out) {
+    feksroum_line needed = call(bytes, length, NULL, 0, MAX_PAYLOAD);
+    if (needed.status != FEKSROUM_BUFFER_TOO_SMALL || needed.used != used || !(*out = malloc(needed.length))) {
+        stop("a line is not as wanted");
+    }
+    feksroum_line found = call(bytes, length, *out, needed.length, MAX_PAYLOAD);
+    if (found.status != FEKSROUM_OK || found.used != used || found.length != needed.length) {
+        stop("a line is not as wanted");
+    }
+    return found.length;
+}
+
+static void write_by_line(test_case *test, const uint8_t *bytes, size_t length, size_t used) {
+    uint8_t *line, *canonical;
+    size_t line_length = convert(feksroum_dump, bytes, length, used, &line);
+    size_t count = convert(feksroum_undump, line, line_length, line_length, &canonical);
+    memcpy(test->out + test->written, canonical, count);
+    test->written += count;
+    free(line);
+    free(canonical);
+}
+
+static int run_lines(test_case *test) {
+    while (test->done < test->length) {
+        const uint8_t *rest = test->bytes + test->done;
+        feksroum_frame frame = feksroum_next(rest, test->length - test->done, MAX_PAYLOAD);
+        if (frame.status != FEKSROUM_OK) {
+            return frame.status;
+        }
+        feksroum_payload payload = feksroum_check(frame.type, rest + frame.payload_start, frame.payload_length);
+        if (payload.status != FEKSROUM_OK) {
+            return payload.status;
+        }
+        if (test->level == FEKSROUM_TIDY && !payload.tidy) {
+            return FEKSROUM_NOT_TIDY;
+        }
+        write_by_line(test, rest, test->length - test->done, frame.used);
+        test->done += frame.used;
+    }
+    return FEKSROUM_OK;
+}
+
+static const struct {
+    const char *name;
+    int (*run)(test_case *);
+} drivers[] = {{"whole", run_whole}, {"filter", run_filter}, {"proxy", run_proxy}, {"lines", run_lines}};
+
+static int (*driver(const char *name))(test_case *) {
+    for (size_t k = 0; k < sizeof drivers / sizeof *drivers; k++) {
+        if (strcmp(drivers[k].name, name) == 0) {
+            return drivers[k].run;
+        }
+    }
+    stop("whole, filter, proxy or lines");
+    return NULL;
 }
 
 static void put_result(FILE *file, const test_case *test, int status) {
@@ -122,9 +184,9 @@ static void put_result(FILE *file, const test_case *test, int status) {
 
 int main(int argc, char **argv) {
     if (argc != 4) {
-        stop("cases whole|filter|proxy CASES RESULTS");
+        stop("cases whole|filter|proxy|lines CASES RESULTS");
     }
-    int (*run)(test_case *) = argv[1][0] == 'w' ? run_whole : argv[1][0] == 'f' ? run_filter : run_proxy;
+    int (*run)(test_case *) = driver(argv[1]);
     FILE *cases = fopen(argv[2], "rb");
     FILE *results = fopen(argv[3], "wb");
     if (!cases || !results) {

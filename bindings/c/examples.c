@@ -2,9 +2,10 @@
  *
  *     examples FOLDER
  *
- * `raw` and `lent` are bytes; `hex` and `tidy` are hex texts, whose answer is the canonical bytes in hex and, on a line of its
- * own, the name of the fault. Also tests the frames and payloads of each against what canonicalizing says, the names of
- * statuses, and arguments at their bounds. */
+ * `raw` and `lent` are bytes; `hex` and `tidy` are hex texts, for which the canonical bytes in hex and, on a line of its
+ * own, the name of the fault are printed; `dump` are bytes whose lines are printed, and `undump` lines whose bytes are. Also
+ * tests the frames and payloads of each against what canonicalizing says, lines against those that are read back, the names
+ * of statuses, arguments at their bounds, and that a scratch changes nothing that is written. */
 #include <feksroum.h>
 #include <stdio.h>
 #include <stdlib.h>
@@ -13,6 +14,7 @@
 enum { MAX_PAYLOAD = 131072, SIZE = 1 << 20 };
 
 static uint8_t input[SIZE], wanted[SIZE], bytes[SIZE], out[SIZE], text[SIZE];
+static feksroum_mark scratch[MAX_PAYLOAD / 2];
 
 static size_t read_file(const char *folder, const char *name, const char *kind, uint8_t *into) {
     char path[4096];
@@ -52,6 +54,37 @@ static size_t report(feksroum_progress progress) {
         text[length++] = '\n';
     }
     return length;
+}
+
+/* A function that writes for the frame or the line in front. */
+typedef feksroum_line (*convert)(const uint8_t *, size_t, uint8_t *, size_t, uint32_t);
+
+/* What it writes for all of some bytes, and the status of what follows those that it could read. */
+static feksroum_line convert_all(convert call, const uint8_t *from, size_t length, uint8_t *to) {
+    feksroum_line all = {0, 0, FEKSROUM_OK};
+    while (all.used < length && all.status == FEKSROUM_OK) {
+        feksroum_line one = call(from + all.used, length - all.used, to + all.length, SIZE - all.length, MAX_PAYLOAD);
+        all.used += one.used;
+        all.length += one.length;
+        all.status = one.status;
+    }
+    return all;
+}
+
+/* Dumps or undumps an example, and of lines also reads back the bytes that are canonical. */
+static bool run_lines(const char *folder, const char *name, const char *command, int status) {
+    bool is_dump = strcmp(command, "dump") == 0;
+    size_t length = read_file(folder, name, command, input);
+    size_t wanted_length = read_file(folder, name, "out", wanted);
+    feksroum_line found = convert_all(is_dump ? feksroum_dump : feksroum_undump, input, length, text);
+    feksroum_progress canonical = {0, found.length, 0};
+    feksroum_line back = {0, found.length, 0};
+    if (is_dump) {
+        canonical = feksroum_canonicalize(input, length, out, length, NULL, 0, MAX_PAYLOAD, FEKSROUM_PLAIN);
+        back = convert_all(feksroum_undump, text, found.length, bytes);
+    }
+    return found.status == status && found.length == wanted_length && memcmp(text, wanted, wanted_length) == 0 &&
+           back.status == FEKSROUM_OK && back.length == canonical.written && (!is_dump || memcmp(bytes, out, back.length) == 0);
 }
 
 /* Goes from frame to frame, and finds the same end. */
@@ -94,6 +127,7 @@ static bool names_agree(void) {
         {FEKSROUM_INCOMPLETE, "CutShort"},
         {FEKSROUM_TURNS_SPENT, "TurnsSpent"},
         {FEKSROUM_NOT_TIDY, "NotTidy"},
+        {FEKSROUM_BAD_TEXT, "BadText"},
         {FEKSROUM_BUFFER_TOO_SMALL, "BufferTooSmall"},
         {FEKSROUM_BAD_ARGUMENT, "BadArgument"},
     };
@@ -113,16 +147,51 @@ static bool names_agree(void) {
 /* Arguments at their bounds: no bytes at all, and what is tested. */
 static bool arguments_are_tested(void) {
     static const uint8_t beat[] = {8, 0, 0, 0, 0, 0, 0, 206};
-    feksroum_progress none = feksroum_canonicalize(NULL, 0, NULL, 0, MAX_PAYLOAD, FEKSROUM_PLAIN);
-    feksroum_progress shorter = feksroum_canonicalize(beat, 8, out, 7, MAX_PAYLOAD, FEKSROUM_PLAIN);
-    feksroum_progress level = feksroum_canonicalize(beat, 8, out, 8, MAX_PAYLOAD, 2);
-    return none.status == FEKSROUM_OK && shorter.status == FEKSROUM_BUFFER_TOO_SMALL &&
+    feksroum_progress none = feksroum_canonicalize(NULL, 0, NULL, 0, NULL, 0, MAX_PAYLOAD, FEKSROUM_PLAIN);
+    feksroum_progress shorter = feksroum_canonicalize(beat, 8, out, 7, NULL, 0, MAX_PAYLOAD, FEKSROUM_PLAIN);
+    feksroum_progress level = feksroum_canonicalize(beat, 8, out, 8, NULL, 0, MAX_PAYLOAD, 2);
+    feksroum_line no_frame = feksroum_dump(NULL, 0, NULL, 0, MAX_PAYLOAD);
+    feksroum_line needed = feksroum_dump(beat, 8, out, 4, MAX_PAYLOAD);
+    feksroum_line no_line = feksroum_undump(NULL, 0, NULL, 0, MAX_PAYLOAD);
+    feksroum_line bad_line = feksroum_undump((const uint8_t *)"\n", 1, out, 8, MAX_PAYLOAD);
+    bool lines = no_frame.status == FEKSROUM_INCOMPLETE && needed.status == FEKSROUM_BUFFER_TOO_SMALL && needed.length == 5 &&
+                 no_line.status == FEKSROUM_INCOMPLETE && bad_line.status == FEKSROUM_BAD_TEXT;
+    return lines && feksroum_scratch(0) == 0 && feksroum_scratch(MAX_PAYLOAD) == MAX_PAYLOAD / 2 && none.status == FEKSROUM_OK && shorter.status == FEKSROUM_BUFFER_TOO_SMALL &&
            level.status == FEKSROUM_BAD_ARGUMENT && shorter.used + shorter.written + level.used + level.written == 0 &&
            feksroum_next(NULL, 0, 0).status == FEKSROUM_INCOMPLETE &&
            feksroum_check(FEKSROUM_HEARTBEAT, NULL, 0).canonical && feksroum_name(FEKSROUM_TOO_DEEP, NULL, 0) == 7;
 }
 
+/* A method with one table of so many entries, whose keys fall, and its canonical bytes: the same, with or without a scratch. */
+static bool scratch_agrees(void) {
+    enum { ENTRIES = 3000, CONTENT = 4 * ENTRIES, PAYLOAD = 12 + CONTENT };
+    static const uint8_t front[] = {1, 0, 1, 0, 0, PAYLOAD >> 8, PAYLOAD & 255, 0, 50, 0, 10, 0, 0, 0, 0, 0, 0, CONTENT >> 8, CONTENT & 255};
+    memcpy(bytes, front, sizeof front);
+    for (int k = 0; k < ENTRIES; k++) {
+        const uint8_t entry[] = {2, (uint8_t)((ENTRIES - 1 - k) >> 6), (uint8_t)((ENTRIES - 1 - k) & 63), 'V'};
+        memcpy(bytes + sizeof front + 4 * k, entry, sizeof entry);
+        const uint8_t sorted[] = {2, (uint8_t)(k >> 6), (uint8_t)(k & 63), 'V'};
+        memcpy(wanted + sizeof front + 4 * k, sorted, sizeof sorted);
+    }
+    size_t length = PAYLOAD + 8;
+    memcpy(wanted, front, sizeof front);
+    bytes[length - 1] = wanted[length - 1] = 206;
+    size_t scratches[] = {0, 257, feksroum_scratch(length)};
+    for (int k = 0; k < 3; k++) {
+        memset(out, 0, length);
+        feksroum_progress progress =
+            feksroum_canonicalize(bytes, length, out, length, scratch, scratches[k], MAX_PAYLOAD, FEKSROUM_PLAIN);
+        if (progress.status != FEKSROUM_OK || progress.written != length || memcmp(out, wanted, length) != 0) {
+            return false;
+        }
+    }
+    return true;
+}
+
 static bool run(const char *folder, const char *name, const char *command, int status) {
+    if (strstr("dump undump", command)) {
+        return run_lines(folder, name, command, status);
+    }
     bool is_text = strcmp(command, "hex") == 0 || strcmp(command, "tidy") == 0;
     uint8_t level = strcmp(command, "tidy") == 0 ? FEKSROUM_TIDY : FEKSROUM_PLAIN;
     size_t length = read_file(folder, name, command, input);
@@ -132,7 +201,7 @@ static bool run(const char *folder, const char *name, const char *command, int s
     } else {
         memcpy(bytes, input, length);
     }
-    feksroum_progress progress = feksroum_canonicalize(bytes, length, out, length, MAX_PAYLOAD, level);
+    feksroum_progress progress = feksroum_canonicalize(bytes, length, out, length, NULL, 0, MAX_PAYLOAD, level);
     const uint8_t *printed = is_text ? text : out;
     size_t printed_length = is_text ? report(progress) : progress.written;
     bool agrees = level == FEKSROUM_TIDY || frames_agree(length, progress);
@@ -142,7 +211,7 @@ static bool run(const char *folder, const char *name, const char *command, int s
 
 int main(int argc, char **argv) {
     char path[4096], line[4096], name[256], command[256];
-    int status, done = 0, failed = !names_agree() || !arguments_are_tested();
+    int status, done = 0, failed = !names_agree() || !arguments_are_tested() || !scratch_agrees();
     snprintf(path, sizeof path, "%s/statuses", argc == 2 ? argv[1] : "");
     FILE *list = fopen(path, "r");
     if (!list) {
@@ -150,7 +219,7 @@ int main(int argc, char **argv) {
         return 2;
     }
     while (fgets(line, sizeof line, list)) {
-        if (sscanf(line, "%255s %255s %d", name, command, &status) != 3 || !strstr(" raw lent hex tidy ", command)) {
+        if (sscanf(line, "%255s %255s %d", name, command, &status) != 3 || !strstr(" raw lent hex tidy dump undump ", command)) {
             continue;
         }
         done++;

@@ -4,8 +4,20 @@
 #include <stdlib.h>
 #include <string.h>
 
-/* How many bytes are read at once, beside the room for a frame that is not whole. */
-enum { PIECE = 65536 };
+/* Bodies up to this many bytes are gathered with the small frames; larger ones are written from where they lie. */
+enum { SMALL_BODY = 4096 };
+
+/* A stream on its way. What was read and not used lies in `held` from `start` to `end`, fewer bytes than `size`, which is one
+ * frame of the largest size; `pending` canonical bytes lie in `out`. Each of the two buffers has room for two such frames, so
+ * that a read hardly ever has to move what is held. */
+typedef struct filter {
+    const filter_ends *ends;
+    uint8_t *held, *out;
+    feksroum_mark *scratch;
+    size_t size, scratch_length, start, end, pending;
+    uint32_t max_payload;
+    uint8_t level;
+} filter;
 
 static bool write_all(const filter_ends *ends, const uint8_t *bytes, size_t length) {
     while (length > 0) {
@@ -19,37 +31,102 @@ static bool write_all(const filter_ends *ends, const uint8_t *bytes, size_t leng
     return true;
 }
 
-/* The loop over two buffers of the same size. Fewer than max_payload + 8 bytes are ever held between two reads, so there is
- * always room for another one. */
-static int run(const filter_ends *ends, uint8_t *held, uint8_t *out, size_t size, uint32_t max_payload, uint8_t level) {
-    size_t count = 0;
+static bool flush(filter *f) {
+    bool written = write_all(f->ends, f->out, f->pending);
+    f->pending = 0;
+    return written;
+}
+
+/* Canonicalizes the whole frames in front whose payloads have at most so many bytes. Their canonical bytes fit after the
+ * pending ones, since no more bytes are pending than were used of `held`. */
+static uint8_t gather(filter *f, uint32_t max_payload) {
+    feksroum_progress progress =
+        feksroum_canonicalize(f->held + f->start, f->end - f->start, f->out + f->pending, 2 * f->size - f->pending, f->scratch,
+                              f->scratch_length, max_payload, f->level);
+    f->start += progress.used;
+    f->pending += progress.written;
+    return progress.status;
+}
+
+/* Passes on a frame in front that is not small. The canonical bytes of a body are its own, at each level. */
+static uint8_t pass_large(filter *f) {
+    feksroum_frame frame = feksroum_next(f->held + f->start, f->end - f->start, f->max_payload);
+    if (frame.status != FEKSROUM_OK || frame.type != FEKSROUM_BODY) {
+        return frame.status != FEKSROUM_OK ? frame.status : gather(f, f->max_payload);
+    }
+    if (!flush(f) || !write_all(f->ends, f->held + f->start, frame.used)) {
+        return FEKSROUM_WRITE_FAULT;
+    }
+    f->start += frame.used;
+    return FEKSROUM_OK;
+}
+
+/* Passes on the frames in front, and returns the status of what follows them. */
+static uint8_t pass_on(filter *f) {
+    uint32_t small = f->max_payload < SMALL_BODY ? f->max_payload : SMALL_BODY;
     for (;;) {
-        ssize_t more = ends->read(ends->context, held + count, size - count);
+        uint8_t status = gather(f, small);
+        if (status == FEKSROUM_TOO_LARGE) {
+            status = pass_large(f);
+            if (status == FEKSROUM_OK) {
+                continue;
+            }
+        }
+        return flush(f) ? status : FEKSROUM_WRITE_FAULT;
+    }
+}
+
+/* How many bytes to read: those that a large frame lacks whose header is held, so that the read ends with it; else as many as
+ * the largest frame has. */
+static size_t read_size(const filter *f) {
+    const uint8_t *frame = f->held + f->start;
+    size_t count = f->end - f->start;
+    if (count < 7 || frame[0] == FEKSROUM_PROTOCOL_HEADER) {
+        return f->size;
+    }
+    size_t payload = (size_t)frame[3] << 24 | (size_t)frame[4] << 16 | (size_t)frame[5] << 8 | frame[6];
+    return payload > SMALL_BODY ? payload + FEKSROUM_AROUND_PAYLOAD - count : f->size;
+}
+
+/* Makes room for a read of so many bytes after what is held, which moves to the front where that takes it. */
+static void make_room(filter *f, size_t size) {
+    if (f->start == f->end) {
+        f->start = f->end = 0;
+    } else if (2 * f->size - f->end < size) {
+        memmove(f->held, f->held + f->start, f->end - f->start);
+        f->end -= f->start;
+        f->start = 0;
+    }
+}
+
+static int run(filter *f) {
+    for (;;) {
+        size_t size = read_size(f);
+        make_room(f, size);
+        ssize_t more = f->ends->read(f->ends->context, f->held + f->end, size);
         if (more < 0) {
             return FEKSROUM_READ_FAULT;
         }
         if (more == 0) {
-            return count == 0 ? FEKSROUM_OK : FEKSROUM_INCOMPLETE;
+            return f->start == f->end ? FEKSROUM_OK : FEKSROUM_INCOMPLETE;
         }
-        count += (size_t)more;
-        feksroum_progress progress = feksroum_canonicalize(held, count, out, size, max_payload, level);
-        if (!write_all(ends, out, progress.written)) {
-            return FEKSROUM_WRITE_FAULT;
+        f->end += (size_t)more;
+        uint8_t status = pass_on(f);
+        if (status != FEKSROUM_OK && status != FEKSROUM_INCOMPLETE) {
+            return status;
         }
-        if (progress.status != FEKSROUM_OK && progress.status != FEKSROUM_INCOMPLETE) {
-            return progress.status;
-        }
-        count -= progress.used;
-        memmove(held, held + progress.used, count);
     }
 }
 
 int filter_run(const filter_ends *ends, uint32_t max_payload, uint8_t level) {
-    size_t size = (size_t)max_payload + FEKSROUM_AROUND_PAYLOAD + PIECE;
-    uint8_t *held = malloc(size);
-    uint8_t *out = malloc(size);
-    int status = held && out ? run(ends, held, out, size, max_payload, level) : FEKSROUM_NO_MEMORY;
-    free(held);
-    free(out);
+    size_t size = (size_t)max_payload + FEKSROUM_AROUND_PAYLOAD, marks = feksroum_scratch(max_payload);
+    filter f = {.ends = ends, .size = size, .scratch_length = marks, .max_payload = max_payload, .level = level};
+    f.held = malloc(2 * size);
+    f.out = malloc(2 * size);
+    f.scratch = malloc(marks * sizeof *f.scratch);
+    int status = f.held && f.out && (f.scratch || marks == 0) ? run(&f) : FEKSROUM_NO_MEMORY;
+    free(f.held);
+    free(f.out);
+    free(f.scratch);
     return status;
 }

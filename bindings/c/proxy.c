@@ -11,12 +11,13 @@ void proxy_open(proxy_connection *connection, uint8_t level) {
 }
 
 /* Canonicalizes what is held, once nothing is pending: the whole output buffer is then free, and no shorter. */
-static void pass_on(proxy_connection *connection) {
+static void pass_on(proxy_connection *connection, proxy_scratch *scratch) {
     if (connection->out_start < connection->out_end || connection->status != FEKSROUM_OK) {
         return;
     }
-    feksroum_progress progress = feksroum_canonicalize(connection->held, connection->held_count, connection->out, PROXY_SIZE,
-                                                       PROXY_MAX_PAYLOAD, connection->level);
+    feksroum_progress progress =
+        feksroum_canonicalize(connection->held, connection->held_count, connection->out, PROXY_SIZE, scratch->marks,
+                              sizeof scratch->marks / sizeof *scratch->marks, PROXY_MAX_PAYLOAD, connection->level);
     connection->out_start = 0;
     connection->out_end = progress.written;
     connection->held_count -= progress.used;
@@ -31,9 +32,9 @@ size_t proxy_room(proxy_connection *connection, uint8_t **room) {
     return connection->status == FEKSROUM_OK ? PROXY_SIZE - connection->held_count : 0;
 }
 
-void proxy_received(proxy_connection *connection, size_t count) {
+void proxy_received(proxy_connection *connection, proxy_scratch *scratch, size_t count) {
     connection->held_count += count;
-    pass_on(connection);
+    pass_on(connection, scratch);
 }
 
 size_t proxy_pending(const proxy_connection *connection, const uint8_t **bytes) {
@@ -41,9 +42,9 @@ size_t proxy_pending(const proxy_connection *connection, const uint8_t **bytes) 
     return connection->out_end - connection->out_start;
 }
 
-void proxy_sent(proxy_connection *connection, size_t count) {
+void proxy_sent(proxy_connection *connection, proxy_scratch *scratch, size_t count) {
     connection->out_start += count;
-    pass_on(connection);
+    pass_on(connection, scratch);
 }
 
 uint8_t proxy_ended(const proxy_connection *connection) {

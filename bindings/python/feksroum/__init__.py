@@ -1,4 +1,4 @@
-"""The wire layer of AMQP 0-9-1: frames out of bytes, and their canonical bytes.
+"""The wire layer of AMQP 0-9-1: frames out of bytes, their canonical bytes, and their lines of text.
 
 What is called is proved; `feksroum.h` says what each function promises. Nothing is kept between two calls, so all of it may
 be used by any number of threads, and calls run at once: ctypes lets go of the interpreter's lock.
@@ -11,6 +11,7 @@ be used by any number of threads, and calls run at once: ctypes lets go of the i
 from ._library import (
     BadFrameEnd,
     BadProtocolHeader,
+    BadText,
     CutShort,
     Error,
     NotTidy,
@@ -25,11 +26,11 @@ from ._library import (
     UnknownTag,
 )
 from ._frames import MAX_PAYLOAD, Canonicalizer, Frame, FrameType, Level, canonicalize, check, frames
+from ._text import dump, undump
 
-# dump and undump, frames as lines of text and back, will come here.
 __all__ = [
-    "BadFrameEnd", "BadProtocolHeader", "Canonicalizer", "CutShort", "Error", "Frame", "FrameType", "Level", "MAX_PAYLOAD",
+    "BadFrameEnd", "BadProtocolHeader", "BadText", "Canonicalizer", "CutShort", "Error", "Frame", "FrameType", "Level", "MAX_PAYLOAD",
     "NotTidy", "NotUtf8", "ShortPayload", "TooDeep", "TooLarge", "TrailingBytes", "UnknownClass", "UnknownFrameType",
-    "UnknownMethod", "UnknownTag", "canonicalize", "check", "frames",
+    "UnknownMethod", "UnknownTag", "canonicalize", "check", "dump", "frames", "undump",
 ]
 __version__ = "0.1.0"

@@ -4,7 +4,7 @@ import ctypes
 import enum
 from dataclasses import dataclass
 
-from ._library import LIBRARY, CutShort, error_of
+from ._library import LIBRARY, CutShort, Mark, error_of
 
 #: The longest payload that the program accepts, in bytes.
 MAX_PAYLOAD = 131072
@@ -104,8 +104,15 @@ class Canonicalizer:
         self._limit = _limit(max_payload)
         self._level = Level(level)
         self._held = bytearray()
+        self._scratch = (Mark * 0)()
         #: Why no more frames come: the fault that was met, or None.
         self.error = None
+
+    def _grow_scratch(self, length):
+        """Makes the scratch long enough for the tables in so many bytes."""
+        marks = LIBRARY.feksroum_scratch(min(length, self._limit))
+        if marks > len(self._scratch):
+            self._scratch = (Mark * marks)()
 
     def feed(self, data):
         """The canonical bytes of the frames that this piece completes. Raises nothing: a fault is kept in `error`, and
@@ -114,10 +121,13 @@ class Canonicalizer:
             return b""
         self._held += data
         length = len(self._held)
+        self._grow_scratch(length)
+        scratch = self._scratch
         out = ctypes.create_string_buffer(max(length, 1))
         held = (ctypes.c_uint8 * length).from_buffer(self._held)
         progress = LIBRARY.feksroum_canonicalize(
-            ctypes.addressof(held), length, ctypes.addressof(out), length, self._limit, self._level
+            ctypes.addressof(held), length, ctypes.addressof(out), length, ctypes.addressof(scratch), len(scratch),
+            self._limit, self._level,
         )
         del held
         del self._held[: progress.used]

@@ -6,7 +6,8 @@ from ctypes import POINTER, Structure, c_bool, c_size_t, c_uint8, c_uint16, c_ui
 
 
 class Error(Exception):
-    """Why no whole frame is in front of some bytes. Its class is named for the error."""
+    """Why no whole frame is in front of some bytes, or no line of one in front of some text. Its class is named for the
+    error."""
 
     #: The exit status of the program for it.
     status = 0
@@ -90,6 +91,15 @@ class NotTidy(Error):
     status = 23
 
 
+class BadText(Error):
+    """A line that is the line of no frame."""
+
+    status = 26
+
+
+#: The statuses of calls that are no frame's and no line's.
+NO_MEMORY, BUFFER_TOO_SMALL = 3, 40
+
 ERRORS = {error.status: error for error in Error.__subclasses__()}
 
 
@@ -111,6 +121,14 @@ class Progress(Structure):
     _fields_ = [("used", c_size_t), ("written", c_size_t), ("status", c_uint8)]
 
 
+class Line(Structure):
+    _fields_ = [("used", c_size_t), ("length", c_size_t), ("status", c_uint8)]
+
+
+class Mark(Structure):
+    _fields_ = [("numbers", c_uint64 * 2)]
+
+
 def load(path=None):
     """The library at a path; else where FEKSROUM_LIBRARY says, where `make -C bindings` builds it, or where the system
     has it."""
@@ -121,7 +139,10 @@ def load(path=None):
     declare = [
         ("feksroum_next", FrontFrame, [*bytes_in, c_uint32]),
         ("feksroum_check", Payload, [c_uint8, *bytes_in]),
-        ("feksroum_canonicalize", Progress, [*bytes_in, *bytes_in, c_uint32, c_uint8]),
+        ("feksroum_scratch", c_size_t, [c_size_t]),
+        ("feksroum_canonicalize", Progress, [*bytes_in, *bytes_in, *bytes_in, c_uint32, c_uint8]),
+        ("feksroum_dump", Line, [*bytes_in, *bytes_in, c_uint32]),
+        ("feksroum_undump", Line, [*bytes_in, *bytes_in, c_uint32]),
         ("feksroum_name", c_size_t, [c_uint8, POINTER(c_uint8), c_size_t]),
     ]
     for name, result, arguments in declare:
@@ -135,5 +156,7 @@ LIBRARY = load()
 
 def error_of(status):
     """The exception for a status, or None."""
+    if status == NO_MEMORY:
+        return MemoryError()
     error = ERRORS.get(status)
     return error and error()

@@ -24,6 +24,14 @@ def outcome(data, level):
         return error.written, error
 
 
+def lines_outcome(convert, data):
+    """The same of dumping and undumping."""
+    try:
+        return convert(data), None
+    except feksroum.Error as error:
+        return error.written, error
+
+
 def frames_fault(data):
     """The fault that going from frame to frame finds."""
     try:
@@ -60,6 +68,45 @@ class Examples(unittest.TestCase):
         self.assertGreater(done, 20)
 
 
+class Lines(unittest.TestCase):
+    def test_examples(self):
+        done = 0
+        for line in read("statuses").decode().splitlines():
+            name, command, wanted, *_ = line.split(" ")
+            if command not in ("dump", "undump"):
+                continue
+            data, out = read(f"{name}.{command}"), read(f"{name}.out")
+            with self.subTest(name):
+                if command == "dump":
+                    text, error = lines_outcome(feksroum.dump, data)
+                    self.assertEqual((status(error), text), (int(wanted), out.decode()))
+                    self.assertEqual(feksroum.undump(text), outcome(data, feksroum.Level.PLAIN)[0])
+                else:
+                    written, error = lines_outcome(feksroum.undump, data)
+                    self.assertEqual((status(error), written), (int(wanted), out))
+            done += 1
+        self.assertGreater(done, 3)
+
+    def test_faults(self):
+        beat = bytes.fromhex("08000000000000ce")
+        with self.assertRaises(feksroum.BadFrameEnd) as caught:
+            feksroum.dump(beat + bytes.fromhex("0300010000000007"))
+        self.assertEqual(caught.exception.written, "beat\n")
+        for text, error in (("beat\nbeat 0\n", feksroum.BadText), (b"beat\nbeat", feksroum.CutShort), ("beat\né\n", feksroum.BadText)):
+            with self.assertRaises(error) as caught:
+                feksroum.undump(text)
+            self.assertEqual(caught.exception.written, beat)
+        self.assertEqual((feksroum.dump(b""), feksroum.undump("")), ("", b""))
+
+    def test_limit(self):
+        self.assertRaises(feksroum.TooLarge, feksroum.dump, bytes.fromhex("030001000000026869ce"), max_payload=1)
+        self.assertRaises(feksroum.BadText, feksroum.undump, "body 1 x6869\n", max_payload=1)
+
+    def test_long_line(self):
+        body = b"\x03\0\1" + (100_000).to_bytes(4, "big") + bytes(100_000) + b"\xce"
+        self.assertEqual(feksroum.undump(feksroum.dump(body)), body)
+
+
 class Streams(unittest.TestCase):
     def test_pieces(self):
         data, wanted = read("client_stream.raw"), read("client_stream.out")
@@ -93,6 +140,14 @@ class Streams(unittest.TestCase):
         stands = feksroum.check(feksroum.FrameType.METHOD, bytes.fromhex("0055000aff"))
         self.assertEqual(stands, (85, 10, 0, False, False))
         self.assertRaises(feksroum.UnknownMethod, feksroum.check, 1, bytes.fromhex("0055000c"))
+
+    def test_large_table(self):
+        keys = [b"%05d" % number for number in range(9000)]
+        entries = b"".join(bytes([5]) + key + b"V" for key in reversed(keys))
+        payload = b"\0\x32\0\x0a\0\0\0\0" + len(entries).to_bytes(4, "big") + entries
+        data = b"\1\0\1" + len(payload).to_bytes(4, "big") + payload + b"\xce"
+        (frame,) = feksroum.frames(feksroum.canonicalize(data))
+        self.assertEqual(bytes(frame.payload[12:]), b"".join(bytes([5]) + key + b"V" for key in keys))
 
     def test_limit(self):
         self.assertRaises(feksroum.TooLarge, feksroum.canonicalize, bytes.fromhex("030001000000026869ce"), max_payload=1)

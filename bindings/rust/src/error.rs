@@ -1,13 +1,15 @@
-//! Why bytes are no frames, and why streams end early.
+//! Why bytes are no frames, why lines are those of none, and why streams end early.
 
 use std::error;
 use std::fmt;
 use std::io;
 
-/// Why no whole frame is in front of some bytes.
+/// Why no whole frame is in front of some bytes, or no line of one in front of some text.
 #[derive(Clone, Copy, Debug, PartialEq, Eq, Hash)]
 #[non_exhaustive]
 pub enum Error {
+    /// Out of memory, which only [`dump`](crate::dump) and [`undump`](crate::undump) report.
+    NoMemory,
     /// The first byte of a frame names no frame type.
     UnknownFrameType,
     /// A first byte 65 that does not begin a protocol header.
@@ -34,11 +36,14 @@ pub enum Error {
     CutShort,
     /// A frame that can be read and is not tidy, where only tidy frames are taken.
     NotTidy,
+    /// A line that is the line of no frame.
+    BadText,
 }
 
 impl Error {
     /// Each error, in the order of the statuses.
-    pub const ALL: [Error; 13] = [
+    pub const ALL: [Error; 15] = [
+        Error::NoMemory,
         Error::UnknownFrameType,
         Error::BadProtocolHeader,
         Error::TooLarge,
@@ -52,12 +57,14 @@ impl Error {
         Error::TooDeep,
         Error::CutShort,
         Error::NotTidy,
+        Error::BadText,
     ];
 
     /// The exit status of the program for it, and the status of the C functions.
     #[must_use]
     pub fn status(self) -> u8 {
         match self {
+            Error::NoMemory => 3,
             Error::UnknownFrameType => 10,
             Error::BadProtocolHeader => 11,
             Error::TooLarge => 12,
@@ -71,6 +78,7 @@ impl Error {
             Error::TooDeep => 20,
             Error::CutShort => 21,
             Error::NotTidy => 23,
+            Error::BadText => 26,
         }
     }
 
@@ -78,6 +86,7 @@ impl Error {
     #[must_use]
     pub fn name(self) -> &'static str {
         match self {
+            Error::NoMemory => "NoMemory",
             Error::UnknownFrameType => "UnknownFrameType",
             Error::BadProtocolHeader => "BadProtocolHeader",
             Error::TooLarge => "TooLarge",
@@ -91,6 +100,7 @@ impl Error {
             Error::TooDeep => "TooDeep",
             Error::CutShort => "CutShort",
             Error::NotTidy => "NotTidy",
+            Error::BadText => "BadText",
         }
     }
 

@@ -1,4 +1,4 @@
-//! The wire layer of AMQP 0-9-1: frames out of bytes, and their canonical bytes.
+//! The wire layer of AMQP 0-9-1: frames out of bytes, their canonical bytes, and their lines of text.
 //!
 //! What is called is proved; `feksroum.h` says what each function promises. Nothing is kept between two calls, so all
 //! of it may be used by any number of threads.
@@ -16,12 +16,12 @@ mod error;
 mod frames;
 mod stream;
 mod sys;
+mod text;
 
 pub use error::{Error, StreamError};
 pub use frames::{check, Frame, FrameType, Frames, Summary};
-pub use stream::{canonicalize, canonicalize_slice, Progress};
-
-// Frames as lines of text, and back, will come here: `dump` and `undump`.
+pub use stream::{canonicalize, canonicalize_slice, Progress, Scratch};
+pub use text::{dump, undump, Converted};
 
 /// The longest payload that the program accepts, in bytes.
 pub const MAX_PAYLOAD: u32 = 131_072;

@@ -30,7 +30,23 @@ pub struct Progress {
     pub status: u8,
 }
 
+/// A mark of an entry of a table.
+#[repr(C)]
+#[derive(Clone, Copy, Debug, Default)]
+pub struct Mark {
+    numbers: [u64; 2],
+}
+
+#[repr(C)]
+#[derive(Clone, Copy)]
+pub struct Line {
+    pub used: usize,
+    pub length: usize,
+    pub status: u8,
+}
+
 extern "C" {
+    pub fn feksroum_scratch(length: usize) -> usize;
     pub fn feksroum_next(bytes: *const u8, length: usize, max_payload: u32) -> Frame;
     pub fn feksroum_check(frame_type: u8, payload: *const u8, length: usize) -> Payload;
     pub fn feksroum_canonicalize(
@@ -38,9 +54,13 @@ extern "C" {
         length: usize,
         out: *mut u8,
         out_length: usize,
+        scratch: *mut Mark,
+        scratch_length: usize,
         max_payload: u32,
         level: u8,
     ) -> Progress;
+    pub fn feksroum_dump(bytes: *const u8, length: usize, out: *mut u8, out_length: usize, max_payload: u32) -> Line;
+    pub fn feksroum_undump(text: *const u8, length: usize, out: *mut u8, out_length: usize, max_payload: u32) -> Line;
     #[cfg(test)]
     pub fn feksroum_name(status: u8, out: *mut u8, out_length: usize) -> usize;
 }

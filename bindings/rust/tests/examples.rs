@@ -1,6 +1,6 @@
 //! The repository's examples, each as the program does it.
 
-use feksroum::{canonicalize, Error, Frames, Level, StreamError, MAX_PAYLOAD};
+use feksroum::{canonicalize, dump, undump, Error, Frames, Level, StreamError, MAX_PAYLOAD};
 use std::fs;
 use std::path::PathBuf;
 
@@ -22,6 +22,41 @@ fn report(out: &[u8], end: &Result<(), StreamError>) -> Vec<u8> {
 /// The end that going from frame to frame finds.
 fn frames_end(bytes: &[u8]) -> Result<(), Error> {
     Frames::new(bytes, MAX_PAYLOAD).try_for_each(|frame| frame.map(|_| ()))
+}
+
+/// The canonical bytes of the frames in front.
+fn canonical(bytes: &[u8]) -> Vec<u8> {
+    let mut out = Vec::new();
+    let _ = canonicalize(bytes, &mut out, MAX_PAYLOAD, Level::Plain);
+    out
+}
+
+#[test]
+fn lines_are_as_wanted() {
+    let folder = PathBuf::from(env!("CARGO_MANIFEST_DIR")).join("../../examples");
+    let statuses = fs::read_to_string(folder.join("statuses")).unwrap();
+    let mut done = 0;
+    for line in statuses.lines() {
+        let words: Vec<&str> = line.split(' ').collect();
+        let (name, command, status) = (words[0], words[1], words[2].parse::<u8>().unwrap());
+        if !matches!(command, "dump" | "undump") {
+            continue;
+        }
+        let input = fs::read(folder.join(format!("{name}.{command}"))).unwrap();
+        let wanted = fs::read(folder.join(format!("{name}.out"))).unwrap();
+        let (written, end) = if command == "dump" {
+            let dumped = dump(&input, MAX_PAYLOAD);
+            assert_eq!(undump(dumped.written.as_bytes(), MAX_PAYLOAD).written, canonical(&input), "{name}");
+            (dumped.written.into_bytes(), dumped.end)
+        } else {
+            let undumped = undump(&input, MAX_PAYLOAD);
+            (undumped.written, undumped.end)
+        };
+        assert_eq!(end.map_or_else(Error::status, |()| 0), status, "{name}");
+        assert_eq!(written, wanted, "{name}");
+        done += 1;
+    }
+    assert!(done > 3);
 }
 
 #[test]

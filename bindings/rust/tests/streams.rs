@@ -1,6 +1,6 @@
 //! Readers and writers that fail, pieces, and threads.
 
-use feksroum::{canonicalize, canonicalize_slice, Error, FrameType, Frames, Level, StreamError, MAX_PAYLOAD};
+use feksroum::{canonicalize, canonicalize_slice, dump, undump, Error, FrameType, Frames, Level, Scratch, StreamError, MAX_PAYLOAD};
 use std::io::{self, Read, Write};
 use std::path::PathBuf;
 use std::{fs, thread};
@@ -80,8 +80,46 @@ fn frames_are_borrowed_and_end_with_the_error() {
 #[test]
 fn limits_hold() {
     let bytes = [3, 0, 1, 0, 0, 0, 2, 104, 105, 206];
-    assert_eq!(canonicalize_slice(&bytes, &mut [0; 10], 2, Level::Plain).end, Ok(()));
-    assert_eq!(canonicalize_slice(&bytes, &mut [0; 10], 1, Level::Plain).end, Err(Error::TooLarge));
+    let mut scratch = Scratch::none();
+    assert_eq!(canonicalize_slice(&bytes, &mut [0; 10], &mut scratch, 2, Level::Plain).end, Ok(()));
+    assert_eq!(canonicalize_slice(&bytes, &mut [0; 10], &mut scratch, 1, Level::Plain).end, Err(Error::TooLarge));
+}
+
+/// A method with one table, whose keys come in this order.
+fn table_of(keys: impl Iterator<Item = u16>) -> Vec<u8> {
+    let entries: Vec<u8> = keys.flat_map(|key| [2, (key >> 6) as u8, (key & 63) as u8, b'V']).collect();
+    let mut payload = vec![0, 50, 0, 10, 0, 0, 0, 0];
+    payload.extend((entries.len() as u32).to_be_bytes());
+    payload.extend(entries);
+    let mut frame = vec![1, 0, 1];
+    frame.extend((payload.len() as u32).to_be_bytes());
+    frame.extend(payload);
+    frame.push(206);
+    frame
+}
+
+#[test]
+fn a_scratch_changes_nothing_that_is_written() {
+    let (falling, wanted) = (table_of((0..3000).rev()), table_of(0..3000));
+    for mut scratch in [Scratch::none(), Scratch::for_payloads(falling.len() as u32)] {
+        let mut out = vec![0; falling.len()];
+        let progress = canonicalize_slice(&falling, &mut out, &mut scratch, MAX_PAYLOAD, Level::Plain);
+        assert_eq!((progress.written, progress.end), (wanted.len(), Ok(())));
+        assert_eq!(out, wanted);
+    }
+}
+
+#[test]
+fn lines_end_at_the_first_fault() {
+    let beat = [8, 0, 0, 0, 0, 0, 0, 206];
+    let dumped = dump(&[&beat[..], &[9]].concat(), MAX_PAYLOAD);
+    assert_eq!((dumped.written.as_str(), dumped.used, dumped.end), ("beat\n", 8, Err(Error::UnknownFrameType)));
+    for (text, end) in [("beat\nbeat 0\n", Error::BadText), ("beat\nbeat", Error::CutShort)] {
+        let undumped = undump(text.as_bytes(), MAX_PAYLOAD);
+        assert_eq!((&undumped.written[..], undumped.used, undumped.end), (&beat[..], 5, Err(end)));
+    }
+    assert_eq!(undump(b"body 1 x6869\n", 1).end, Err(Error::BadText));
+    assert_eq!((dump(&[], 0).end, undump(&[], 0).end), (Ok(()), Ok(())));
 }
 
 #[test]

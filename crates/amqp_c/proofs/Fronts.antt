@@ -33,7 +33,7 @@ use Rattle.amqp_c.specs.Scans.{error_at}
 
 -- ---- one frame
 
--- a whole payload with this fault, of which the error tells
+-- a whole payload with this fault, which the error reports
 pub record HasFault (raw : Raw) (error : StreamError) : Type 0 where
   pub bad : Fault
   pub is_whole : whole raw ≡ Err bad
@@ -119,7 +119,7 @@ front_room m bytes raw layout at room lies is h = rw is (omega (arith, frame_fit
 pub front_few : (m : ℕ) (bytes : List ℕ) (raw : Raw) (layout : FrameLayout) → m < 2 ^ 32 → Lies m bytes layout → raw ≡ laid_out layout bytes → length raw.payload < 2 ^ 32
 front_few m bytes raw layout few lies is = rw is (few_bytes m bytes (laid_out layout bytes) layout.frame_len few lies.found)
 
-fault_verdict : (level : Level) (m : ℕ) (bytes : List ℕ) (raw : Raw) (n : ℕ) (bad : Fault) → outer (Some m) bytes ≡ took raw n → IsFaulty level raw bad → verdict level (Some m) bytes ≡ fault bad
+pub fault_verdict : (level : Level) (m : ℕ) (bytes : List ℕ) (raw : Raw) (n : ℕ) (bad : Fault) → outer (Some m) bytes ≡ took raw n → IsFaulty level raw bad → verdict level (Some m) bytes ≡ fault bad
 unfolding verdict
 fault_verdict level m bytes raw n bad found is = ap (judged level) found ∙ is.judged_bad n
 

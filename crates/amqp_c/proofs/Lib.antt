@@ -1,3 +1,5 @@
+pub mod Entries
 pub mod Feeding
+pub mod FrameLines
 pub mod Fronts
 pub mod Summaries

@@ -48,7 +48,7 @@ abbrev pub summary_of : Result Raw Fault → PayloadSummary
 summary_of (Ok raw) = summary_at raw (whole raw)
 summary_of (Err bad) = refused (fault_status bad)
 
--- what a call answers
+-- what a call returns
 abbrev pub summary_or : Result PayloadSummary StreamError → PayloadSummary
 summary_or (Ok summary) = summary
 summary_or (Err error) = refused (stream_error_status error)

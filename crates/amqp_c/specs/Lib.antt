@@ -2,3 +2,4 @@ pub mod Scans
 pub mod Checks
 pub mod Statuses
 pub mod Rewriting
+pub mod FrameLines

@@ -6,7 +6,19 @@ use Rattle.amqp_stream.specs.Errors.{stream_error_name, stream_error_status}
 use Rattle.amqp_c.specs.declared.statuses.CallError.{CallError}
 use Rattle.amqp_c.specs.declared.statuses.CallError.TheVariants as errors
 
--- the buffer for what is written is shorter than the bytes
+-- out of memory
+abbrev pub out_of_memory : ℕ
+out_of_memory = 3
+
+-- the bytes, or the text, end inside a frame or a line
+abbrev pub incomplete : ℕ
+incomplete = 21
+
+-- a line is the line of no frame
+abbrev pub bad_text : ℕ
+bad_text = 26
+
+-- the buffer is too short for what is written
 abbrev pub buffer_too_small : ℕ
 buffer_too_small = 40
 
@@ -16,11 +28,13 @@ bad_argument = 41
 
 abbrev pub call_error_status : CallError → ℕ
 call_error_status (errors.Stream error) = stream_error_status error
+call_error_status errors.BadText = bad_text
 call_error_status errors.BufferTooSmall = buffer_too_small
 call_error_status errors.BadArgument = bad_argument
 
 abbrev pub call_error_name : CallError → List ℕ
 call_error_name (errors.Stream error) = stream_error_name error
+call_error_name errors.BadText = codes "BadText"
 call_error_name errors.BufferTooSmall = codes "BufferTooSmall"
 call_error_name errors.BadArgument = codes "BadArgument"
 
@@ -50,5 +64,6 @@ call_error_at status =
     else (if status == 21 then Some (errors.Stream streams.CutShort)
     else (if status == 22 then Some (errors.Stream streams.TurnsSpent)
     else (if status == 23 then Some (errors.Stream streams.NotTidy)
+    else (if status == bad_text then Some errors.BadText
     else (if status == buffer_too_small then Some errors.BufferTooSmall
-    else (if status == bad_argument then Some errors.BadArgument else None))))))))))))))))))
+    else (if status == bad_argument then Some errors.BadArgument else None)))))))))))))))))))

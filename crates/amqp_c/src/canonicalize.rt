@@ -3,21 +3,20 @@
 ghost use Rattle.std.specs.Prelude.{◌≡◌, ◌+◌, ◌^◌, ◌<◌, ◌≤◌, Some, None, length, IfOk};
 ghost use Rattle.amqp_types.specs.Levels.{level_of, plain, tidy};
 ghost use Rattle.amqp_frame.specs.Frames.{raw_of};
-ghost use Rattle.amqp_frame.specs.Looks.{laid_out};
 ghost use Rattle.amqp_stream.specs.Writing.{frame_length};
 ghost use Rattle.amqp_c.specs.Rewriting.{Canonicalizes, PutsFrame, PutsFront, PutsVersion, Refuses, profile_at};
 ghost use Rattle.amqp_c.specs.Statuses.{bad_argument, buffer_too_small};
 
-use crate::next::scan;
+use crate::next::{frame_at, scan};
 use crate::statuses::{BAD_ARGUMENT, BUFFER_TOO_SMALL};
 use amqp_frame::{
-    AMQPFrameType, AMQPRawFrame, FrameLayout, Mark, ProtocolVersion, header_bytes, judge_frame,
-    put_canonical,
+    AMQPFrameType, AMQPRawFrame, Mark, ProtocolVersion, header_bytes, judge_frame, put_canonical,
 };
 use amqp_stream::{StreamError, payload_error};
 use amqp_types::{Profile, put_bytes};
 
-/// How many entries of tables in no order are sorted at once. A table with more of them takes quadratic time.
+/// How many entries of a table in no order are sorted without a scratch of the caller's. A table with more of them takes
+/// quadratic time then.
 const MARKS: usize = 256;
 
 /// How far a call came.
@@ -45,19 +44,6 @@ fn profile_of(level: u8) -> Option<Profile>
     }
 }
 
-/// The frame that lies so at the front of some bytes.
-#[inline(always)]
-fn frame_at(bytes: &[u8], layout: FrameLayout) -> AMQPRawFrame<'_>
-    requires { layout.payload_start + layout.payload_len ≤ length bytes.now }
-    ensures { raw_of result ≡ laid_out layout bytes.now }
-{
-    AMQPRawFrame {
-        frame_type: layout.frame_type,
-        channel_id: layout.channel_id,
-        payload: &bytes[layout.payload_start..layout.payload_start + layout.payload_len],
-    }
-}
-
 /// Puts a protocol header with this payload.
 fn put_version(out: &mut [u8], at: usize, payload: &[u8]) -> Result<usize, StreamError>
     requires { at + 8 ≤ length out.old }
@@ -77,7 +63,41 @@ fn put_version(out: &mut [u8], at: usize, payload: &[u8]) -> Result<usize, Strea
     }
 }
 
-/// Puts the canonical bytes of a borrowed frame, and returns the place after them.
+/// Puts the canonical bytes of a borrowed frame that is no protocol header, and returns the place after them. Callers know
+/// its type, so nothing asks for it where this is inlined.
+#[inline(always)]
+fn put_typed(
+    out: &mut [u8],
+    at: usize,
+    scratch: &mut [Mark],
+    raw: AMQPRawFrame<'_>,
+) -> Result<usize, StreamError>
+    requires few { length raw.payload.now < 2 ^ 32 }
+    requires room { at + length raw.payload.now + 8 ≤ length out.old }
+    ensures puts { PutsFrame plain out.old out.new at (raw_of raw.entry) result }
+    ensures within { IfOk result (λ end. end ≤ at + length raw.entry.payload.now + 8) }
+{
+    match put_canonical(out, at, scratch, raw) {
+        Ok(end) => Ok(end),
+        Err(error) => Err(payload_error(error)),
+    }
+}
+
+/// A borrowed frame of this type.
+#[inline(always)]
+fn raw_typed(frame_type: AMQPFrameType, raw: AMQPRawFrame<'_>) -> AMQPRawFrame<'_>
+    requires { raw.frame_type ≡ frame_type }
+    ensures frame { raw_of result ≡ raw_of raw.entry }
+    ensures payload { result.payload.now ≡ raw.entry.payload.now }
+{
+    AMQPRawFrame {
+        frame_type,
+        channel_id: raw.channel_id,
+        payload: raw.payload,
+    }
+}
+
+/// The same of any borrowed frame.
 #[inline(always)]
 fn put_plain(
     out: &mut [u8],
@@ -92,10 +112,16 @@ fn put_plain(
 {
     match raw.frame_type {
         AMQPFrameType::ProtocolHeader => put_version(out, at, raw.payload),
-        _ => match put_canonical(out, at, scratch, raw) {
-            Ok(end) => Ok(end),
-            Err(error) => Err(payload_error(error)),
-        },
+        AMQPFrameType::Method => {
+            put_typed(out, at, scratch, raw_typed(AMQPFrameType::Method, raw))
+        }
+        AMQPFrameType::Header => {
+            put_typed(out, at, scratch, raw_typed(AMQPFrameType::Header, raw))
+        }
+        AMQPFrameType::Body => put_typed(out, at, scratch, raw_typed(AMQPFrameType::Body, raw)),
+        AMQPFrameType::Heartbeat => {
+            put_typed(out, at, scratch, raw_typed(AMQPFrameType::Heartbeat, raw))
+        }
     }
 }
 
@@ -160,23 +186,22 @@ fn put_front(
     }
 }
 
-/// Writes the canonical bytes of the whole frames in front at a level.
-fn canonicalize(bytes: &[u8], out: &mut [u8], max_payload: u32, profile: Profile) -> Progress
+/// Writes the canonical bytes of the whole frames in front at a level, which callers know: so no frame asks for it.
+#[inline(always)]
+fn canonicalize(
+    bytes: &[u8],
+    out: &mut [u8],
+    scratch: &mut [Mark],
+    max_payload: u32,
+    profile: Profile,
+) -> Progress
     requires room { length bytes.now ≤ length out.old }
     ensures { Canonicalizes (level_of profile) max_payload bytes.now out.old out.new result }
 {
-    let mut scratch = [Mark::default(); MARKS];
     let mut used = 0;
     let mut written = 0;
     'frames: while used < bytes.len() {
-        match put_front(
-            profile,
-            max_payload,
-            &bytes[used..],
-            out,
-            written,
-            &mut scratch,
-        ) {
+        match put_front(profile, max_payload, &bytes[used..], out, written, scratch) {
             Ok((more, end)) => {
                 used += more;
                 written = end;
@@ -197,12 +222,74 @@ fn canonicalize(bytes: &[u8], out: &mut [u8], max_payload: u32, profile: Profile
     }
 }
 
+/// The same at level plain.
+#[inline(never)]
+fn canonicalize_plain(
+    bytes: &[u8],
+    out: &mut [u8],
+    scratch: &mut [Mark],
+    max_payload: u32,
+) -> Progress
+    requires room { length bytes.now ≤ length out.old }
+    ensures { Canonicalizes plain max_payload bytes.now out.old out.new result }
+{
+    canonicalize(bytes, out, scratch, max_payload, Profile::Plain)
+}
+
+/// The same at level tidy.
+#[inline(never)]
+fn canonicalize_tidy(
+    bytes: &[u8],
+    out: &mut [u8],
+    scratch: &mut [Mark],
+    max_payload: u32,
+) -> Progress
+    requires room { length bytes.now ≤ length out.old }
+    ensures { Canonicalizes tidy max_payload bytes.now out.old out.new result }
+{
+    canonicalize(bytes, out, scratch, max_payload, Profile::Tidy)
+}
+
+/// The same at a level.
+fn canonicalize_at(
+    bytes: &[u8],
+    out: &mut [u8],
+    scratch: &mut [Mark],
+    max_payload: u32,
+    profile: Profile,
+) -> Progress
+    requires room { length bytes.now ≤ length out.old }
+    ensures { Canonicalizes (level_of profile) max_payload bytes.now out.old out.new result }
+{
+    match profile {
+        Profile::Plain => canonicalize_plain(bytes, out, scratch, max_payload),
+        Profile::Tidy => canonicalize_tidy(bytes, out, scratch, max_payload),
+    }
+}
+
+/// The same with a scratch on the stack.
+#[inline(never)]
+fn canonicalize_on_stack(
+    bytes: &[u8],
+    out: &mut [u8],
+    max_payload: u32,
+    profile: Profile,
+) -> Progress
+    requires room { length bytes.now ≤ length out.old }
+    ensures { Canonicalizes (level_of profile) max_payload bytes.now out.old out.new result }
+{
+    let mut scratch = [Mark::default(); MARKS];
+    canonicalize_at(bytes, out, &mut scratch, max_payload, profile)
+}
+
 /// Writes the canonical bytes of the whole frames in front, with payloads of at most `max_payload` bytes, at a level (0
-/// plain, 1 tidy), into a buffer at least as long as the bytes.
+/// plain, 1 tidy), into a buffer at least as long as the bytes. Entries of tables in no order are sorted in the scratch,
+/// where it is longer than the one on the stack; only the time depends on it.
 #[unsafe(no_mangle)]
 pub extern "C" fn feksroum_canonicalize(
     bytes: &[u8],
     out: &mut [u8],
+    scratch: &mut [Mark],
     max_payload: u32,
     level: u8,
 ) -> Progress
@@ -215,7 +302,10 @@ pub extern "C" fn feksroum_canonicalize(
     let status = match profile_of(level) {
         None => BAD_ARGUMENT,
         Some(_) if out.len() < bytes.len() => BUFFER_TOO_SMALL,
-        Some(profile) => return canonicalize(bytes, out, max_payload, profile),
+        Some(profile) if scratch.len() <= MARKS => {
+            return canonicalize_on_stack(bytes, out, max_payload, profile);
+        }
+        Some(profile) => return canonicalize_at(bytes, out, scratch, max_payload, profile),
     };
     Progress {
         used: 0,

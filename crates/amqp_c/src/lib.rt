@@ -1,11 +1,14 @@
-//! The wire layer for C and what can call C: bytes in, bytes out. No call takes memory, calls back or keeps anything.
+//! The wire layer for C and what can call C: bytes in, bytes out. No call calls back or keeps anything, and only those on
+//! lines of text take memory.
 #![tactic(auto)]
 
 mod canonicalize;
 mod check;
 mod frame_types;
 mod laws;
+mod lines;
 mod next;
+mod scratch;
 mod statuses;
 #[cfg(test)]
 mod tests;
@@ -13,4 +16,5 @@ mod tests;
 pub use canonicalize::Progress;
 pub use check::PayloadSummary;
 pub use laws::{faults_stay, little_is_left, pieces_are_whole};
+pub use lines::FrameLine;
 pub use next::FrontFrame;

@@ -1,11 +1,13 @@
 //! The header scan: what stands at the front of some bytes, whatever its payload is.
 
-ghost use Rattle.std.specs.Prelude.{◌≡◌, Some};
+ghost use Rattle.std.specs.Prelude.{◌≡◌, ◌+◌, ◌≤◌, Some, length};
+ghost use Rattle.amqp_frame.specs.Frames.{raw_of};
+ghost use Rattle.amqp_frame.specs.Looks.{laid_out};
 ghost use Rattle.amqp_frame.specs.Outer.{outer};
 ghost use Rattle.amqp_c.specs.Scans.{Locates, Scans, judged_status};
 
 use crate::frame_types::byte_of_type;
-use amqp_frame::{FrameLayout, Look, look_at};
+use amqp_frame::{AMQPRawFrame, FrameLayout, Look, look_at};
 use amqp_stream::StreamError;
 
 /// Where the frame at the front of some bytes lies in them. Where none does, all numbers but the status are 0.
@@ -43,6 +45,19 @@ pub(crate) fn scan(max_payload: u32, bytes: &[u8]) -> Result<FrameLayout, Stream
         Look::BadProtocolHeader => Err(StreamError::BadProtocolHeader),
         Look::TooLarge => Err(StreamError::TooLarge),
         Look::BadFrameEnd => Err(StreamError::BadFrameEnd),
+    }
+}
+
+/// The frame that lies so at the front of some bytes.
+#[inline(always)]
+pub(crate) fn frame_at(bytes: &[u8], layout: FrameLayout) -> AMQPRawFrame<'_>
+    requires { layout.payload_start + layout.payload_len ≤ length bytes.now }
+    ensures { raw_of result ≡ laid_out layout bytes.now }
+{
+    AMQPRawFrame {
+        frame_type: layout.frame_type,
+        channel_id: layout.channel_id,
+        payload: &bytes[layout.payload_start..layout.payload_start + layout.payload_len],
     }
 }
 

@@ -6,7 +6,10 @@ ghost use Rattle.amqp_c.specs.Statuses.{WritesName, call_error_at, call_error_na
 use amqp_stream::StreamError;
 use amqp_types::put_bytes;
 
-/// The buffer for what is written is shorter than the bytes.
+/// A line is the line of no frame.
+pub const BAD_TEXT: u8 = 26;
+
+/// The buffer is too short for what is written.
 pub const BUFFER_TOO_SMALL: u8 = 40;
 
 /// An argument is none of those that are allowed.
@@ -18,7 +21,10 @@ pub enum CallError {
     /// A stream of these bytes would end so.
     Stream(StreamError),
 
-    /// The buffer for what is written is shorter than the bytes.
+    /// A line is the line of no frame.
+    BadText,
+
+    /// The buffer is too short for what is written.
     BufferTooSmall,
 
     /// An argument is none of those that are allowed.
@@ -31,6 +37,7 @@ fn name_of(error: CallError) -> &'static str
 {
     match error {
         CallError::Stream(error) => error.name(),
+        CallError::BadText => "BadText",
         CallError::BufferTooSmall => "BufferTooSmall",
         CallError::BadArgument => "BadArgument",
     }
@@ -58,6 +65,7 @@ fn error_with(status: u8) -> Option<CallError>
         21 => StreamError::CutShort,
         22 => StreamError::TurnsSpent,
         23 => StreamError::NotTidy,
+        BAD_TEXT => return Some(CallError::BadText),
         BUFFER_TOO_SMALL => return Some(CallError::BufferTooSmall),
         BAD_ARGUMENT => return Some(CallError::BadArgument),
         _ => return None,

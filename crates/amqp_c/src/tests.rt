@@ -1,10 +1,13 @@
-//! Each export on frames whose answers are known, and bytes in pieces.
+//! Each export on frames whose results are known by hand, and bytes in pieces.
 
 use super::*;
 use crate::canonicalize::feksroum_canonicalize;
 use crate::check::feksroum_check;
+use crate::lines::{feksroum_dump, feksroum_undump};
 use crate::next::feksroum_next;
+use crate::scratch::feksroum_scratch;
 use crate::statuses::feksroum_name;
+use amqp_frame::Mark;
 
 const LIMIT: u32 = 131_072;
 
@@ -111,7 +114,7 @@ const STREAMS: [(&[u8], u8, usize, &[u8], u8); 9] = [
 fn streams_are_canonicalized(rt: HostRuntime) {
     for row in &STREAMS {
         let mut out = [99; 40];
-        let progress = feksroum_canonicalize(row.0, &mut out, LIMIT, row.1);
+        let progress = feksroum_canonicalize(row.0, &mut out, &mut [], LIMIT, row.1);
         assert!(rt; progress.used == row.2 && progress.status == row.4);
         assert!(rt; out.get(..progress.written) == Some(row.3));
         assert!(rt; out.get(progress.written) == Some(&99));
@@ -119,27 +122,94 @@ fn streams_are_canonicalized(rt: HostRuntime) {
 }
 
 #[test]
+fn a_scratch_may_be_lent(rt: HostRuntime) {
+    assert!(rt; feksroum_scratch(29) == 14 && feksroum_scratch(0) == 0);
+    let mut scratch = [Mark::default(); 257];
+    let mut out = [99; 28];
+    let progress = feksroum_canonicalize(&TWICE, &mut out, &mut scratch, LIMIT, 0);
+    assert!(rt; progress.used == 28 && progress.status == 0);
+    assert!(rt; out.get(..progress.written) == Some(&ONCE));
+}
+
+#[test]
 fn pieces_give_what_the_whole_gives(rt: HostRuntime) {
     for cut in 0..=TWICE.len() {
         let mut out = [0; 28];
-        let first = feksroum_canonicalize(&TWICE[..cut], &mut out, LIMIT, 0);
+        let first = feksroum_canonicalize(&TWICE[..cut], &mut out, &mut [], LIMIT, 0);
         let whole = cut == 0 || cut == TWICE.len();
         assert!(rt; first.status == if whole { 0 } else { 21 });
         assert!(rt; first.used == if cut == TWICE.len() { TWICE.len() } else { 0 });
     }
 }
 
+/// Bytes, the line of the frame in front, how many bytes the frame has, its canonical bytes, and the status.
+const LINES: [(&[u8], &[u8], usize, &[u8], u8); 6] = [
+    (&BODY, b"body 1 x68\n", 9, &BODY, 0),
+    (&LOUD, b"beat\n", 9, &HEARTBEAT, 0),
+    (&HEADER, b"proto 0.9.1\n", 8, &HEADER, 0),
+    (
+        &TWICE,
+        b"method 1 50.10 \"\" +++++ {\"a\"=t:1}\n",
+        28,
+        &ONCE,
+        0,
+    ),
+    (&[3, 0, 1], b"", 0, &[], 21),
+    (&[3, 0, 1, 0, 0, 0, 0, 7], b"", 0, &[], 13),
+];
+
+#[test]
+fn frames_are_dumped(rt: HostRuntime) {
+    for row in &LINES {
+        let mut out = [99; 40];
+        let found = feksroum_dump(rt.alloc(), row.0, &mut out, LIMIT);
+        assert!(rt; found.used == row.2 && found.length == row.1.len() && found.status == row.4);
+        assert!(rt; out.get(..found.length) == Some(row.1));
+        assert!(rt; out.get(found.length) == Some(&99));
+    }
+}
+
+#[test]
+fn lines_are_undumped(rt: HostRuntime) {
+    for row in &LINES[..4] {
+        let mut out = [99; 40];
+        let found = feksroum_undump(rt.alloc(), row.1, &mut out, LIMIT);
+        assert!(rt; found.used == row.1.len() && found.length == row.3.len() && found.status == 0);
+        assert!(rt; out.get(..found.length) == Some(row.3));
+        assert!(rt; out.get(found.length) == Some(&99));
+    }
+}
+
+/// Texts, the limit, and what undumping returns.
+const TEXTS: [(&[u8], u32, (usize, usize, u8)); 5] = [
+    (b"beat\nbeat\n", 0, (5, 8, 0)),
+    (b"beat", LIMIT, (0, 0, 21)),
+    (b"beat 0\nbeat\n", LIMIT, (0, 0, 26)),
+    (b"body 1 x6868\n", 1, (0, 0, 26)),
+    (b"body 1 x6868686868\n", LIMIT, (19, 13, 40)),
+];
+
+#[test]
+fn texts_are_tested(rt: HostRuntime) {
+    for row in &TEXTS {
+        let mut out = [99; 12];
+        let found = feksroum_undump(rt.alloc(), row.0, &mut out, row.1);
+        assert!(rt; (found.used, found.length, found.status) == row.2);
+        assert!(rt; found.status == 0 || out == [99; 12]);
+    }
+}
+
 #[test]
 fn arguments_are_tested(rt: HostRuntime) {
     let mut out = [99; 9];
-    let short = feksroum_canonicalize(&BODY, &mut out[..8], LIMIT, 0);
+    let short = feksroum_canonicalize(&BODY, &mut out[..8], &mut [], LIMIT, 0);
     assert!(rt; short.used == 0 && short.written == 0 && short.status == 40);
-    let level = feksroum_canonicalize(&BODY, &mut out, LIMIT, 2);
+    let level = feksroum_canonicalize(&BODY, &mut out, &mut [], LIMIT, 2);
     assert!(rt; level.used == 0 && level.written == 0 && level.status == 41);
     assert!(rt; out == [99; 9]);
-    let exact = feksroum_canonicalize(&BODY, &mut out, 1, 0);
+    let exact = feksroum_canonicalize(&BODY, &mut out, &mut [], 1, 0);
     assert!(rt; exact.written == 9 && exact.status == 0 && out == BODY);
-    let limit = feksroum_canonicalize(&BODY, &mut out, 0, 0);
+    let limit = feksroum_canonicalize(&BODY, &mut out, &mut [], 0, 0);
     assert!(rt; limit.written == 0 && limit.status == 12);
 }
 
@@ -150,5 +220,6 @@ fn statuses_have_names(rt: HostRuntime) {
     assert!(rt; feksroum_name(11, &mut out) == 17 && out == *b"BadProtocolHeader");
     assert!(rt; feksroum_name(40, &mut out[..13]) == 14 && out == *b"BadProtocolHeader");
     assert!(rt; feksroum_name(41, &mut out) == 11 && out.get(..11) == Some(b"BadArgument"));
+    assert!(rt; feksroum_name(26, &mut out) == 7 && out.get(..7) == Some(b"BadText"));
     assert!(rt; feksroum_name(0, &mut out) == 0 && feksroum_name(255, &mut out) == 0);
 }

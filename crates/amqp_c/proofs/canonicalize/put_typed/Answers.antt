@@ -2,7 +2,7 @@ use Rattle.std.proofs.Common.{Err, ap}
 use Rattle.amqp_types.specs.Levels.{plain}
 use Rattle.amqp_frame.specs.Frames.{raw_of}
 use Rattle.amqp_c.proofs.Fronts.{unput}
-use Rattle.amqp_c.proofs.canonicalize.put_plain.Goals as goal
+use Rattle.amqp_c.proofs.canonicalize.put_typed.Goals as goal
 
 pub returns-in-Err : goal.returns-in-Err
 returns-in-Err c =

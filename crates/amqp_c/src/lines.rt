@@ -1,0 +1,139 @@
+//! Frames as lines of text, and back, one at a time. These calls take memory.
+
+ghost use Rattle.std.specs.Prelude.{◌≡◌, ◌≢◌, ◌++◌, ◌≤◌, ℕ, List, length, take, Some};
+ghost use Rattle.amqp_types.specs.Levels.{plain};
+ghost use Rattle.amqp_frame.specs.Canonical.{canon};
+ghost use Rattle.amqp_frame.specs.Frames.{Frame};
+ghost use Rattle.amqp_frame.specs.Verdicts.{verdict};
+ghost use Rattle.amqp_text.specs.LineReading.{EndsLine, HasNoNewline};
+ghost use Rattle.amqp_text.specs.Lines.{line};
+ghost use Rattle.amqp_text.specs.OneLine.{IsStrictWithin};
+ghost use Rattle.amqp_text.specs.Undumping.{HoldsNewline};
+ghost use Rattle.amqp_c.specs.FrameLines.{AppendsFront, Converts, DumpedAt, IsNoFront, RefusesLine, nothing_with};
+ghost use Rattle.amqp_c.specs.Statuses.{bad_text, incomplete, out_of_memory};
+
+use crate::next::{frame_at, scan};
+use crate::statuses::{BAD_TEXT, BUFFER_TOO_SMALL};
+use amqp_stream::StreamError;
+use amqp_text::{TextError, dump_line, undump_line};
+use amqp_types::put_bytes;
+use std::alloc::Global;
+
+/// A frame and its line, of which one was read and the other written. Where neither was, all but the status is 0.
+#[repr(C)]
+#[derive(Clone, Copy, Debug, PartialEq, Eq)]
+pub struct FrameLine {
+    /// How many bytes the one that was read has.
+    pub used: usize,
+
+    /// How many bytes the other has.
+    pub length: usize,
+
+    /// 0 where it was written, 40 where the buffer is too short for it, or why neither was read.
+    pub status: u8,
+}
+
+/// Nothing was read, for this reason.
+fn nothing_with(status: u8) -> FrameLine
+    ensures { result ≡ nothing_with status }
+{
+    FrameLine {
+        used: 0,
+        length: 0,
+        status,
+    }
+}
+
+/// Writes a text at the front of a buffer where it fits.
+fn write_front(out: &mut [u8], used: usize, text: &[u8]) -> FrameLine
+    ensures { Converts text.now used out.old out.new result }
+{
+    let mut status = BUFFER_TOO_SMALL;
+    if text.len() <= out.len() {
+        put_bytes(out, 0, text);
+        status = 0;
+    }
+    FrameLine {
+        used,
+        length: text.len(),
+        status,
+    }
+}
+
+/// Appends the line of the frame in front, and returns how many bytes the frame has.
+fn append_line(
+    alloc: Global,
+    line: &mut Vec<u8>,
+    bytes: &[u8],
+    max_payload: u32,
+) -> Result<usize, StreamError>
+    ensures { AppendsFront max_payload bytes.now line.old.items line.new.items result }
+{
+    match scan(max_payload, bytes) {
+        Err(error) => Err(error),
+        Ok(layout) => match dump_line(alloc, line, frame_at(bytes, layout)) {
+            Err(error) => Err(error),
+            Ok(()) => Ok(layout.frame_len),
+        },
+    }
+}
+
+/// Writes the line of the frame in front, with a payload of at most `max_payload` bytes, at the front of a buffer where it
+/// fits.
+#[unsafe(no_mangle)]
+pub extern "C" fn feksroum_dump(
+    alloc: Global,
+    bytes: &[u8],
+    out: &mut [u8],
+    max_payload: u32,
+) -> FrameLine
+    ensures dumped { result.status ≢ out_of_memory → DumpedAt (verdict plain (Some max_payload) bytes.now) out.old out.new result }
+    ensures memory { result.status ≡ out_of_memory → RefusesLine out_of_memory out.old out.new result }
+{
+    let mut line = Vec::new(alloc);
+    match append_line(alloc, &mut line, bytes, max_payload) {
+        Ok(used) => write_front(out, used, &line),
+        Err(error) => nothing_with(error.status()),
+    }
+}
+
+/// Where the first line ends, after its newline.
+fn line_end(text: &[u8]) -> Option<usize>
+    ensures { EndsLine text.now result }
+{
+    let mut place = 0;
+    while place < text.len() {
+        if text[place] == b'\n' {
+            return Some(place + 1);
+        }
+        place += 1;
+    }
+    None
+}
+
+/// Writes the canonical bytes of the frame whose line is in front, with a payload of at most `max_payload` bytes, at the
+/// front of a buffer where they fit.
+#[unsafe(no_mangle)]
+pub extern "C" fn feksroum_undump(
+    alloc: Global,
+    text: &[u8],
+    out: &mut [u8],
+    max_payload: u32,
+) -> FrameLine
+    ensures line { (frame : Frame) (rest : List ℕ) → IsStrictWithin max_payload frame → text.now ≡ line frame ++ rest
+        → result.status ≢ out_of_memory → Converts (canon frame) (length (line frame)) out.old out.new result }
+    ensures none { HoldsNewline text.now → IsNoFront max_payload text.now → result.status ≢ out_of_memory
+        → RefusesLine bad_text out.old out.new result }
+    ensures incomplete { HasNoNewline text.now → RefusesLine incomplete out.old out.new result }
+    ensures memory { result.status ≡ out_of_memory → RefusesLine out_of_memory out.old out.new result }
+{
+    let Some(end) = line_end(text) else {
+        return nothing_with(StreamError::CutShort.status());
+    };
+    let mut canonical = Vec::new(alloc);
+    match undump_line(alloc, &mut canonical, &text[..end], max_payload) {
+        Ok(()) => write_front(out, end, &canonical),
+        Err(TextError::BadText) => nothing_with(BAD_TEXT),
+        Err(TextError::NoMemory) => nothing_with(StreamError::NoMemory.status()),
+    }
+}
