@@ -156,7 +156,8 @@ static bool arguments_are_tested(void) {
     feksroum_line bad_line = feksroum_undump((const uint8_t *)"\n", 1, out, 8, MAX_PAYLOAD);
     bool lines = no_frame.status == FEKSROUM_INCOMPLETE && needed.status == FEKSROUM_BUFFER_TOO_SMALL && needed.length == 5 &&
                  no_line.status == FEKSROUM_INCOMPLETE && bad_line.status == FEKSROUM_BAD_TEXT;
-    return lines && feksroum_scratch(0) == 0 && feksroum_scratch(MAX_PAYLOAD) == MAX_PAYLOAD / 2 && none.status == FEKSROUM_OK && shorter.status == FEKSROUM_BUFFER_TOO_SMALL &&
+    bool scratches = feksroum_scratch(0) == 0 && feksroum_scratch(MAX_PAYLOAD) == MAX_PAYLOAD / 2;
+    return lines && scratches && none.status == FEKSROUM_OK && shorter.status == FEKSROUM_BUFFER_TOO_SMALL &&
            level.status == FEKSROUM_BAD_ARGUMENT && shorter.used + shorter.written + level.used + level.written == 0 &&
            feksroum_next(NULL, 0, 0).status == FEKSROUM_INCOMPLETE &&
            feksroum_check(FEKSROUM_HEARTBEAT, NULL, 0).canonical && feksroum_name(FEKSROUM_TOO_DEEP, NULL, 0) == 7;
@@ -165,7 +166,8 @@ static bool arguments_are_tested(void) {
 /* A method with one table of so many entries, whose keys fall, and its canonical bytes: the same, with or without a scratch. */
 static bool scratch_agrees(void) {
     enum { ENTRIES = 3000, CONTENT = 4 * ENTRIES, PAYLOAD = 12 + CONTENT };
-    static const uint8_t front[] = {1, 0, 1, 0, 0, PAYLOAD >> 8, PAYLOAD & 255, 0, 50, 0, 10, 0, 0, 0, 0, 0, 0, CONTENT >> 8, CONTENT & 255};
+    static const uint8_t front[] = {1, 0, 1, 0, 0, PAYLOAD >> 8,  PAYLOAD & 255, 0, 50, 0, 10, 0, 0, 0, 0,
+                                    0, 0, CONTENT >> 8, CONTENT & 255};
     memcpy(bytes, front, sizeof front);
     for (int k = 0; k < ENTRIES; k++) {
         const uint8_t entry[] = {2, (uint8_t)((ENTRIES - 1 - k) >> 6), (uint8_t)((ENTRIES - 1 - k) & 63), 'V'};
@@ -219,7 +221,8 @@ int main(int argc, char **argv) {
         return 2;
     }
     while (fgets(line, sizeof line, list)) {
-        if (sscanf(line, "%255s %255s %d", name, command, &status) != 3 || !strstr(" raw lent hex tidy dump undump ", command)) {
+        if (sscanf(line, "%255s %255s %d", name, command, &status) != 3 ||
+            !strstr(" raw lent hex tidy dump undump ", command)) {
             continue;
         }
         done++;

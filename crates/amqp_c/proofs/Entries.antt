@@ -9,7 +9,6 @@ use Rattle.amqp_types.specs.declared.tag.FieldTag.{FieldTag}
 use Rattle.amqp_types.proofs.Bytes.{IsBytes-drop}
 use Rattle.amqp_types.proofs.Took.{bind_took, count_took}
 use Rattle.amqp_canonical.specs.Marks.{AreEntries, entries_in}
-use Rattle.amqp_canonical.specs.Writes.{items_of}
 use Rattle.amqp_canonical.proofs.ReadParts.{entry_parts, first_entry, is_read}
 
 -- a value has a tag

@@ -1,9 +1,8 @@
 -- A frame and its line: what was read, and what is written of it.
-use Rattle.std.proofs.Common.{◌≡◌, ◌≢◌, ℕ, ◌+◌, ◌<◌, ◌≤◌, List, [], ◌∷◌, ◌++◌, length, take, drop, Some, Ok, Err, refl, sym, ap, subst, ◌∙◌, arith, append_assoc, inl, inr}
-use Rattle.std.proofs.lemmas.Bool.{cases_lt}
+use Rattle.std.proofs.Common.{◌≡◌, ℕ, List, ◌++◌, length, take, drop, Some, Ok, Err, refl, sym, ap, subst, ◌∙◌}
 use Rattle.std.proofs.lemmas.List.{length-take-le, take-append-drop}
 use Rattle.amqp_types.specs.Levels.{plain}
-use Rattle.amqp_types.specs.Judging.{Fault, Judged, past, fault, took}
+use Rattle.amqp_types.specs.Judging.{Fault, took}
 use Rattle.amqp_frame.specs.declared.looking.FrameLayout.{FrameLayout}
 use Rattle.amqp_frame.specs.Canonical.{canon}
 use Rattle.amqp_frame.specs.Frames.{Frame, Raw}
@@ -13,20 +12,18 @@ use Rattle.amqp_frame.specs.Verdicts.{verdict, whole}
 use Rattle.amqp_frame.proofs.Cuts.{verdict-whole}
 use Rattle.amqp_stream.specs.declared.errors.StreamError.{StreamError}
 use Rattle.amqp_stream.specs.declared.errors.StreamError.TheVariants as errors
-use Rattle.amqp_stream.specs.Errors.{cause_of, error_of, stream_error_status}
+use Rattle.amqp_stream.specs.Errors.{cause_of, error_of}
 use Rattle.amqp_stream.specs.Reading.{Lies}
 use Rattle.amqp_stream.specs.Writing.{IsFaulty}
 use Rattle.amqp_text.specs.LineReading.{HasNoNewline, IsFirstLine}
 use Rattle.amqp_text.specs.LineTexts.{IsUntold}
 use Rattle.amqp_text.specs.Lines.{line}
 use Rattle.amqp_text.specs.OneLine.{IsLineOf, IsNoLine, IsStrictWithin}
-use Rattle.amqp_text.specs.Undumping.{HoldsNewline}
 use Rattle.amqp_text.proofs.LinesApart.{same_frame}
 use Rattle.amqp_text.proofs.TextFronts.{IsAtNone, at_clean, first_line, holds_none, line_first}
 use Rattle.amqp_c.specs.declared.lines.FrameLine.{FrameLine}
-use Rattle.amqp_c.specs.FrameLines.{AppendsFront, Converts, DumpedAt, IsNoFront, RefusesLine, nothing_with}
+use Rattle.amqp_c.specs.FrameLines.{AppendsFront, Converts, IsNoFront}
 use Rattle.amqp_c.specs.Scans.{error_at}
-use Rattle.amqp_c.specs.Statuses.{bad_text, incomplete, out_of_memory}
 use Rattle.amqp_c.proofs.Fronts.{fault_verdict, unscanned}
 
 -- ---- the line of the frame in front

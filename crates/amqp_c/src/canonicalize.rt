@@ -63,8 +63,8 @@ fn put_version(out: &mut [u8], at: usize, payload: &[u8]) -> Result<usize, Strea
     }
 }
 
-/// Puts the canonical bytes of a borrowed frame that is no protocol header, and returns the place after them. Callers know
-/// its type, so nothing asks for it where this is inlined.
+/// Puts the canonical bytes of a borrowed frame that is no protocol header, and returns the place after them. Inlined where
+/// the type is known, it has no test of it.
 #[inline(always)]
 fn put_typed(
     out: &mut [u8],
@@ -83,9 +83,9 @@ fn put_typed(
     }
 }
 
-/// A borrowed frame of this type.
+/// The same borrowed frame, with its type written out.
 #[inline(always)]
-fn raw_typed(frame_type: AMQPFrameType, raw: AMQPRawFrame<'_>) -> AMQPRawFrame<'_>
+fn with_type(frame_type: AMQPFrameType, raw: AMQPRawFrame<'_>) -> AMQPRawFrame<'_>
     requires { raw.frame_type ≡ frame_type }
     ensures frame { raw_of result ≡ raw_of raw.entry }
     ensures payload { result.payload.now ≡ raw.entry.payload.now }
@@ -97,7 +97,8 @@ fn raw_typed(frame_type: AMQPFrameType, raw: AMQPRawFrame<'_>) -> AMQPRawFrame<'
     }
 }
 
-/// The same of any borrowed frame.
+/// Puts the canonical bytes of a borrowed frame, and returns the place after them. Methods, which come most often, have a
+/// way of their own.
 #[inline(always)]
 fn put_plain(
     out: &mut [u8],
@@ -113,19 +114,16 @@ fn put_plain(
     match raw.frame_type {
         AMQPFrameType::ProtocolHeader => put_version(out, at, raw.payload),
         AMQPFrameType::Method => {
-            put_typed(out, at, scratch, raw_typed(AMQPFrameType::Method, raw))
+            put_typed(out, at, scratch, with_type(AMQPFrameType::Method, raw))
         }
-        AMQPFrameType::Header => {
-            put_typed(out, at, scratch, raw_typed(AMQPFrameType::Header, raw))
-        }
-        AMQPFrameType::Body => put_typed(out, at, scratch, raw_typed(AMQPFrameType::Body, raw)),
-        AMQPFrameType::Heartbeat => {
-            put_typed(out, at, scratch, raw_typed(AMQPFrameType::Heartbeat, raw))
-        }
+        AMQPFrameType::Header | AMQPFrameType::Body | AMQPFrameType::Heartbeat => put_typed(
+            out, at, scratch, raw,
+        ),
     }
 }
 
 /// The same of a tidy frame. Where it is not tidy, nothing is put.
+#[inline(never)]
 fn put_tidy(
     out: &mut [u8],
     at: usize,
@@ -186,7 +184,7 @@ fn put_front(
     }
 }
 
-/// Writes the canonical bytes of the whole frames in front at a level, which callers know: so no frame asks for it.
+/// Writes the canonical bytes of the whole frames in front at a level. Inlined where the level is known, it has no test of it.
 #[inline(always)]
 fn canonicalize(
     bytes: &[u8],
