@@ -68,19 +68,19 @@ same_cancel a b = search rules
 same_cancel_ok : (a b : CancelOk) → Decides (cancel_ok.ghosts.eq a b) (a ≡ b)
 same_cancel_ok a b = search rules
 
-same_publish : (a b : Publish) → Decides (publish.ghosts.eq a b) (a ≡ b)
+pub same_publish : (a b : Publish) → Decides (publish.ghosts.eq a b) (a ≡ b)
 same_publish a b = search rules
 
-same_return : (a b : Return) → Decides (returned.ghosts.eq a b) (a ≡ b)
+pub same_return : (a b : Return) → Decides (returned.ghosts.eq a b) (a ≡ b)
 same_return a b = search rules
 
-same_deliver : (a b : Deliver) → Decides (deliver.ghosts.eq a b) (a ≡ b)
+pub same_deliver : (a b : Deliver) → Decides (deliver.ghosts.eq a b) (a ≡ b)
 same_deliver a b = search rules
 
 same_get : (a b : Get) → Decides (get.ghosts.eq a b) (a ≡ b)
 same_get a b = search rules
 
-same_get_ok : (a b : GetOk) → Decides (get_ok.ghosts.eq a b) (a ≡ b)
+pub same_get_ok : (a b : GetOk) → Decides (get_ok.ghosts.eq a b) (a ≡ b)
 same_get_ok a b = search rules
 
 same_ack : (a b : Ack) → Decides (ack.ghosts.eq a b) (a ≡ b)

@@ -1,15 +1,15 @@
 -- Two methods of the class channel are equal exactly where contracts see the same.
 use Rattle.std.proofs.Common.{◌≡◌, true, true≢false, refl, sym, ap, subst, rules}
 use Rattle.std.specs.Bool.{Decides}
-use Rattle.amqp_channel.specs.declared.channel.Flow.{Flow}
-use Rattle.amqp_channel.specs.contracts.channel.FlowPartialEq.TheImpl as flow
-use Rattle.amqp_channel.specs.declared.channel.FlowOk.{FlowOk}
-use Rattle.amqp_channel.specs.contracts.channel.FlowOkPartialEq.TheImpl as flow_ok
-use Rattle.amqp_channel.specs.declared.channel.Close.{Close}
-use Rattle.amqp_channel.specs.contracts.channel.ClosePartialEq.TheImpl as close
-use Rattle.amqp_channel.specs.declared.channel.AMQPMethod.{AMQPMethod}
-use Rattle.amqp_channel.specs.declared.channel.AMQPMethod.TheVariants as variant
-use Rattle.amqp_channel.specs.contracts.channel.AMQPMethodPartialEq.TheImpl as method
+use Rattle.amqp_channel.specs.declared.methods.channel.Flow.{Flow}
+use Rattle.amqp_channel.specs.contracts.methods.channel.FlowPartialEq.TheImpl as flow
+use Rattle.amqp_channel.specs.declared.methods.channel.FlowOk.{FlowOk}
+use Rattle.amqp_channel.specs.contracts.methods.channel.FlowOkPartialEq.TheImpl as flow_ok
+use Rattle.amqp_channel.specs.declared.methods.channel.Close.{Close}
+use Rattle.amqp_channel.specs.contracts.methods.channel.ClosePartialEq.TheImpl as close
+use Rattle.amqp_channel.specs.declared.methods.channel.AMQPMethod.{AMQPMethod}
+use Rattle.amqp_channel.specs.declared.methods.channel.AMQPMethod.TheVariants as variant
+use Rattle.amqp_channel.specs.contracts.methods.channel.AMQPMethodPartialEq.TheImpl as method
 
 same_flow : (a b : Flow) → Decides (flow.ghosts.eq a b) (a ≡ b)
 same_flow a b = search rules

@@ -1,11 +1,11 @@
 -- Two methods of the class confirm are equal exactly where contracts see the same.
 use Rattle.std.proofs.Common.{◌≡◌, true, true≢false, refl, sym, ap, subst, rules}
 use Rattle.std.specs.Bool.{Decides}
-use Rattle.amqp_channel.specs.declared.confirm.Select.{Select}
-use Rattle.amqp_channel.specs.contracts.confirm.SelectPartialEq.TheImpl as select
-use Rattle.amqp_channel.specs.declared.confirm.AMQPMethod.{AMQPMethod}
-use Rattle.amqp_channel.specs.declared.confirm.AMQPMethod.TheVariants as variant
-use Rattle.amqp_channel.specs.contracts.confirm.AMQPMethodPartialEq.TheImpl as method
+use Rattle.amqp_channel.specs.declared.methods.confirm.Select.{Select}
+use Rattle.amqp_channel.specs.contracts.methods.confirm.SelectPartialEq.TheImpl as select
+use Rattle.amqp_channel.specs.declared.methods.confirm.AMQPMethod.{AMQPMethod}
+use Rattle.amqp_channel.specs.declared.methods.confirm.AMQPMethod.TheVariants as variant
+use Rattle.amqp_channel.specs.contracts.methods.confirm.AMQPMethodPartialEq.TheImpl as method
 
 same_select : (a b : Select) → Decides (select.ghosts.eq a b) (a ≡ b)
 same_select a b = search rules

@@ -1,9 +1,9 @@
 -- Two methods of the class tx are equal exactly where contracts see the same.
 use Rattle.std.proofs.Common.{◌≡◌, true, true≢false, refl, sym, subst}
 use Rattle.std.specs.Bool.{Decides}
-use Rattle.amqp_channel.specs.declared.tx.AMQPMethod.{AMQPMethod}
-use Rattle.amqp_channel.specs.declared.tx.AMQPMethod.TheVariants as variant
-use Rattle.amqp_channel.specs.contracts.tx.AMQPMethodPartialEq.TheImpl as method
+use Rattle.amqp_channel.specs.declared.methods.tx.AMQPMethod.{AMQPMethod}
+use Rattle.amqp_channel.specs.declared.methods.tx.AMQPMethod.TheVariants as variant
+use Rattle.amqp_channel.specs.contracts.methods.tx.AMQPMethodPartialEq.TheImpl as method
 
 same : (a b : AMQPMethod) → method.ghosts.eq a b ≡ true → a ≡ b
 same (variant.Select a) (variant.Select b) h = refl

@@ -2,14 +2,14 @@
 use Rattle.std.specs.Prelude.{[], ◌∷◌}
 use Rattle.amqp_types.specs.Slots.{number_item, flag_item, text_item}
 use Rattle.amqp_types.specs.Methods.{Method, method}
-use Rattle.amqp_channel.specs.declared.channel.Open.{Open}
-use Rattle.amqp_channel.specs.declared.channel.OpenOk.{OpenOk}
-use Rattle.amqp_channel.specs.declared.channel.Flow.{Flow}
-use Rattle.amqp_channel.specs.declared.channel.FlowOk.{FlowOk}
-use Rattle.amqp_channel.specs.declared.channel.Close.{Close}
-use Rattle.amqp_channel.specs.declared.channel.CloseOk.{CloseOk}
-use Rattle.amqp_channel.specs.declared.channel.AMQPMethod.{AMQPMethod}
-use Rattle.amqp_channel.specs.declared.channel.AMQPMethod.TheVariants as variant
+use Rattle.amqp_channel.specs.declared.methods.channel.Open.{Open}
+use Rattle.amqp_channel.specs.declared.methods.channel.OpenOk.{OpenOk}
+use Rattle.amqp_channel.specs.declared.methods.channel.Flow.{Flow}
+use Rattle.amqp_channel.specs.declared.methods.channel.FlowOk.{FlowOk}
+use Rattle.amqp_channel.specs.declared.methods.channel.Close.{Close}
+use Rattle.amqp_channel.specs.declared.methods.channel.CloseOk.{CloseOk}
+use Rattle.amqp_channel.specs.declared.methods.channel.AMQPMethod.{AMQPMethod}
+use Rattle.amqp_channel.specs.declared.methods.channel.AMQPMethod.TheVariants as variant
 
 abbrev pub open_method : Open → Method
 open_method m = method 20 10 ([])

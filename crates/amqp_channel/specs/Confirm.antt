@@ -2,10 +2,10 @@
 use Rattle.std.specs.Prelude.{[], ◌∷◌}
 use Rattle.amqp_types.specs.Slots.{flag_item}
 use Rattle.amqp_types.specs.Methods.{Method, method}
-use Rattle.amqp_channel.specs.declared.confirm.Select.{Select}
-use Rattle.amqp_channel.specs.declared.confirm.SelectOk.{SelectOk}
-use Rattle.amqp_channel.specs.declared.confirm.AMQPMethod.{AMQPMethod}
-use Rattle.amqp_channel.specs.declared.confirm.AMQPMethod.TheVariants as variant
+use Rattle.amqp_channel.specs.declared.methods.confirm.Select.{Select}
+use Rattle.amqp_channel.specs.declared.methods.confirm.SelectOk.{SelectOk}
+use Rattle.amqp_channel.specs.declared.methods.confirm.AMQPMethod.{AMQPMethod}
+use Rattle.amqp_channel.specs.declared.methods.confirm.AMQPMethod.TheVariants as variant
 
 abbrev pub select_method : Select → Method
 select_method m = method 85 10 (flag_item m.nowait ∷ [])

@@ -1,14 +1,14 @@
 -- The methods of the class tx, and the items of their fields.
 use Rattle.std.specs.Prelude.{[]}
 use Rattle.amqp_types.specs.Methods.{Method, method}
-use Rattle.amqp_channel.specs.declared.tx.Select.{Select}
-use Rattle.amqp_channel.specs.declared.tx.SelectOk.{SelectOk}
-use Rattle.amqp_channel.specs.declared.tx.Commit.{Commit}
-use Rattle.amqp_channel.specs.declared.tx.CommitOk.{CommitOk}
-use Rattle.amqp_channel.specs.declared.tx.Rollback.{Rollback}
-use Rattle.amqp_channel.specs.declared.tx.RollbackOk.{RollbackOk}
-use Rattle.amqp_channel.specs.declared.tx.AMQPMethod.{AMQPMethod}
-use Rattle.amqp_channel.specs.declared.tx.AMQPMethod.TheVariants as variant
+use Rattle.amqp_channel.specs.declared.methods.tx.Select.{Select}
+use Rattle.amqp_channel.specs.declared.methods.tx.SelectOk.{SelectOk}
+use Rattle.amqp_channel.specs.declared.methods.tx.Commit.{Commit}
+use Rattle.amqp_channel.specs.declared.methods.tx.CommitOk.{CommitOk}
+use Rattle.amqp_channel.specs.declared.methods.tx.Rollback.{Rollback}
+use Rattle.amqp_channel.specs.declared.methods.tx.RollbackOk.{RollbackOk}
+use Rattle.amqp_channel.specs.declared.methods.tx.AMQPMethod.{AMQPMethod}
+use Rattle.amqp_channel.specs.declared.methods.tx.AMQPMethod.TheVariants as variant
 
 abbrev pub select_method : Select → Method
 select_method m = method 90 10 ([])

@@ -4,11 +4,11 @@ use Rattle.std.specs.Bool.{Decides}
 use Rattle.std.specs.Cmp.{booleans_Decides}
 use Rattle.std.specs.Cmp.Lexicographic.{bytes_decides}
 use Rattle.amqp_values.proofs.Deciding.{both}
-use Rattle.amqp_connection.specs.declared.access.Request.{Request}
-use Rattle.amqp_connection.specs.contracts.access.RequestPartialEq.TheImpl as request
-use Rattle.amqp_connection.specs.declared.access.AMQPMethod.{AMQPMethod}
-use Rattle.amqp_connection.specs.declared.access.AMQPMethod.TheVariants as variant
-use Rattle.amqp_connection.specs.contracts.access.AMQPMethodPartialEq.TheImpl as method
+use Rattle.amqp_connection.specs.declared.methods.access.Request.{Request}
+use Rattle.amqp_connection.specs.contracts.methods.access.RequestPartialEq.TheImpl as request
+use Rattle.amqp_connection.specs.declared.methods.access.AMQPMethod.{AMQPMethod}
+use Rattle.amqp_connection.specs.declared.methods.access.AMQPMethod.TheVariants as variant
+use Rattle.amqp_connection.specs.contracts.methods.access.AMQPMethodPartialEq.TheImpl as method
 
 SameRequest : Request → Request → Type 0
 SameRequest a b = (a.realm ≡ b.realm) × ((a.exclusive ≡ b.exclusive) × ((a.passive ≡ b.passive) × ((a.active ≡ b.active) × ((a.write ≡ b.write) × (a.read ≡ b.read)))))

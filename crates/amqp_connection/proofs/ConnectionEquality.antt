@@ -4,29 +4,29 @@ use Rattle.std.specs.Bool.{Decides}
 use Rattle.std.specs.Cmp.{unsigned_Decides}
 use Rattle.std.specs.Cmp.Lexicographic.{bytes_decides}
 use Rattle.amqp_values.proofs.Deciding.{both, same_tables}
-use Rattle.amqp_connection.specs.declared.connection.negotiating.Start.{Start}
-use Rattle.amqp_connection.specs.contracts.connection.negotiating.StartPartialEq.TheImpl as start
-use Rattle.amqp_connection.specs.declared.connection.negotiating.StartOk.{StartOk}
-use Rattle.amqp_connection.specs.contracts.connection.negotiating.StartOkPartialEq.TheImpl as start_ok
-use Rattle.amqp_connection.specs.declared.connection.negotiating.Secure.{Secure}
-use Rattle.amqp_connection.specs.contracts.connection.negotiating.SecurePartialEq.TheImpl as secure
-use Rattle.amqp_connection.specs.declared.connection.negotiating.SecureOk.{SecureOk}
-use Rattle.amqp_connection.specs.contracts.connection.negotiating.SecureOkPartialEq.TheImpl as secure_ok
-use Rattle.amqp_connection.specs.declared.connection.negotiating.Tune.{Tune}
-use Rattle.amqp_connection.specs.contracts.connection.negotiating.TunePartialEq.TheImpl as tune
-use Rattle.amqp_connection.specs.declared.connection.negotiating.TuneOk.{TuneOk}
-use Rattle.amqp_connection.specs.contracts.connection.negotiating.TuneOkPartialEq.TheImpl as tune_ok
-use Rattle.amqp_connection.specs.declared.connection.opening.Open.{Open}
-use Rattle.amqp_connection.specs.contracts.connection.opening.OpenPartialEq.TheImpl as opened
-use Rattle.amqp_connection.specs.declared.connection.opening.Close.{Close}
-use Rattle.amqp_connection.specs.contracts.connection.opening.ClosePartialEq.TheImpl as close
-use Rattle.amqp_connection.specs.declared.connection.opening.Blocked.{Blocked}
-use Rattle.amqp_connection.specs.contracts.connection.opening.BlockedPartialEq.TheImpl as blocked
-use Rattle.amqp_connection.specs.declared.connection.opening.UpdateSecret.{UpdateSecret}
-use Rattle.amqp_connection.specs.contracts.connection.opening.UpdateSecretPartialEq.TheImpl as update_secret
-use Rattle.amqp_connection.specs.declared.connection.AMQPMethod.{AMQPMethod}
-use Rattle.amqp_connection.specs.declared.connection.AMQPMethod.TheVariants as variant
-use Rattle.amqp_connection.specs.contracts.connection.AMQPMethodPartialEq.TheImpl as method
+use Rattle.amqp_connection.specs.declared.methods.connection.negotiating.Start.{Start}
+use Rattle.amqp_connection.specs.contracts.methods.connection.negotiating.StartPartialEq.TheImpl as start
+use Rattle.amqp_connection.specs.declared.methods.connection.negotiating.StartOk.{StartOk}
+use Rattle.amqp_connection.specs.contracts.methods.connection.negotiating.StartOkPartialEq.TheImpl as start_ok
+use Rattle.amqp_connection.specs.declared.methods.connection.negotiating.Secure.{Secure}
+use Rattle.amqp_connection.specs.contracts.methods.connection.negotiating.SecurePartialEq.TheImpl as secure
+use Rattle.amqp_connection.specs.declared.methods.connection.negotiating.SecureOk.{SecureOk}
+use Rattle.amqp_connection.specs.contracts.methods.connection.negotiating.SecureOkPartialEq.TheImpl as secure_ok
+use Rattle.amqp_connection.specs.declared.methods.connection.negotiating.Tune.{Tune}
+use Rattle.amqp_connection.specs.contracts.methods.connection.negotiating.TunePartialEq.TheImpl as tune
+use Rattle.amqp_connection.specs.declared.methods.connection.negotiating.TuneOk.{TuneOk}
+use Rattle.amqp_connection.specs.contracts.methods.connection.negotiating.TuneOkPartialEq.TheImpl as tune_ok
+use Rattle.amqp_connection.specs.declared.methods.connection.opening.Open.{Open}
+use Rattle.amqp_connection.specs.contracts.methods.connection.opening.OpenPartialEq.TheImpl as opened
+use Rattle.amqp_connection.specs.declared.methods.connection.opening.Close.{Close}
+use Rattle.amqp_connection.specs.contracts.methods.connection.opening.ClosePartialEq.TheImpl as close
+use Rattle.amqp_connection.specs.declared.methods.connection.opening.Blocked.{Blocked}
+use Rattle.amqp_connection.specs.contracts.methods.connection.opening.BlockedPartialEq.TheImpl as blocked
+use Rattle.amqp_connection.specs.declared.methods.connection.opening.UpdateSecret.{UpdateSecret}
+use Rattle.amqp_connection.specs.contracts.methods.connection.opening.UpdateSecretPartialEq.TheImpl as update_secret
+use Rattle.amqp_connection.specs.declared.methods.connection.AMQPMethod.{AMQPMethod}
+use Rattle.amqp_connection.specs.declared.methods.connection.AMQPMethod.TheVariants as variant
+use Rattle.amqp_connection.specs.contracts.methods.connection.AMQPMethodPartialEq.TheImpl as method
 
 SameStart : Start → Start → Type 0
 SameStart a b = (a.version_major ≡ b.version_major) × ((a.version_minor ≡ b.version_minor) × ((a.server_properties ≡ b.server_properties) × ((a.mechanisms ≡ b.mechanisms) × (a.locales ≡ b.locales))))

@@ -2,10 +2,10 @@
 use Rattle.std.specs.Prelude.{[], ◌∷◌}
 use Rattle.amqp_types.specs.Slots.{flag_item, text_item}
 use Rattle.amqp_types.specs.Methods.{Method, method}
-use Rattle.amqp_connection.specs.declared.access.Request.{Request}
-use Rattle.amqp_connection.specs.declared.access.RequestOk.{RequestOk}
-use Rattle.amqp_connection.specs.declared.access.AMQPMethod.{AMQPMethod}
-use Rattle.amqp_connection.specs.declared.access.AMQPMethod.TheVariants as variant
+use Rattle.amqp_connection.specs.declared.methods.access.Request.{Request}
+use Rattle.amqp_connection.specs.declared.methods.access.RequestOk.{RequestOk}
+use Rattle.amqp_connection.specs.declared.methods.access.AMQPMethod.{AMQPMethod}
+use Rattle.amqp_connection.specs.declared.methods.access.AMQPMethod.TheVariants as variant
 
 abbrev pub request_method : Request → Method
 request_method m = method 30 10 (text_item m.realm ∷ flag_item m.exclusive ∷ flag_item m.passive ∷ flag_item m.active ∷ flag_item m.write ∷ flag_item m.read ∷ [])

@@ -2,22 +2,22 @@
 use Rattle.std.specs.Prelude.{[], ◌∷◌}
 use Rattle.amqp_types.specs.Slots.{number_item, text_item, bytes_item, entries_item}
 use Rattle.amqp_types.specs.Methods.{Method, method}
-use Rattle.amqp_connection.specs.declared.connection.negotiating.Start.{Start}
-use Rattle.amqp_connection.specs.declared.connection.negotiating.StartOk.{StartOk}
-use Rattle.amqp_connection.specs.declared.connection.negotiating.Secure.{Secure}
-use Rattle.amqp_connection.specs.declared.connection.negotiating.SecureOk.{SecureOk}
-use Rattle.amqp_connection.specs.declared.connection.negotiating.Tune.{Tune}
-use Rattle.amqp_connection.specs.declared.connection.negotiating.TuneOk.{TuneOk}
-use Rattle.amqp_connection.specs.declared.connection.opening.Open.{Open}
-use Rattle.amqp_connection.specs.declared.connection.opening.OpenOk.{OpenOk}
-use Rattle.amqp_connection.specs.declared.connection.opening.Close.{Close}
-use Rattle.amqp_connection.specs.declared.connection.opening.CloseOk.{CloseOk}
-use Rattle.amqp_connection.specs.declared.connection.opening.Blocked.{Blocked}
-use Rattle.amqp_connection.specs.declared.connection.opening.Unblocked.{Unblocked}
-use Rattle.amqp_connection.specs.declared.connection.opening.UpdateSecret.{UpdateSecret}
-use Rattle.amqp_connection.specs.declared.connection.opening.UpdateSecretOk.{UpdateSecretOk}
-use Rattle.amqp_connection.specs.declared.connection.AMQPMethod.{AMQPMethod}
-use Rattle.amqp_connection.specs.declared.connection.AMQPMethod.TheVariants as variant
+use Rattle.amqp_connection.specs.declared.methods.connection.negotiating.Start.{Start}
+use Rattle.amqp_connection.specs.declared.methods.connection.negotiating.StartOk.{StartOk}
+use Rattle.amqp_connection.specs.declared.methods.connection.negotiating.Secure.{Secure}
+use Rattle.amqp_connection.specs.declared.methods.connection.negotiating.SecureOk.{SecureOk}
+use Rattle.amqp_connection.specs.declared.methods.connection.negotiating.Tune.{Tune}
+use Rattle.amqp_connection.specs.declared.methods.connection.negotiating.TuneOk.{TuneOk}
+use Rattle.amqp_connection.specs.declared.methods.connection.opening.Open.{Open}
+use Rattle.amqp_connection.specs.declared.methods.connection.opening.OpenOk.{OpenOk}
+use Rattle.amqp_connection.specs.declared.methods.connection.opening.Close.{Close}
+use Rattle.amqp_connection.specs.declared.methods.connection.opening.CloseOk.{CloseOk}
+use Rattle.amqp_connection.specs.declared.methods.connection.opening.Blocked.{Blocked}
+use Rattle.amqp_connection.specs.declared.methods.connection.opening.Unblocked.{Unblocked}
+use Rattle.amqp_connection.specs.declared.methods.connection.opening.UpdateSecret.{UpdateSecret}
+use Rattle.amqp_connection.specs.declared.methods.connection.opening.UpdateSecretOk.{UpdateSecretOk}
+use Rattle.amqp_connection.specs.declared.methods.connection.AMQPMethod.{AMQPMethod}
+use Rattle.amqp_connection.specs.declared.methods.connection.AMQPMethod.TheVariants as variant
 
 abbrev pub start_method : Start → Method
 start_method m = method 10 10 (number_item m.version_major ∷ number_item m.version_minor ∷ entries_item m.server_properties ∷ bytes_item m.mechanisms ∷ bytes_item m.locales ∷ [])

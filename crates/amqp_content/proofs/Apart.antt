@@ -15,7 +15,7 @@ use Rattle.amqp_content.specs.Units.{is_content, is_of_channel, of_channel, Noth
 use Rattle.amqp_content.specs.Answers.{Answer, Answers}
 use Rattle.amqp_content.specs.Stands.{State, At, kept_at}
 use Rattle.amqp_content.specs.Steps.{step, run_answers, run_state}
-use Rattle.amqp_content.specs.Outcomes.{Told, passed, told, told_of, Kept, Assembling, AssemblerStands, IsTold, Pushes}
+use Rattle.amqp_content.specs.Outcomes.{OutcomeView, passed, outcome_of, answer_outcome, Kept, Assembling, AssemblerStands, IsOutcomeOf, Pushes}
 use Rattle.amqp_content.specs.Sequences.{IsGiven, AreGiven, given_of}
 use Rattle.amqp_content.proofs.Running.{run_answers-append, run_state-append, answers_run, stands_nothing}
 
@@ -69,7 +69,7 @@ of_channel-is channel frame h = by_test (is_content (outline_of frame)) refl
 -- ---- what is given
 
 -- one frame more
-pub given-push : (max : ℕ) (before frames : List Frame) (outcomes : List Told) (frame : Frame) (outcome : Told) → AreGiven max before frames outcomes → IsGiven max (before ++ frames) frame outcome → AreGiven max before (frames ++ frame ∷ []) (outcomes ++ outcome ∷ [])
+pub given-push : (max : ℕ) (before frames : List Frame) (outcomes : List OutcomeView) (frame : Frame) (outcome : OutcomeView) → AreGiven max before frames outcomes → IsGiven max (before ++ frames) frame outcome → AreGiven max before (frames ++ frame ∷ []) (outcomes ++ outcome ∷ [])
 given-push max before [] [] frame outcome h last = (subst (λ (fs : List Frame). IsGiven max fs frame outcome) (append-nil before) last, tt)
 given-push max before [] (o ∷ os) frame outcome h last = absurd h
 given-push max before (f ∷ fs) [] frame outcome h last = absurd h
@@ -80,35 +80,35 @@ abbrev state_of : ℕ → ℕ → List Frame → State Frame
 state_of max channel frames = run_state outline_of max (At Nothing) (of_channel outline_of channel frames)
 
 -- the last answer is that of the step
-told_last : (max : ℕ) (frames : List Frame) (frame : Frame) (outcome : Told) → IsTold max (frames ++ frame ∷ []) outcome → outcome ≡ told_of (step outline_of max (run_state outline_of max (At Nothing) frames) frame).0
-told_last max frames frame outcome h =
+outcome_last : (max : ℕ) (frames : List Frame) (frame : Frame) (outcome : OutcomeView) → IsOutcomeOf max (frames ++ frame ∷ []) outcome → outcome ≡ answer_outcome (step outline_of max (run_state outline_of max (At Nothing) frames) frame).0
+outcome_last max frames frame outcome h =
     let all = sym (answers_run outline_of max (frames ++ frame ∷ []) (h.last.before ++ h.answer ∷ []) h.last.answers) in
     let steps = run_answers-append outline_of max (At Nothing) frames (frame ∷ []) in
     let ends = same_from_push (run_answers outline_of max (At Nothing) frames) h.last.before (step outline_of max (run_state outline_of max (At Nothing) frames) frame).0 h.answer (sym steps ∙ all) in
-    h.is ∙ ap told_of (sym ends.1)
+    h.is ∙ ap answer_outcome (sym ends.1)
 
-given_run : (max channel : ℕ) (before frames : List Frame) (outcomes : List Told) → AreGiven max before frames outcomes → given_of channel frames outcomes ≡ map told_of (run_answers outline_of max (state_of max channel before) (of_channel outline_of channel frames))
+given_run : (max channel : ℕ) (before frames : List Frame) (outcomes : List OutcomeView) → AreGiven max before frames outcomes → given_of channel frames outcomes ≡ map answer_outcome (run_answers outline_of max (state_of max channel before) (of_channel outline_of channel frames))
 given_run max channel before [] [] h = refl
 given_run max channel before [] (o ∷ os) h = refl
 given_run max channel before (f ∷ fs) [] h = absurd h
 given_run max channel before (f ∷ fs) (o ∷ os) h = by_test (is_of_channel outline_of channel f) refl (given_run max channel (before ++ f ∷ []) fs os h.1)
   where
-    by_test : (test : Bool) → is_of_channel outline_of channel f ≡ test → given_of channel fs os ≡ map told_of (run_answers outline_of max (state_of max channel (before ++ f ∷ [])) (of_channel outline_of channel fs)) → given_of channel (f ∷ fs) (o ∷ os) ≡ map told_of (run_answers outline_of max (state_of max channel before) (of_channel outline_of channel (f ∷ fs)))
+    by_test : (test : Bool) → is_of_channel outline_of channel f ≡ test → given_of channel fs os ≡ map answer_outcome (run_answers outline_of max (state_of max channel (before ++ f ∷ [])) (of_channel outline_of channel fs)) → given_of channel (f ∷ fs) (o ∷ os) ≡ map answer_outcome (run_answers outline_of max (state_of max channel before) (of_channel outline_of channel (f ∷ fs)))
     by_test true e rest =
         let is = of_channel-is channel f e in
         let own : of_channel outline_of (channel_id_of f) (before ++ f ∷ []) ≡ of_channel outline_of channel before ++ f ∷ [] = ap (λ c. of_channel outline_of c (before ++ f ∷ [])) is.channel_is ∙ of_channel-in channel before f e in
-        let told = told_last max (of_channel outline_of channel before) f o (subst (λ (gs : List Frame). IsTold max gs o) own (h.0.inside is.content)) in
+        let last = outcome_last max (of_channel outline_of channel before) f o (subst (λ (gs : List Frame). IsOutcomeOf max gs o) own (h.0.inside is.content)) in
         let state : state_of max channel (before ++ f ∷ []) ≡ (step outline_of max (state_of max channel before) f).1 = ap (run_state outline_of max (At Nothing)) (of_channel-in channel before f e) ∙ run_state-append outline_of max (At Nothing) (of_channel outline_of channel before) (f ∷ []) in
-        rw e (ap₂ (λ t ts. t ∷ ts) told (rest ∙ ap (λ s. map told_of (run_answers outline_of max s (of_channel outline_of channel fs))) state))
+        rw e (ap₂ (λ t ts. t ∷ ts) last (rest ∙ ap (λ s. map answer_outcome (run_answers outline_of max s (of_channel outline_of channel fs))) state))
     by_test false e rest =
-        rw e (rest ∙ ap (λ gs. map told_of (run_answers outline_of max (run_state outline_of max (At Nothing) gs) (of_channel outline_of channel fs))) (of_channel-out channel before f e))
+        rw e (rest ∙ ap (λ gs. map answer_outcome (run_answers outline_of max (run_state outline_of max (At Nothing) gs) (of_channel outline_of channel fs))) (of_channel-out channel before f e))
 
-pub channels_answered : (max channel : ℕ) (frames : List Frame) (outcomes : List Told) → AreGiven max [] frames outcomes → (answers : List (Answer Frame)) → Answers outline_of max (of_channel outline_of channel frames) answers → given_of channel frames outcomes ≡ map told_of answers
-channels_answered max channel frames outcomes h answers are = given_run max channel [] frames outcomes h ∙ ap (map told_of) (sym (answers_run outline_of max (of_channel outline_of channel frames) answers are))
+pub channels_answered : (max channel : ℕ) (frames : List Frame) (outcomes : List OutcomeView) → AreGiven max [] frames outcomes → (answers : List (Answer Frame)) → Answers outline_of max (of_channel outline_of channel frames) answers → given_of channel frames outcomes ≡ map answer_outcome answers
+channels_answered max channel frames outcomes h answers are = given_run max channel [] frames outcomes h ∙ ap (map answer_outcome) (sym (answers_run outline_of max (of_channel outline_of channel frames) answers are))
 
-pub channels_apart : (max channel : ℕ) (frames others : List Frame) (outcomes given : List Told) → AreGiven max [] frames outcomes → AreGiven max [] others given → of_channel outline_of channel frames ≡ of_channel outline_of channel others → given_of channel frames outcomes ≡ given_of channel others given
+pub channels_apart : (max channel : ℕ) (frames others : List Frame) (outcomes given : List OutcomeView) → AreGiven max [] frames outcomes → AreGiven max [] others given → of_channel outline_of channel frames ≡ of_channel outline_of channel others → given_of channel frames outcomes ≡ given_of channel others given
 channels_apart max channel frames others outcomes given h g same =
-    given_run max channel [] frames outcomes h ∙ ap (λ gs. map told_of (run_answers outline_of max (At Nothing) gs)) same ∙ sym (given_run max channel [] others given g)
+    given_run max channel [] frames outcomes h ∙ ap (λ gs. map answer_outcome (run_answers outline_of max (At Nothing) gs)) same ∙ sym (given_run max channel [] others given g)
 
 -- ---- one frame more in an assembler
 
@@ -133,10 +133,10 @@ stands_at max frames frame before after true e old stays more others = λ channe
 pub stands-push : (max : ℕ) (frames : List Frame) (frame : Frame) (before after : List (ℕ × Kept)) → AllStand max frames before → (is_content (outline_of frame) ≡ false → after ≡ before) → (is_content (outline_of frame) ≡ true → (fs : List Frame) → AssemblerStands max fs (kept_at before (channel_id_of frame)) → AssemblerStands max (fs ++ frame ∷ []) (kept_at after (channel_id_of frame))) → ((other : ℕ) → other ≢ channel_id_of frame → kept_at after other ≡ kept_at before other) → AllStand max (frames ++ frame ∷ []) after
 stands-push max frames frame before after old stays more others = stands_at max frames frame before after (is_content (outline_of frame)) refl old stays more others
 
-pub is_given : (max : ℕ) (frames : List Frame) (frame : Frame) (before : List (ℕ × Kept)) (outcome : Told) → AllStand max frames before → (is_content (outline_of frame) ≡ false → outcome ≡ passed frame) → (is_content (outline_of frame) ≡ true → (fs : List Frame) → AssemblerStands max fs (kept_at before (channel_id_of frame)) → IsTold max (fs ++ frame ∷ []) outcome) → IsGiven max frames frame outcome
+pub is_given : (max : ℕ) (frames : List Frame) (frame : Frame) (before : List (ℕ × Kept)) (outcome : OutcomeView) → AllStand max frames before → (is_content (outline_of frame) ≡ false → outcome ≡ passed frame) → (is_content (outline_of frame) ≡ true → (fs : List Frame) → AssemblerStands max fs (kept_at before (channel_id_of frame)) → IsOutcomeOf max (fs ++ frame ∷ []) outcome) → IsGiven max frames frame outcome
 is_given max frames frame before outcome old outside inside = record {
   outside = outside;
-  inside = λ e. subst (λ (fs : List Frame). IsTold max fs outcome) (sym (of_channel-in (channel_id_of frame) frames frame (of_own frame e))) (inside e (of_channel outline_of (channel_id_of frame) frames) (old (channel_id_of frame)));
+  inside = λ e. subst (λ (fs : List Frame). IsOutcomeOf max fs outcome) (sym (of_channel-in (channel_id_of frame) frames frame (of_own frame e))) (inside e (of_channel outline_of (channel_id_of frame) frames) (old (channel_id_of frame)));
 }
 
 -- ---- the loop of `assemble`
@@ -144,30 +144,30 @@ is_given max frames frame before outcome old outside inside = record {
 pub none_stand : (max : ℕ) (channels : List (ℕ × Kept)) → channels ≡ [] → AllStand max [] channels
 none_stand max channels none = λ channel. record { state = At Nothing; stands = stands_nothing outline_of max; is = ap (λ cs. kept_at cs channel) none }
 
-pub none_given : (max : ℕ) (outcomes : List Outcome) → outcomes ≡ [] → AreGiven max [] [] (map told outcomes)
-none_given max outcomes none = subst (λ (os : List Outcome). AreGiven max [] [] (map told os)) (sym none) tt
+pub none_given : (max : ℕ) (outcomes : List Outcome) → outcomes ≡ [] → AreGiven max [] [] (map outcome_of outcomes)
+none_given max outcomes none = subst (λ (os : List Outcome). AreGiven max [] [] (map outcome_of os)) (sym none) tt
 
 -- what holds after one frame more
 pub record Assembled (max : ℕ) (frames : List AMQPFrame) (outcomes : List Outcome) (channels : List (ℕ × Kept)) : Type 0 where
   pub stand : AllStand max (map frame_of frames) channels
-  pub given : AreGiven max [] (map frame_of frames) (map told outcomes)
+  pub given : AreGiven max [] (map frame_of frames) (map outcome_of outcomes)
 
 -- what `push` promises of a frame outside of all content, and of one that is content
 abbrev pub OutsideIs : Assembling → Assembling → AMQPFrame → Outcome → Type 0
 OutsideIs before after frame outcome = is_content (outline_of (frame_of frame)) ≡ false → (◌≡◌ {A = Result Outcome NoMemory} (Ok outcome) (Ok (given_as.Passed frame))) × (after ≡ before)
 
-pub assembled_step : (max : ℕ) (before after : Assembling) (frames : List AMQPFrame) (outcomes : List Outcome) (frame : AMQPFrame) (outcome : Outcome) → before.max_body ≡ max → AllStand max (map frame_of frames) before.channels → AreGiven max [] (map frame_of frames) (map told outcomes) → OutsideIs before after frame outcome → (is_content (outline_of (frame_of frame)) ≡ true → Pushes before.max_body (kept_at before.channels (channel_id_of (frame_of frame))) (kept_at after.channels (channel_id_of (frame_of frame))) (frame_of frame) (told outcome)) → ((other : ℕ) → other ≢ channel_id_of (frame_of frame) → kept_at after.channels other ≡ kept_at before.channels other) → Assembled max (frames ++ frame ∷ []) (outcomes ++ outcome ∷ []) after.channels
+pub assembled_step : (max : ℕ) (before after : Assembling) (frames : List AMQPFrame) (outcomes : List Outcome) (frame : AMQPFrame) (outcome : Outcome) → before.max_body ≡ max → AllStand max (map frame_of frames) before.channels → AreGiven max [] (map frame_of frames) (map outcome_of outcomes) → OutsideIs before after frame outcome → (is_content (outline_of (frame_of frame)) ≡ true → Pushes before.max_body (kept_at before.channels (channel_id_of (frame_of frame))) (kept_at after.channels (channel_id_of (frame_of frame))) (frame_of frame) (outcome_of outcome)) → ((other : ℕ) → other ≢ channel_id_of (frame_of frame) → kept_at after.channels other ≡ kept_at before.channels other) → Assembled max (frames ++ frame ∷ []) (outcomes ++ outcome ∷ []) after.channels
 assembled_step max before after frames outcomes frame outcome is old given outside pushes others =
-    let at = λ (e : is_content (outline_of (frame_of frame)) ≡ true). subst (λ (m : ℕ). Pushes m (kept_at before.channels (channel_id_of (frame_of frame))) (kept_at after.channels (channel_id_of (frame_of frame))) (frame_of frame) (told outcome)) is (pushes e) in
+    let at = λ (e : is_content (outline_of (frame_of frame)) ≡ true). subst (λ (m : ℕ). Pushes m (kept_at before.channels (channel_id_of (frame_of frame))) (kept_at after.channels (channel_id_of (frame_of frame))) (frame_of frame) (outcome_of outcome)) is (pushes e) in
     let stand = stands-push max (map frame_of frames) (frame_of frame) before.channels after.channels old (λ e. ap (λ (a : Assembling). a.channels) (outside e).1) (λ e. (at e).stands) others in
-    let one = is_given max (map frame_of frames) (frame_of frame) before.channels (told outcome) old (λ e. told_passed outcome frame (outside e).0) (λ e. (at e).gives) in
-    let all = given-push max [] (map frame_of frames) (map told outcomes) (frame_of frame) (told outcome) given one in
+    let one = is_given max (map frame_of frames) (frame_of frame) before.channels (outcome_of outcome) old (λ e. outcome_passed outcome frame (outside e).0) (λ e. (at e).gives) in
+    let all = given-push max [] (map frame_of frames) (map outcome_of outcomes) (frame_of frame) (outcome_of outcome) given one in
     record {
       stand = subst (λ (fs : List Frame). AllStand max fs after.channels) (sym (map_push frame_of frames frame)) stand;
-      given = subst (λ (fs : List Frame). AreGiven max [] fs (map told (outcomes ++ outcome ∷ []))) (sym (map_push frame_of frames frame)) (subst (λ (ts : List Told). AreGiven max [] (map frame_of frames ++ frame_of frame ∷ []) ts) (sym (map_push told outcomes outcome)) all);
+      given = subst (λ (fs : List Frame). AreGiven max [] fs (map outcome_of (outcomes ++ outcome ∷ []))) (sym (map_push frame_of frames frame)) (subst (λ (ts : List OutcomeView). AreGiven max [] (map frame_of frames ++ frame_of frame ∷ []) ts) (sym (map_push outcome_of outcomes outcome)) all);
     }
   where
-    told_passed : (o : Outcome) (f : AMQPFrame) → ◌≡◌ {A = Result Outcome NoMemory} (Ok o) (Ok (given_as.Passed f)) → told o ≡ passed (frame_of f)
-    told_passed o f e =
+    outcome_passed : (o : Outcome) (f : AMQPFrame) → ◌≡◌ {A = Result Outcome NoMemory} (Ok o) (Ok (given_as.Passed f)) → outcome_of o ≡ passed (frame_of f)
+    outcome_passed o f e =
         let same : o ≡ given_as.Passed f = cc in
-        ap told same
+        ap outcome_of same

@@ -19,7 +19,7 @@ use Rattle.amqp_content.specs.Stands.{State, At, Lost, Stands}
 use Rattle.amqp_content.specs.Marks.{progress_of}
 use Rattle.amqp_content.specs.Steps.{mark_after, step}
 use Rattle.amqp_content.specs.Messages.{method_in, header_in, bytes_of, joined}
-use Rattle.amqp_content.specs.Outcomes.{Told, told_of, Kept, message, fault, kept_of, kept_progress, told_marked, kept_marked, mark_kept, AssemblerStands, IsTold, Pushes, Takes, told, IsMessage, IsHeadedThere, with_header}
+use Rattle.amqp_content.specs.Outcomes.{OutcomeView, answer_outcome, Kept, message, fault, kept_of, kept_progress, marked_outcome, kept_marked, mark_kept, AssemblerStands, IsOutcomeOf, Pushes, Takes, outcome_of, IsMessage, IsHeadedThere, with_header}
 use Rattle.amqp_content.proofs.Running.{advance}
 
 pub joined-push : (frames : List Frame) (frame : Frame) → joined (frames ++ frame ∷ []) ≡ joined frames ++ bytes_of frame
@@ -54,73 +54,73 @@ same_progress (At (Headed opening header bodies)) = ap₂ (λ size seen. Some (p
 same_progress Lost = refl
 
 -- what a step gives, and what is kept after it
-record IsStepTold (max : ℕ) (state : State Frame) (frame : Frame) : Type 0 where
-  told_is : told_of (step outline_of max state frame).0 ≡ told_marked (kept_of state) frame (mark_after max (progress_of outline_of state) (outline_of frame))
+record IsStepOutcome (max : ℕ) (state : State Frame) (frame : Frame) : Type 0 where
+  outcome_is : answer_outcome (step outline_of max state frame).0 ≡ marked_outcome (kept_of state) frame (mark_after max (progress_of outline_of state) (outline_of frame))
   kept_is : kept_of (step outline_of max state frame).1 ≡ kept_marked (kept_of state) frame (mark_after max (progress_of outline_of state) (outline_of frame))
 
-told_method : (max channel : ℕ) (m : Method) (opens : Bool) → is_opening_id m.class m.id ≡ opens → IsStepTold max (At Nothing) (Meth channel m)
-told_method max channel m true e = record { told_is = rw e refl; kept_is = rw e refl }
-told_method max channel m false e = record { told_is = rw e refl; kept_is = rw e refl }
+outcome_method : (max channel : ℕ) (m : Method) (opens : Bool) → is_opening_id m.class m.id ≡ opens → IsStepOutcome max (At Nothing) (Meth channel m)
+outcome_method max channel m true e = record { outcome_is = rw e refl; kept_is = rw e refl }
+outcome_method max channel m false e = record { outcome_is = rw e refl; kept_is = rw e refl }
 
-told_header : (max : ℕ) (opening : Frame) (channel : ℕ) (header : ContentHeader) (basic fits none : Bool) → eqb header.class_id 60 ≡ basic → leb header.body_size max ≡ fits → eqb 0 header.body_size ≡ none → IsStepTold max (At (Opened opening)) (Head channel header)
-told_header max opening channel header false fits none basic fit done = record { told_is = rw basic refl; kept_is = rw basic refl }
-told_header max opening channel header true false none basic fit done = record { told_is = rw basic (rw fit refl); kept_is = rw basic (rw fit refl) }
-told_header max opening channel header true true true basic fit done = record { told_is = rw basic (rw fit (rw done refl)); kept_is = rw basic (rw fit (rw done refl)) }
-told_header max opening channel header true true false basic fit done = record { told_is = rw basic (rw fit (rw done refl)); kept_is = rw basic (rw fit (rw done refl)) }
+outcome_header : (max : ℕ) (opening : Frame) (channel : ℕ) (header : ContentHeader) (basic fits none : Bool) → eqb header.class_id 60 ≡ basic → leb header.body_size max ≡ fits → eqb 0 header.body_size ≡ none → IsStepOutcome max (At (Opened opening)) (Head channel header)
+outcome_header max opening channel header false fits none basic fit done = record { outcome_is = rw basic refl; kept_is = rw basic refl }
+outcome_header max opening channel header true false none basic fit done = record { outcome_is = rw basic (rw fit refl); kept_is = rw basic (rw fit refl) }
+outcome_header max opening channel header true true true basic fit done = record { outcome_is = rw basic (rw fit (rw done refl)); kept_is = rw basic (rw fit (rw done refl)) }
+outcome_header max opening channel header true true false basic fit done = record { outcome_is = rw basic (rw fit (rw done refl)); kept_is = rw basic (rw fit (rw done refl)) }
 
-told_body : (max : ℕ) (opening header : Frame) (bodies : List Frame) (channel : ℕ) (content : List ℕ) (fits all : Bool) → leb (bytes_in outline_of bodies + length content) (size_in (outline_of header)) ≡ fits → eqb (bytes_in outline_of bodies + length content) (size_in (outline_of header)) ≡ all → IsStepTold max (At (Headed opening header bodies)) (Body channel content)
-told_body max opening header bodies channel content false all fit done = record { told_is = rw fit refl; kept_is = rw fit refl }
-told_body max opening header bodies channel content true true fit done =
-    record { told_is = rw fit (rw done (rw (joined-push bodies (Body channel content)) refl)); kept_is = rw fit (rw done refl) }
-told_body max opening header bodies channel content true false fit done =
-    record { told_is = rw fit (rw done refl); kept_is = rw fit (rw done (rw (joined-push bodies (Body channel content)) refl)) }
+outcome_body : (max : ℕ) (opening header : Frame) (bodies : List Frame) (channel : ℕ) (content : List ℕ) (fits all : Bool) → leb (bytes_in outline_of bodies + length content) (size_in (outline_of header)) ≡ fits → eqb (bytes_in outline_of bodies + length content) (size_in (outline_of header)) ≡ all → IsStepOutcome max (At (Headed opening header bodies)) (Body channel content)
+outcome_body max opening header bodies channel content false all fit done = record { outcome_is = rw fit refl; kept_is = rw fit refl }
+outcome_body max opening header bodies channel content true true fit done =
+    record { outcome_is = rw fit (rw done (rw (joined-push bodies (Body channel content)) refl)); kept_is = rw fit (rw done refl) }
+outcome_body max opening header bodies channel content true false fit done =
+    record { outcome_is = rw fit (rw done refl); kept_is = rw fit (rw done (rw (joined-push bodies (Body channel content)) refl)) }
 
-told_at : (max : ℕ) (begun : Begun Frame) (frame : Frame) → is_content (outline_of frame) ≡ true → IsStepTold max (At begun) frame
-told_at max Nothing (Meth channel m) h = told_method max channel m (is_opening_id m.class m.id) refl
-told_at max Nothing (Head channel header) h = record { told_is = refl; kept_is = refl }
-told_at max Nothing (Body channel content) h = record { told_is = refl; kept_is = refl }
-told_at max Nothing (Proto major minor revision) h = absurd cc
-told_at max Nothing Beat h = absurd cc
-told_at max Nothing (BadBeat channel) h = absurd cc
-told_at max (Opened opening) (Meth channel m) h = record { told_is = refl; kept_is = refl }
-told_at max (Opened opening) (Head channel header) h = told_header max opening channel header (eqb header.class_id 60) (leb header.body_size max) (eqb 0 header.body_size) refl refl refl
-told_at max (Opened opening) (Body channel content) h = record { told_is = refl; kept_is = refl }
-told_at max (Opened opening) (Proto major minor revision) h = absurd cc
-told_at max (Opened opening) Beat h = absurd cc
-told_at max (Opened opening) (BadBeat channel) h = absurd cc
-told_at max (Headed opening header bodies) (Meth channel m) h = record { told_is = refl; kept_is = refl }
-told_at max (Headed opening header bodies) (Head channel second) h = record { told_is = refl; kept_is = refl }
-told_at max (Headed opening header bodies) (Body channel content) h =
-    told_body max opening header bodies channel content (leb (bytes_in outline_of bodies + length content) (size_in (outline_of header))) (eqb (bytes_in outline_of bodies + length content) (size_in (outline_of header))) refl refl
-told_at max (Headed opening header bodies) (Proto major minor revision) h = absurd cc
-told_at max (Headed opening header bodies) Beat h = absurd cc
-told_at max (Headed opening header bodies) (BadBeat channel) h = absurd cc
+outcome_at : (max : ℕ) (begun : Begun Frame) (frame : Frame) → is_content (outline_of frame) ≡ true → IsStepOutcome max (At begun) frame
+outcome_at max Nothing (Meth channel m) h = outcome_method max channel m (is_opening_id m.class m.id) refl
+outcome_at max Nothing (Head channel header) h = record { outcome_is = refl; kept_is = refl }
+outcome_at max Nothing (Body channel content) h = record { outcome_is = refl; kept_is = refl }
+outcome_at max Nothing (Proto major minor revision) h = absurd cc
+outcome_at max Nothing Beat h = absurd cc
+outcome_at max Nothing (BadBeat channel) h = absurd cc
+outcome_at max (Opened opening) (Meth channel m) h = record { outcome_is = refl; kept_is = refl }
+outcome_at max (Opened opening) (Head channel header) h = outcome_header max opening channel header (eqb header.class_id 60) (leb header.body_size max) (eqb 0 header.body_size) refl refl refl
+outcome_at max (Opened opening) (Body channel content) h = record { outcome_is = refl; kept_is = refl }
+outcome_at max (Opened opening) (Proto major minor revision) h = absurd cc
+outcome_at max (Opened opening) Beat h = absurd cc
+outcome_at max (Opened opening) (BadBeat channel) h = absurd cc
+outcome_at max (Headed opening header bodies) (Meth channel m) h = record { outcome_is = refl; kept_is = refl }
+outcome_at max (Headed opening header bodies) (Head channel second) h = record { outcome_is = refl; kept_is = refl }
+outcome_at max (Headed opening header bodies) (Body channel content) h =
+    outcome_body max opening header bodies channel content (leb (bytes_in outline_of bodies + length content) (size_in (outline_of header))) (eqb (bytes_in outline_of bodies + length content) (size_in (outline_of header))) refl refl
+outcome_at max (Headed opening header bodies) (Proto major minor revision) h = absurd cc
+outcome_at max (Headed opening header bodies) Beat h = absurd cc
+outcome_at max (Headed opening header bodies) (BadBeat channel) h = absurd cc
 
-told_lost : (max : ℕ) (frame : Frame) → is_content (outline_of frame) ≡ true → IsStepTold max Lost frame
-told_lost max (Meth channel m) h = record { told_is = refl; kept_is = refl }
-told_lost max (Head channel header) h = record { told_is = refl; kept_is = refl }
-told_lost max (Body channel content) h = record { told_is = refl; kept_is = refl }
-told_lost max (Proto major minor revision) h = absurd cc
-told_lost max Beat h = absurd cc
-told_lost max (BadBeat channel) h = absurd cc
+outcome_lost : (max : ℕ) (frame : Frame) → is_content (outline_of frame) ≡ true → IsStepOutcome max Lost frame
+outcome_lost max (Meth channel m) h = record { outcome_is = refl; kept_is = refl }
+outcome_lost max (Head channel header) h = record { outcome_is = refl; kept_is = refl }
+outcome_lost max (Body channel content) h = record { outcome_is = refl; kept_is = refl }
+outcome_lost max (Proto major minor revision) h = absurd cc
+outcome_lost max Beat h = absurd cc
+outcome_lost max (BadBeat channel) h = absurd cc
 
-step_told : (max : ℕ) (state : State Frame) (frame : Frame) → is_content (outline_of frame) ≡ true → IsStepTold max state frame
-step_told max (At begun) frame h = told_at max begun frame h
-step_told max Lost frame h = told_lost max frame h
+step_outcome : (max : ℕ) (state : State Frame) (frame : Frame) → is_content (outline_of frame) ≡ true → IsStepOutcome max state frame
+step_outcome max (At begun) frame h = outcome_at max begun frame h
+step_outcome max Lost frame h = outcome_lost max frame h
 
 -- an assembler that gives and keeps so keeps its promise
-pub pushes_step : (max : ℕ) (before after : Option Kept) (frame : Frame) (outcome : Told) → is_content (outline_of frame) ≡ true → outcome ≡ told_marked before frame (mark_kept max before frame) → after ≡ kept_marked before frame (mark_kept max before frame) → Pushes max before after frame outcome
+pub pushes_step : (max : ℕ) (before after : Option Kept) (frame : Frame) (outcome : OutcomeView) → is_content (outline_of frame) ≡ true → outcome ≡ marked_outcome before frame (mark_kept max before frame) → after ≡ kept_marked before frame (mark_kept max before frame) → Pushes max before after frame outcome
 pushes_step max before after frame outcome content gives keeps = record {
   gives = λ frames h.
-      let step = step_told max h.state frame content in
+      let step = step_outcome max h.state frame content in
       let mark = ap (λ p. mark_after max p (outline_of frame)) (same_progress h.state) in
       record {
         answer = _;
         last = (advance outline_of max frames h.state frame h.stands).last;
-        is = gives ∙ ap (λ k. told_marked k frame (mark_kept max k frame)) h.is ∙ ap (told_marked (kept_of h.state) frame) mark ∙ sym step.told_is;
+        is = gives ∙ ap (λ k. marked_outcome k frame (mark_kept max k frame)) h.is ∙ ap (marked_outcome (kept_of h.state) frame) mark ∙ sym step.outcome_is;
       };
   stands = λ frames h.
-      let step = step_told max h.state frame content in
+      let step = step_outcome max h.state frame content in
       let mark = ap (λ p. mark_after max p (outline_of frame)) (same_progress h.state) in
       record {
         state = _;
@@ -129,8 +129,8 @@ pushes_step max before after frame outcome content gives keeps = record {
       };
 }
 
-pub pushes_if : {E : Type 0} (max : ℕ) (before after : Option Kept) (frame : Frame) (result : Result Outcome E) → is_content (outline_of frame) ≡ true → IfOk result (λ outcome. Takes before after frame (mark_kept max before frame) (told outcome)) → IfOk result (λ outcome. Pushes max before after frame (told outcome))
-pushes_if max before after frame (Ok outcome) content h = pushes_step max before after frame (told outcome) content h.gives h.keeps
+pub pushes_if : {E : Type 0} (max : ℕ) (before after : Option Kept) (frame : Frame) (result : Result Outcome E) → is_content (outline_of frame) ≡ true → IfOk result (λ outcome. Takes before after frame (mark_kept max before frame) (outcome_of outcome)) → IfOk result (λ outcome. Pushes max before after frame (outcome_of outcome))
+pushes_if max before after frame (Ok outcome) content h = pushes_step max before after frame (outcome_of outcome) content h.gives h.keeps
 pushes_if max before after frame (Err error) content h = tt
 
 -- ---- content headers in an assembler

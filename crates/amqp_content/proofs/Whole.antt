@@ -13,7 +13,7 @@ use Rattle.amqp_content.specs.Answers.{Answer, Within, Ends, Answers}
 use Rattle.amqp_content.specs.Stands.{State, At, Lost}
 use Rattle.amqp_content.specs.Steps.{step, run_answers, run_state}
 use Rattle.amqp_content.specs.Messages.{Parts, Content, content_of, opening_method, method_in, header_in, bytes_of, joined, content_with}
-use Rattle.amqp_content.specs.Outcomes.{Told, passed, held, done, wrong, told_of}
+use Rattle.amqp_content.specs.Outcomes.{OutcomeView, passed, held, done, wrong, answer_outcome}
 use Rattle.amqp_content.specs.Splits.{pieces, split_header, split_of}
 use Rattle.amqp_content.specs.Laws.{done_in, IsNoFault, AreWhole}
 use Rattle.amqp_content.proofs.Moving.{bytes_in-push}
@@ -21,22 +21,22 @@ use Rattle.amqp_content.proofs.Running.{opening_step, header_step, empty_step, b
 use Rattle.amqp_content.proofs.Telling.{joined-push}
 use Rattle.amqp_content.proofs.Pieces.{ArePieces, pieces_are, pieces-none}
 
-done_in-append : (xs ys : List Told) → done_in (xs ++ ys) ≡ done_in xs ++ done_in ys
+done_in-append : (xs ys : List OutcomeView) → done_in (xs ++ ys) ≡ done_in xs ++ done_in ys
 done_in-append [] ys = refl
 done_in-append (passed frame ∷ xs) ys = done_in-append xs ys
 done_in-append (held ∷ xs) ys = done_in-append xs ys
 done_in-append (done content ∷ xs) ys = ap (λ cs. content ∷ cs) (done_in-append xs ys)
 done_in-append (wrong fault ∷ xs) ys = done_in-append xs ys
 
-no_fault-append : (xs ys : List Told) → AllByRecursion IsNoFault xs → AllByRecursion IsNoFault ys → AllByRecursion IsNoFault (xs ++ ys)
+no_fault-append : (xs ys : List OutcomeView) → AllByRecursion IsNoFault xs → AllByRecursion IsNoFault ys → AllByRecursion IsNoFault (xs ++ ys)
 no_fault-append [] ys h g = g
 no_fault-append (x ∷ xs) ys h g = (h.0, no_fault-append xs ys h.1 g)
 
 -- frames that leave nothing begun, and give just these messages
 record GivesWhole (max : ℕ) (state : State Frame) (frames : List Frame) (contents : List Content) : Type 0 where
   state_is : run_state outline_of max state frames ≡ At Nothing
-  done_are : done_in (map told_of (run_answers outline_of max state frames)) ≡ contents
-  no_fault : AllByRecursion IsNoFault (map told_of (run_answers outline_of max state frames))
+  done_are : done_in (map answer_outcome (run_answers outline_of max state frames)) ≡ contents
+  no_fault : AllByRecursion IsNoFault (map answer_outcome (run_answers outline_of max state frames))
 
 -- ---- one message
 
@@ -44,21 +44,21 @@ held_first : (max : ℕ) (state next : State Frame) (begun : Begun Frame) (frame
 held_first max state next begun frame frames contents e h =
     let first : (step outline_of max state frame).0 ≡ Within begun frame = ap (λ (p : Answer Frame × State Frame). p.0) e in
     let second : (step outline_of max state frame).1 ≡ next = ap (λ (p : Answer Frame × State Frame). p.1) e in
-    let answers : map told_of (run_answers outline_of max state (frame ∷ frames)) ≡ held ∷ map told_of (run_answers outline_of max next frames) = ap₂ (λ a s. told_of a ∷ map told_of (run_answers outline_of max s frames)) first second in
+    let answers : map answer_outcome (run_answers outline_of max state (frame ∷ frames)) ≡ held ∷ map answer_outcome (run_answers outline_of max next frames) = ap₂ (λ a s. answer_outcome a ∷ map answer_outcome (run_answers outline_of max s frames)) first second in
     record {
       state_is = ap (λ s. run_state outline_of max s frames) second ∙ h.state_is;
       done_are = ap done_in answers ∙ h.done_are;
-      no_fault = subst (λ (ts : List Told). AllByRecursion IsNoFault ts) (sym answers) (tt, h.no_fault);
+      no_fault = subst (λ (ts : List OutcomeView). AllByRecursion IsNoFault ts) (sym answers) (tt, h.no_fault);
     }
 
 done_last : (max : ℕ) (state : State Frame) (begun : Begun Frame) (frame : Frame) → step outline_of max state frame ≡ (Ends begun frame, At Nothing) → GivesWhole max state (frame ∷ []) (content_with begun frame ∷ [])
 done_last max state begun frame e =
     let first : (step outline_of max state frame).0 ≡ Ends begun frame = ap (λ (p : Answer Frame × State Frame). p.0) e in
-    let answers : map told_of (run_answers outline_of max state (frame ∷ [])) ≡ done (content_with begun frame) ∷ [] = ap (λ a. told_of a ∷ []) first in
+    let answers : map answer_outcome (run_answers outline_of max state (frame ∷ [])) ≡ done (content_with begun frame) ∷ [] = ap (λ a. answer_outcome a ∷ []) first in
     record {
       state_is = ap (λ (p : Answer Frame × State Frame). p.1) e;
       done_are = ap done_in answers;
-      no_fault = subst (λ (ts : List Told). AllByRecursion IsNoFault ts) (sym answers) (tt, tt);
+      no_fault = subst (λ (ts : List OutcomeView). AllByRecursion IsNoFault ts) (sym answers) (tt, tt);
     }
 
 -- a message with this body
@@ -108,11 +108,11 @@ message_gives max m message some fits =
 
 after_whole : (max : ℕ) (front back : List Frame) (contents more : List Content) → GivesWhole max (At Nothing) front contents → GivesWhole max (At Nothing) back more → GivesWhole max (At Nothing) (front ++ back) (contents ++ more)
 after_whole max front back contents more h g =
-    let answers : map told_of (run_answers outline_of max (At Nothing) (front ++ back)) ≡ map told_of (run_answers outline_of max (At Nothing) front) ++ map told_of (run_answers outline_of max (At Nothing) back) = ap (map told_of) (run_answers-append outline_of max (At Nothing) front back ∙ ap (λ s. run_answers outline_of max (At Nothing) front ++ run_answers outline_of max s back) h.state_is) ∙ map-append told_of (run_answers outline_of max (At Nothing) front) (run_answers outline_of max (At Nothing) back) in
+    let answers : map answer_outcome (run_answers outline_of max (At Nothing) (front ++ back)) ≡ map answer_outcome (run_answers outline_of max (At Nothing) front) ++ map answer_outcome (run_answers outline_of max (At Nothing) back) = ap (map answer_outcome) (run_answers-append outline_of max (At Nothing) front back ∙ ap (λ s. run_answers outline_of max (At Nothing) front ++ run_answers outline_of max s back) h.state_is) ∙ map-append answer_outcome (run_answers outline_of max (At Nothing) front) (run_answers outline_of max (At Nothing) back) in
     record {
       state_is = run_state-append outline_of max (At Nothing) front back ∙ ap (λ s. run_state outline_of max s back) h.state_is ∙ g.state_is;
-      done_are = ap done_in answers ∙ done_in-append (map told_of (run_answers outline_of max (At Nothing) front)) (map told_of (run_answers outline_of max (At Nothing) back)) ∙ ap₂ (λ xs ys. xs ++ ys) h.done_are g.done_are;
-      no_fault = subst (λ (ts : List Told). AllByRecursion IsNoFault ts) (sym answers) (no_fault-append (map told_of (run_answers outline_of max (At Nothing) front)) (map told_of (run_answers outline_of max (At Nothing) back)) h.no_fault g.no_fault);
+      done_are = ap done_in answers ∙ done_in-append (map answer_outcome (run_answers outline_of max (At Nothing) front)) (map answer_outcome (run_answers outline_of max (At Nothing) back)) ∙ ap₂ (λ xs ys. xs ++ ys) h.done_are g.done_are;
+      no_fault = subst (λ (ts : List OutcomeView). AllByRecursion IsNoFault ts) (sym answers) (no_fault-append (map answer_outcome (run_answers outline_of max (At Nothing) front)) (map answer_outcome (run_answers outline_of max (At Nothing) back)) h.no_fault g.no_fault);
     }
 
 messages_give : (max m : ℕ) (messages : List Parts) → 1 ≤ m → AllByRecursion (λ message. length message.body ≤ max) messages → GivesWhole max (At Nothing) (flat_map (split_of m) messages) (map content_of messages)
@@ -123,6 +123,6 @@ pub splits_whole : (max m : ℕ) (messages : List Parts) → 1 ≤ m → AllByRe
 splits_whole max m messages some fits =
     let given = messages_give max m messages some fits in
     record {
-      messages_are = λ answers h. ap (λ rs. done_in (map told_of rs)) (answers_run outline_of max (flat_map (split_of m) messages) answers h) ∙ given.done_are;
-      no_fault = λ answers h. subst (λ (rs : List (Answer Frame)). AllByRecursion IsNoFault (map told_of rs)) (sym (answers_run outline_of max (flat_map (split_of m) messages) answers h)) given.no_fault;
+      messages_are = λ answers h. ap (λ rs. done_in (map answer_outcome rs)) (answers_run outline_of max (flat_map (split_of m) messages) answers h) ∙ given.done_are;
+      no_fault = λ answers h. subst (λ (rs : List (Answer Frame)). AllByRecursion IsNoFault (map answer_outcome rs)) (sym (answers_run outline_of max (flat_map (split_of m) messages) answers h)) given.no_fault;
     }

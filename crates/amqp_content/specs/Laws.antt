@@ -9,7 +9,7 @@ use Rattle.amqp_content.specs.Answers.{Answer, Answers}
 use Rattle.amqp_content.specs.Stands.{State, At, Stands}
 use Rattle.amqp_content.specs.Steps.{run_answers, run_state}
 use Rattle.amqp_content.specs.Messages.{Parts, Content, content_of}
-use Rattle.amqp_content.specs.Outcomes.{Told, passed, held, done, wrong, told_of}
+use Rattle.amqp_content.specs.Outcomes.{OutcomeView, passed, held, done, wrong, answer_outcome}
 use Rattle.amqp_content.specs.Sequences.{AreGiven, given_of}
 use Rattle.amqp_content.specs.Splits.{split_of}
 
@@ -21,7 +21,7 @@ pub record AnswersAreSteps {X : Type 0} (outline : X → FrameOutline) : Type 0 
   pub one_stands : (max : ℕ) (xs : List X) (state : State X) → Stands outline max xs state → state ≡ run_state outline max (At Nothing) xs
 
 -- the messages that are complete
-abbrev pub done_in : List Told → List Content
+abbrev pub done_in : List OutcomeView → List Content
 done_in [] = []
 done_in (passed frame ∷ rest) = done_in rest
 done_in (held ∷ rest) = done_in rest
@@ -29,7 +29,7 @@ done_in (done content ∷ rest) = content ∷ done_in rest
 done_in (wrong fault ∷ rest) = done_in rest
 
 -- the outcome is no fault
-abbrev pub IsNoFault : Told → Type 0
+abbrev pub IsNoFault : OutcomeView → Type 0
 IsNoFault (passed frame) = Unit {0}
 IsNoFault held = Unit {0}
 IsNoFault (done content) = Unit {0}
@@ -37,8 +37,8 @@ IsNoFault (wrong fault) = ⊥
 
 -- The frames of messages of one channel, one message after another, give just these messages in order, and no fault.
 pub record AreWhole (max : ℕ) (frames : List Frame) (messages : List Parts) : Type 0 where
-  pub messages_are : (answers : List (Answer Frame)) → Answers outline_of max frames answers → done_in (map told_of answers) ≡ map content_of messages
-  pub no_fault : (answers : List (Answer Frame)) → Answers outline_of max frames answers → AllByRecursion IsNoFault (map told_of answers)
+  pub messages_are : (answers : List (Answer Frame)) → Answers outline_of max frames answers → done_in (map answer_outcome answers) ≡ map content_of messages
+  pub no_fault : (answers : List (Answer Frame)) → Answers outline_of max frames answers → AllByRecursion IsNoFault (map answer_outcome answers)
 
 -- Messages that are split into frames come back whole, in order, and without a fault.
 abbrev pub SplitsAreWhole : Type 0
@@ -51,7 +51,7 @@ SplitsAreWhole =
 -- What the content of a channel gives is a function of that channel's frames alone, in whatever way other frames come between.
 abbrev pub ChannelsAreApart : Type 0
 ChannelsAreApart =
-    (max channel : ℕ) (frames others : List Frame) (outcomes given : List Told)
+    (max channel : ℕ) (frames others : List Frame) (outcomes given : List OutcomeView)
     → AreGiven max [] frames outcomes
     → AreGiven max [] others given
     → of_channel outline_of channel frames ≡ of_channel outline_of channel others
@@ -60,8 +60,8 @@ ChannelsAreApart =
 -- what the content of a channel gives are the answers to that channel's frames
 abbrev pub ChannelsAreAnswered : Type 0
 ChannelsAreAnswered =
-    (max channel : ℕ) (frames : List Frame) (outcomes : List Told)
+    (max channel : ℕ) (frames : List Frame) (outcomes : List OutcomeView)
     → AreGiven max [] frames outcomes
     → (answers : List (Answer Frame))
     → Answers outline_of max (of_channel outline_of channel frames) answers
-    → given_of channel frames outcomes ≡ map told_of answers
+    → given_of channel frames outcomes ≡ map answer_outcome answers

@@ -23,25 +23,25 @@ use Rattle.amqp_content.specs.Steps.{mark_after}
 -- ---- outcomes
 
 -- what a frame gives: it is passed, held, completes a message, or is wrong
-pub data Told : Type 0 where
-  passed : (frame : Frame) → Told
-  held : Told
-  done : (content : Content) → Told
-  wrong : (fault : ContentFault) → Told
+pub data OutcomeView : Type 0 where
+  passed : (frame : Frame) → OutcomeView
+  held : OutcomeView
+  done : (content : Content) → OutcomeView
+  wrong : (fault : ContentFault) → OutcomeView
 
 -- an outcome in these words
-abbrev pub told : Outcome → Told
-told (outcomes.Passed frame) = passed (frame_of frame)
-told outcomes.Held = held
-told (outcomes.Done message) = done (content_of message)
-told (outcomes.Fault fault) = wrong fault
+abbrev pub outcome_of : Outcome → OutcomeView
+outcome_of (outcomes.Passed frame) = passed (frame_of frame)
+outcome_of outcomes.Held = held
+outcome_of (outcomes.Done message) = done (content_of message)
+outcome_of (outcomes.Fault fault) = wrong fault
 
 -- A method that stands alone is passed, the last frame of a message gives the message, and each other one is held.
-abbrev pub told_of : Answer Frame → Told
-told_of (Alone frame) = passed frame
-told_of (Within begun frame) = held
-told_of (Ends begun frame) = done (content_with begun frame)
-told_of (Wrong fault) = wrong fault
+abbrev pub answer_outcome : Answer Frame → OutcomeView
+answer_outcome (Alone frame) = passed frame
+answer_outcome (Within begun frame) = held
+answer_outcome (Ends begun frame) = done (content_with begun frame)
+answer_outcome (Wrong fault) = wrong fault
 
 -- ---- what is kept of a channel
 
@@ -68,14 +68,14 @@ pub record AssemblerStands (max : ℕ) (frames : List Frame) (kept : Option Kept
   pub is : kept ≡ kept_of state
 
 -- the last of these frames of one channel gives this
-pub record IsTold (max : ℕ) (frames : List Frame) (outcome : Told) : Type 0 where
+pub record IsOutcomeOf (max : ℕ) (frames : List Frame) (outcome : OutcomeView) : Type 0 where
   pub answer : Answer Frame
   pub last : IsLastAnswer outline_of max frames answer
-  pub is : outcome ≡ told_of answer
+  pub is : outcome ≡ answer_outcome answer
 
 -- what is kept of a channel before and after one more frame, and what the frame gives
-pub record Pushes (max : ℕ) (before after : Option Kept) (frame : Frame) (outcome : Told) : Type 0 where
-  pub gives : (frames : List Frame) → AssemblerStands max frames before → IsTold max (frames ++ frame ∷ []) outcome
+pub record Pushes (max : ℕ) (before after : Option Kept) (frame : Frame) (outcome : OutcomeView) : Type 0 where
+  pub gives : (frames : List Frame) → AssemblerStands max frames before → IsOutcomeOf max (frames ++ frame ∷ []) outcome
   pub stands : (frames : List Frame) → AssemblerStands max frames before → AssemblerStands max (frames ++ frame ∷ []) after
 
 -- an assembler as callers see it: the greatest size of a body, and what is kept of each channel of which something is
@@ -84,7 +84,7 @@ pub record Assembling : Type 0 where
   pub channels : List (ℕ × Kept)
 
 -- the same of the channel of a frame
-abbrev pub PushesIn : Assembling → Assembling → Frame → Told → Type 0
+abbrev pub PushesIn : Assembling → Assembling → Frame → OutcomeView → Type 0
 PushesIn old new frame outcome = Pushes old.max_body (kept_at old.channels (channel_id_of frame)) (kept_at new.channels (channel_id_of frame)) frame outcome
 
 -- ---- the step of an assembler
@@ -133,19 +133,19 @@ IsHeadedThere (Some kept) = IsHeaded kept
 IsHeadedThere None = ⊥
 
 -- the whole message that is kept of a channel
-abbrev pub whole_kept : ℕ → Option Kept → Told
+abbrev pub whole_kept : ℕ → Option Kept → OutcomeView
 whole_kept channel (Some (message opening (Some header) body)) = done (record { channel = channel; opening = opening; properties = header.options; body = body })
 whole_kept channel (Some (message opening None body)) = held
 whole_kept channel (Some fault) = held
 whole_kept channel None = held
 
 -- what a frame gives, and what is kept after it, by its mark and what was kept
-abbrev pub told_marked : Option Kept → Frame → Mark → Told
-told_marked kept frame marks.Passed = passed frame
-told_marked kept frame marks.Opening = held
-told_marked kept frame marks.Header = if 0 == (header_in frame).body_size then whole_kept (channel_id_of frame) (with_header kept (header_in frame)) else held
-told_marked kept frame (marks.Body before after size) = if after == size then whole_kept (channel_id_of frame) (with_bytes kept (bytes_of frame)) else held
-told_marked kept frame (marks.Fault bad) = wrong bad
+abbrev pub marked_outcome : Option Kept → Frame → Mark → OutcomeView
+marked_outcome kept frame marks.Passed = passed frame
+marked_outcome kept frame marks.Opening = held
+marked_outcome kept frame marks.Header = if 0 == (header_in frame).body_size then whole_kept (channel_id_of frame) (with_header kept (header_in frame)) else held
+marked_outcome kept frame (marks.Body before after size) = if after == size then whole_kept (channel_id_of frame) (with_bytes kept (bytes_of frame)) else held
+marked_outcome kept frame (marks.Fault bad) = wrong bad
 
 abbrev pub kept_marked : Option Kept → Frame → Mark → Option Kept
 kept_marked kept frame marks.Passed = kept
@@ -159,8 +159,8 @@ abbrev pub mark_kept : ℕ → Option Kept → Frame → Mark
 mark_kept max kept frame = mark_after max (kept_progress kept) (outline_of frame)
 
 -- what a frame of content gives, and what is kept after it, where it has this mark
-pub record Takes (before after : Option Kept) (frame : Frame) (mark : Mark) (outcome : Told) : Type 0 where
-  pub gives : outcome ≡ told_marked before frame mark
+pub record Takes (before after : Option Kept) (frame : Frame) (mark : Mark) (outcome : OutcomeView) : Type 0 where
+  pub gives : outcome ≡ marked_outcome before frame mark
   pub keeps : after ≡ kept_marked before frame mark
 
 -- a message has begun
@@ -170,8 +170,8 @@ IsMessage (Some fault) = ⊥
 IsMessage None = ⊥
 
 -- the same of the channel of a frame, with a mark, and with the mark that the frame has
-abbrev pub TakesIn : Assembling → Assembling → Frame → Mark → Told → Type 0
+abbrev pub TakesIn : Assembling → Assembling → Frame → Mark → OutcomeView → Type 0
 TakesIn old new frame mark outcome = Takes (kept_at old.channels (channel_id_of frame)) (kept_at new.channels (channel_id_of frame)) frame mark outcome
 
-abbrev pub TakesMarked : Assembling → Assembling → Frame → Told → Type 0
+abbrev pub TakesMarked : Assembling → Assembling → Frame → OutcomeView → Type 0
 TakesMarked old new frame outcome = TakesIn old new frame (mark_kept old.max_body (kept_at old.channels (channel_id_of frame)) frame) outcome

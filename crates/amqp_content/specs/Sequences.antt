@@ -3,22 +3,22 @@ use Rattle.std.specs.Prelude.{◌≡◌, ℕ, Bool, true, false, List, [], ◌�
 use Rattle.amqp_frame.specs.Frames.{Frame, channel_id_of}
 use Rattle.amqp_frame.specs.Outlines.{outline_of}
 use Rattle.amqp_content.specs.Units.{is_content, is_of_channel, of_channel}
-use Rattle.amqp_content.specs.Outcomes.{Told, passed, IsTold}
+use Rattle.amqp_content.specs.Outcomes.{OutcomeView, passed, IsOutcomeOf}
 
 -- What a frame gives after these: outside of all content it is passed; else it gives the last of the answers to its channel's frames up to it.
-pub record IsGiven (max : ℕ) (before : List Frame) (frame : Frame) (outcome : Told) : Type 0 where
+pub record IsGiven (max : ℕ) (before : List Frame) (frame : Frame) (outcome : OutcomeView) : Type 0 where
   pub outside : is_content (outline_of frame) ≡ false → outcome ≡ passed frame
-  pub inside : is_content (outline_of frame) ≡ true → IsTold max (of_channel outline_of (channel_id_of frame) (before ++ frame ∷ [])) outcome
+  pub inside : is_content (outline_of frame) ≡ true → IsOutcomeOf max (of_channel outline_of (channel_id_of frame) (before ++ frame ∷ [])) outcome
 
 -- what each of these frames gives, after those before it
-abbrev pub AreGiven : ℕ → List Frame → List Frame → List Told → Type 0
+abbrev pub AreGiven : ℕ → List Frame → List Frame → List OutcomeView → Type 0
 AreGiven max before [] [] = Unit {0}
 AreGiven max before [] (outcome ∷ outcomes) = ⊥
 AreGiven max before (frame ∷ frames) [] = ⊥
 AreGiven max before (frame ∷ frames) (outcome ∷ outcomes) = IsGiven max before frame outcome × AreGiven max (before ++ frame ∷ []) frames outcomes
 
 -- what the content of one channel gives
-abbrev pub given_of : ℕ → List Frame → List Told → List Told
+abbrev pub given_of : ℕ → List Frame → List OutcomeView → List OutcomeView
 given_of channel [] outcomes = []
 given_of channel (frame ∷ frames) [] = []
 given_of channel (frame ∷ frames) (outcome ∷ outcomes) = if is_of_channel outline_of channel frame then outcome ∷ given_of channel frames outcomes else given_of channel frames outcomes

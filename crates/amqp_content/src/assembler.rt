@@ -6,7 +6,7 @@ ghost use Rattle.amqp_frame.specs.Frames.{Meth, Head, Body, frame_of, header_of,
 ghost use Rattle.amqp_frame.specs.Outlines.{outline_of};
 ghost use Rattle.amqp_content.specs.Units.{is_content};
 ghost use Rattle.amqp_content.specs.Stands.{kept_at, OthersStay};
-ghost use Rattle.amqp_content.specs.Outcomes.{AssemblerStands, PushesIn, TakesIn, TakesMarked, IsHeadedThere, IsMessage, told, wrong, fault, pending_kept, kept_progress, with_header, with_bytes, whole_kept};
+ghost use Rattle.amqp_content.specs.Outcomes.{AssemblerStands, PushesIn, TakesIn, TakesMarked, IsHeadedThere, IsMessage, outcome_of, wrong, fault, pending_kept, kept_progress, with_header, with_bytes, whole_kept};
 ghost use Rattle.amqp_content.specs.Steps.{mark_after, method_mark};
 
 use crate::fault::ContentFault;
@@ -116,7 +116,7 @@ impl Assembler {
     /// Takes a complete message out.
     fn complete(&mut self, channel_id: ChannelId) -> Outcome
         requires { IsHeadedThere (kept_at self.old.channels channel_id) }
-        ensures told { told result ≡ whole_kept channel_id (kept_at self.old.channels channel_id) }
+        ensures outcome { outcome_of result ≡ whole_kept channel_id (kept_at self.old.channels channel_id) }
         ensures kept { kept_at self.new.channels channel_id ≡ None }
         ensures others { OthersStay channel_id self.old.channels self.new.channels }
         ensures max_body { self.new.max_body ≡ self.old.max_body }
@@ -129,7 +129,7 @@ impl Assembler {
 
     /// A frame is not in turn: nothing is kept of the channel but that.
     fn fail(&mut self, channel_id: ChannelId, bad: ContentFault) -> Result<Outcome, NoMemory>
-        ensures told { IfOk result (λ outcome. told outcome ≡ wrong bad) }
+        ensures outcome { IfOk result (λ outcome. outcome_of outcome ≡ wrong bad) }
         ensures kept { OnOk result (kept_at self.new.channels channel_id ≡ Some fault) }
         ensures others { OthersStay channel_id self.old.channels self.new.channels }
         ensures max_body { self.new.max_body ≡ self.old.max_body }
@@ -142,7 +142,7 @@ impl Assembler {
     /// Takes a method between messages: an opening is kept, any other comes back.
     fn take_method(&mut self, channel_id: ChannelId, class: AMQPClass) -> Result<Outcome, NoMemory>
         ensures takes { IfOk result (λ outcome. TakesIn self.old self.new (Meth channel_id (method_of class))
-            (method_mark (method_of class).class (method_of class).id) (told outcome)) }
+            (method_mark (method_of class).class (method_of class).id) (outcome_of outcome)) }
         ensures others { OthersStay channel_id self.old.channels self.new.channels }
         ensures max_body { self.new.max_body ≡ self.old.max_body }
         ensures err { OnErr result (self.new ≡ self.old) }
@@ -165,7 +165,7 @@ impl Assembler {
     /// Takes a content header after an opening.
     fn take_header(&mut self, channel_id: ChannelId, header: AMQPContentHeader) -> Outcome
         requires { IsMessage (kept_at self.old.channels channel_id) }
-        ensures takes { TakesIn self.old self.new (Head channel_id (header_of header)) Mark.Header (told result) }
+        ensures takes { TakesIn self.old self.new (Head channel_id (header_of header)) Mark.Header (outcome_of result) }
         ensures others { OthersStay channel_id self.old.channels self.new.channels }
         ensures max_body { self.new.max_body ≡ self.old.max_body }
     {
@@ -188,7 +188,7 @@ impl Assembler {
         size: u64,
     ) -> Result<Outcome, NoMemory>
         requires { IsHeadedThere (kept_at self.old.channels channel_id) }
-        ensures takes { IfOk result (λ outcome. TakesIn self.old self.new (Body channel_id bytes) (Mark.Body before after size) (told outcome)) }
+        ensures takes { IfOk result (λ outcome. TakesIn self.old self.new (Body channel_id bytes) (Mark.Body before after size) (outcome_of outcome)) }
         ensures others { OthersStay channel_id self.old.channels self.new.channels }
         ensures max_body { self.new.max_body ≡ self.old.max_body }
         ensures err { OnErr result (self.new ≡ self.old) }
@@ -203,7 +203,7 @@ impl Assembler {
 
     /// Takes a method.
     fn push_method(&mut self, channel_id: ChannelId, class: AMQPClass) -> Result<Outcome, NoMemory>
-        ensures takes { IfOk result (λ outcome. TakesMarked self.old self.new (Meth channel_id (method_of class)) (told outcome)) }
+        ensures takes { IfOk result (λ outcome. TakesMarked self.old self.new (Meth channel_id (method_of class)) (outcome_of outcome)) }
         ensures others { OthersStay channel_id self.old.channels self.new.channels }
         ensures max_body { self.new.max_body ≡ self.old.max_body }
         ensures err { OnErr result (self.new ≡ self.old) }
@@ -225,7 +225,7 @@ impl Assembler {
         channel_id: ChannelId,
         header: AMQPContentHeader,
     ) -> Result<Outcome, NoMemory>
-        ensures takes { IfOk result (λ outcome. TakesMarked self.old self.new (Head channel_id (header_of header)) (told outcome)) }
+        ensures takes { IfOk result (λ outcome. TakesMarked self.old self.new (Head channel_id (header_of header)) (outcome_of outcome)) }
         ensures others { OthersStay channel_id self.old.channels self.new.channels }
         ensures max_body { self.new.max_body ≡ self.old.max_body }
         ensures err { OnErr result (self.new ≡ self.old) }
@@ -243,7 +243,7 @@ impl Assembler {
 
     /// Takes a body.
     fn push_body(&mut self, channel_id: ChannelId, bytes: ByteArray) -> Result<Outcome, NoMemory>
-        ensures takes { IfOk result (λ outcome. TakesMarked self.old self.new (Body channel_id bytes) (told outcome)) }
+        ensures takes { IfOk result (λ outcome. TakesMarked self.old self.new (Body channel_id bytes) (outcome_of outcome)) }
         ensures others { OthersStay channel_id self.old.channels self.new.channels }
         ensures max_body { self.new.max_body ≡ self.old.max_body }
         ensures err { OnErr result (self.new ≡ self.old) }
@@ -268,7 +268,7 @@ impl Assembler {
     pub fn push(&mut self, frame: AMQPFrame) -> Result<Outcome, NoMemory>
         ensures outside { is_content (outline_of (frame_of frame)) ≡ false → (result ≡ Ok (Outcome.Passed frame)) × (self.new ≡ self.old) }
         ensures pushes { IsTrue (is_content (outline_of (frame_of frame)))
-            → IfOk result (λ outcome. PushesIn self.old self.new (frame_of frame) (told outcome)) }
+            → IfOk result (λ outcome. PushesIn self.old self.new (frame_of frame) (outcome_of outcome)) }
         ensures others { OthersStay (channel_id_of (frame_of frame)) self.old.channels self.new.channels }
         ensures max_body { self.new.max_body ≡ self.old.max_body }
         ensures err { OnErr result (self.new ≡ self.old) }

@@ -2,7 +2,7 @@
 
 ghost use Rattle.std.specs.Prelude.{[], map, IfOk};
 ghost use Rattle.amqp_frame.specs.Frames.{frame_of};
-ghost use Rattle.amqp_content.specs.Outcomes.{told};
+ghost use Rattle.amqp_content.specs.Outcomes.{outcome_of};
 ghost use Rattle.amqp_content.specs.Sequences.{AreGiven};
 
 use crate::assembler::Assembler;
@@ -17,7 +17,7 @@ pub fn assemble(
     max_body: u64,
     frames: Vec<AMQPFrame>,
 ) -> Result<Vec<Outcome>, NoMemory>
-    ensures { IfOk result (λ outcomes. AreGiven max_body [] (map frame_of frames.items) (map told outcomes.items)) }
+    ensures { IfOk result (λ outcomes. AreGiven max_body [] (map frame_of frames.items) (map outcome_of outcomes.items)) }
 {
     let mut assembler = Assembler::open(alloc, max_body);
     let mut outcomes = Vec::new(alloc);

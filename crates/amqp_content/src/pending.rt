@@ -2,7 +2,7 @@
 
 ghost use Rattle.std.specs.Prelude.{◌≡◌, Some, OnOk, OnErr};
 ghost use Rattle.amqp_frame.specs.Frames.{header_of};
-ghost use Rattle.amqp_content.specs.Outcomes.{pending_kept, progress_kept, with_header, with_bytes, IsHeaded, told, whole_kept};
+ghost use Rattle.amqp_content.specs.Outcomes.{pending_kept, progress_kept, with_header, with_bytes, IsHeaded, outcome_of, whole_kept};
 
 use crate::message::Message;
 use crate::opening::Opening;
@@ -69,7 +69,7 @@ impl Pending {
     /// The message, once all its body bytes have come.
     pub(crate) fn into_outcome(self, channel_id: ChannelId) -> Outcome
         requires { IsHeaded (pending_kept self) }
-        ensures { told result ≡ whole_kept channel_id (Some (pending_kept self)) }
+        ensures { outcome_of result ≡ whole_kept channel_id (Some (pending_kept self)) }
     {
         match self {
             Pending::Message {

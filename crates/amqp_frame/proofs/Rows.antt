@@ -7,7 +7,7 @@ use Rattle.amqp_types.proofs.Bytes.{IsBytes-drop}
 use Rattle.amqp_types.proofs.Exact.{none_begins}
 use Rattle.amqp_frame.specs.Frames.{Frame}
 use Rattle.amqp_frame.specs.Verdicts.{verdict}
-use Rattle.amqp_frame.specs.Spelling.{Spells, Row}
+use Rattle.amqp_frame.specs.Spelling.{Spells, SpellsFrames}
 use Rattle.amqp_frame.specs.Fronts.{front, place, Precedes}
 use Rattle.amqp_frame.specs.Laws.{SpellsWithin, IsLongestRow}
 use Rattle.amqp_frame.proofs.Cuts.{IsStop, front-got, front-stop, front-none, place-none, stop-none, GoesOn, Precedes-none, verdict-append, verdict-exact, verdict-got_within}
@@ -36,21 +36,21 @@ Precedes-first level m first rest f frames e p =
       after = λ more. rw (append_assoc first rest more) ((goes (rest ++ more)).after ∙ p.after more);
     }
 
-pub Row-precedes : (level : Level) (m : Option ℕ) (bytes : List ℕ) (frames : List Frame) → Row level m bytes frames → Precedes level m bytes frames
-Row-precedes level m bytes [] r = subst (λ (xs : List ℕ). Precedes level m xs []) (sym r) (Precedes-none level m)
-Row-precedes level m bytes (f ∷ fs) r =
+pub SpellsFrames-precedes : (level : Level) (m : Option ℕ) (bytes : List ℕ) (frames : List Frame) → SpellsFrames level m bytes frames → Precedes level m bytes frames
+SpellsFrames-precedes level m bytes [] r = subst (λ (xs : List ℕ). Precedes level m xs []) (sym r) (Precedes-none level m)
+SpellsFrames-precedes level m bytes (f ∷ fs) r =
     let first = r.0 in
     let found = verdict-spelled level m first f r.3 r.4 in
-    subst (λ (xs : List ℕ). Precedes level m xs (f ∷ fs)) (sym r.2) (Precedes-first level m first r.1 f fs found (Row-precedes level m r.1 fs r.5))
+    subst (λ (xs : List ℕ). Precedes level m xs (f ∷ fs)) (sym r.2) (Precedes-first level m first r.1 f fs found (SpellsFrames-precedes level m r.1 fs r.5))
 
 -- the front of a sequence is the sequence, and nothing follows it
-pub row_front : (level : Level) (m : Option ℕ) (bytes : List ℕ) (frames : List Frame) → Row level m bytes frames → front level m bytes ≡ frames
-row_front level m bytes frames r = ap (front level m) (sym (append-nil bytes)) ∙ (Row-precedes level m bytes frames r).row [] ∙ ap (λ (fs : List Frame). frames ++ fs) (front-none level m) ∙ append-nil frames
+pub row_front : (level : Level) (m : Option ℕ) (bytes : List ℕ) (frames : List Frame) → SpellsFrames level m bytes frames → front level m bytes ≡ frames
+row_front level m bytes frames r = ap (front level m) (sym (append-nil bytes)) ∙ (SpellsFrames-precedes level m bytes frames r).row [] ∙ ap (λ (fs : List Frame). frames ++ fs) (front-none level m) ∙ append-nil frames
 
-pub row_place : (level : Level) (m : Option ℕ) (bytes : List ℕ) (frames : List Frame) → Row level m bytes frames → place level m bytes ≡ []
-row_place level m bytes frames r = ap (place level m) (sym (append-nil bytes)) ∙ (Row-precedes level m bytes frames r).after [] ∙ place-none level m
+pub row_place : (level : Level) (m : Option ℕ) (bytes : List ℕ) (frames : List Frame) → SpellsFrames level m bytes frames → place level m bytes ≡ []
+row_place level m bytes frames r = ap (place level m) (sym (append-nil bytes)) ∙ (SpellsFrames-precedes level m bytes frames r).after [] ∙ place-none level m
 
-pub one_row : (level : Level) (m : Option ℕ) (bytes : List ℕ) (fs gs : List Frame) → Row level m bytes fs → Row level m bytes gs → fs ≡ gs
+pub one_row : (level : Level) (m : Option ℕ) (bytes : List ℕ) (fs gs : List Frame) → SpellsFrames level m bytes fs → SpellsFrames level m bytes gs → fs ≡ gs
 one_row level m bytes fs gs r s = sym (row_front level m bytes fs r) ∙ row_front level m bytes gs s
 
 -- ---- the bytes are what was cut, and the place
@@ -106,12 +106,12 @@ place-length level m bytes = let s = splits_of level m bytes in omega (arith, ap
 pub record FrontIsRow (level : Level) (m : Option ℕ) (bytes : List ℕ) : Type 0 where
   pub used : List ℕ
   pub parts : bytes ≡ used ++ place level m bytes
-  pub row : Row level m used (front level m bytes)
+  pub row : SpellsFrames level m used (front level m bytes)
 
 row_stop : (level : Level) (m : Option ℕ) (bytes : List ℕ) → IsStop (verdict level m bytes) → FrontIsRow level m bytes
 row_stop level m bytes s =
     let at = front-stop level m bytes s in
-    record { used = []; parts = sym at.1; row = subst (λ (fs : List Frame). Row level m [] fs) (sym at.0) refl }
+    record { used = []; parts = sym at.1; row = subst (λ (fs : List Frame). SpellsFrames level m [] fs) (sym at.0) refl }
 
 row_step : (level : Level) (m : Option ℕ) (n : ℕ) (bytes : List ℕ) → IsBytes bytes → length bytes ≤ suc n → ((rest : List ℕ) → IsBytes rest → length rest ≤ n → FrontIsRow level m rest) → (j : Judged Frame) → verdict level m bytes ≡ j → FrontIsRow level m bytes
 row_step level m n bytes fits few ih past e = row_stop level m bytes (rw e tt)
@@ -124,7 +124,7 @@ row_step level m n bytes fits few ih (took f k) e =
     record {
       used = take k bytes ++ rest.used;
       parts = parts_behind level m bytes rest.used f k goes rest.parts;
-      row = subst (λ (fs : List Frame). Row level m (take k bytes ++ rest.used) fs) (sym goes.row) (take k bytes, rest.used, refl, spelled.0, spelled.1, rest.row);
+      row = subst (λ (fs : List Frame). SpellsFrames level m (take k bytes ++ rest.used) fs) (sym goes.row) (take k bytes, rest.used, refl, spelled.0, spelled.1, rest.row);
     }
 
 row_by : (level : Level) (m : Option ℕ) (n : ℕ) (bytes : List ℕ) → IsBytes bytes → length bytes ≤ n → FrontIsRow level m bytes
@@ -135,11 +135,11 @@ pub front-is_row : (level : Level) (m : Option ℕ) (bytes : List ℕ) → IsByt
 front-is_row level m bytes fits = row_by level m (length bytes) bytes fits (omega arith)
 
 -- where nothing follows the front, the bytes are it
-pub row_of_all : (level : Level) (m : Option ℕ) (bytes : List ℕ) → IsBytes bytes → place level m bytes ≡ [] → Row level m bytes (front level m bytes)
+pub row_of_all : (level : Level) (m : Option ℕ) (bytes : List ℕ) → IsBytes bytes → place level m bytes ≡ [] → SpellsFrames level m bytes (front level m bytes)
 row_of_all level m bytes fits none =
     let cut = front-is_row level m bytes fits in
     let same : cut.used ≡ bytes = sym (cut.parts ∙ ap (λ (xs : List ℕ). cut.used ++ xs) none ∙ append-nil cut.used) in
-    subst (λ (xs : List ℕ). Row level m xs (front level m bytes)) same cut.row
+    subst (λ (xs : List ℕ). SpellsFrames level m xs (front level m bytes)) same cut.row
 
 pub longest_row : (level : Level) (m : Option ℕ) (bytes : List ℕ) → IsBytes bytes → IsLongestRow level m bytes (front level m bytes) (place level m bytes)
 longest_row level m bytes fits =
@@ -149,7 +149,7 @@ longest_row level m bytes fits =
       parts = cut.parts;
       row = cut.row;
       longest = λ other more fs e r.
-          let p = Row-precedes level m other fs r in
+          let p = SpellsFrames-precedes level m other fs r in
           let rest : place level m bytes ≡ place level m more = ap (place level m) e ∙ p.after more in
           omega (arith, ap length cut.parts, ap length e, length-append cut.used (place level m bytes), length-append other more, ap length rest, place-length level m more);
     }

@@ -13,7 +13,7 @@ use Rattle.amqp_types.specs.ContentHeaders.{judge_content_header, content_header
 use Rattle.amqp_values.proofs.MethodLaws.{payloads_lawful, payloads_bounded}
 use Rattle.amqp_properties.proofs.HeaderLaws.{content_headers_lawful, content_headers_bounded}
 use Rattle.amqp_frame.specs.Frames.{Frame, Proto, Meth, Head, Body, Beat, BadBeat}
-use Rattle.amqp_frame.specs.Spelling.{framed, IsFramed, IsBeat, Carries, Spells, IsWithin, Row}
+use Rattle.amqp_frame.specs.Spelling.{framed, IsFramed, IsBeat, Carries, Spells, IsWithin, SpellsFrames}
 use Rattle.amqp_frame.specs.Canonical.{canon, canon_row, is_deep, is_long, is_long_for, size_of}
 use Rattle.amqp_frame.specs.Fronts.{front, place}
 use Rattle.amqp_frame.specs.Laws.{HasOneStrict, IsShortest, GivesItself}
@@ -48,11 +48,11 @@ frame_tidy_plain bytes (Body channel content) s = s
 frame_tidy_plain bytes Beat s = beat_tidy_plain bytes 0 s
 frame_tidy_plain bytes (BadBeat channel) s = (s.0, beat_tidy_plain bytes channel s.1)
 
-pub row_strict_tidy : (m : Option ℕ) (bytes : List ℕ) (frames : List Frame) → Row strict m bytes frames → Row tidy m bytes frames
+pub row_strict_tidy : (m : Option ℕ) (bytes : List ℕ) (frames : List Frame) → SpellsFrames strict m bytes frames → SpellsFrames tidy m bytes frames
 row_strict_tidy m bytes [] r = r
 row_strict_tidy m bytes (f ∷ fs) r = (r.0, r.1, r.2, frame_strict_tidy r.0 f r.3, r.4, row_strict_tidy m r.1 fs r.5)
 
-pub row_tidy_plain : (m : Option ℕ) (bytes : List ℕ) (frames : List Frame) → Row tidy m bytes frames → Row plain m bytes frames
+pub row_tidy_plain : (m : Option ℕ) (bytes : List ℕ) (frames : List Frame) → SpellsFrames tidy m bytes frames → SpellsFrames plain m bytes frames
 row_tidy_plain m bytes [] r = r
 row_tidy_plain m bytes (f ∷ fs) r = (r.0, r.1, r.2, frame_tidy_plain r.0 f r.3, r.4, row_tidy_plain m r.1 fs r.5)
 
@@ -161,25 +161,25 @@ within_short (Some m) short bytes h w = omega arith
 
 -- ---- sequences
 
-row_is_plain : (level : Level) (m : Option ℕ) (bytes : List ℕ) (frames : List Frame) → Row level m bytes frames → Row plain m bytes frames
+row_is_plain : (level : Level) (m : Option ℕ) (bytes : List ℕ) (frames : List Frame) → SpellsFrames level m bytes frames → SpellsFrames plain m bytes frames
 row_is_plain level m bytes [] r = r
 row_is_plain level m bytes (f ∷ fs) r = (r.0, r.1, r.2, frame_is_plain level r.0 f r.3, r.4, row_is_plain level m r.1 fs r.5)
 
-canon_row_strict : (m : Option ℕ) (bytes : List ℕ) (frames : List Frame) → Row plain m bytes frames → Row strict m (canon_row frames) frames
+canon_row_strict : (m : Option ℕ) (bytes : List ℕ) (frames : List Frame) → SpellsFrames plain m bytes frames → SpellsFrames strict m (canon_row frames) frames
 canon_row_strict m bytes [] r = refl
 canon_row_strict m bytes (f ∷ fs) r = (canon f, canon_row fs, refl, canon_strict r.0 f r.3, within_short m (canon f) r.0 (canon_short r.0 f r.3) r.4, canon_row_strict m r.1 fs r.5)
 
-strict_canon_row : (m : Option ℕ) (bytes : List ℕ) (frames : List Frame) → Row strict m bytes frames → bytes ≡ canon_row frames
+strict_canon_row : (m : Option ℕ) (bytes : List ℕ) (frames : List Frame) → SpellsFrames strict m bytes frames → bytes ≡ canon_row frames
 strict_canon_row m bytes [] r = r
 strict_canon_row m bytes (f ∷ fs) r = r.2 ∙ ap₂ (λ a b. a ++ b) (strict_canon r.0 f r.3) (strict_canon_row m r.1 fs r.5)
 
-pub one_strict : (level : Level) (m : Option ℕ) (bytes : List ℕ) (frames : List Frame) → Row level m bytes frames → HasOneStrict m frames
+pub one_strict : (level : Level) (m : Option ℕ) (bytes : List ℕ) (frames : List Frame) → SpellsFrames level m bytes frames → HasOneStrict m frames
 one_strict level m bytes frames r = record {
   canonical = canon_row_strict m bytes frames (row_is_plain level m bytes frames r);
   only = λ other s. strict_canon_row m other frames s;
 }
 
-plain_shortest : (m : Option ℕ) (bytes : List ℕ) (frames : List Frame) → Row plain m bytes frames → IsShortest bytes frames
+plain_shortest : (m : Option ℕ) (bytes : List ℕ) (frames : List Frame) → SpellsFrames plain m bytes frames → IsShortest bytes frames
 plain_shortest m bytes [] r = record { shortest = omega arith; none_is_deep = tt; none_is_long = tt }
 plain_shortest m bytes (f ∷ fs) r =
     let rest = plain_shortest m r.1 fs r.5 in
@@ -189,7 +189,7 @@ plain_shortest m bytes (f ∷ fs) r =
       none_is_long = (not_long r.0 f r.3, rest.none_is_long);
     }
 
-pub row_shortest : (level : Level) (m : Option ℕ) (bytes : List ℕ) (frames : List Frame) → Row level m bytes frames → IsShortest bytes frames
+pub row_shortest : (level : Level) (m : Option ℕ) (bytes : List ℕ) (frames : List Frame) → SpellsFrames level m bytes frames → IsShortest bytes frames
 row_shortest level m bytes frames r = plain_shortest m bytes frames (row_is_plain level m bytes frames r)
 
 -- the canonical bytes of the front are no more than the bytes
@@ -203,13 +203,13 @@ pub gives_itself : (level : Level) (m : Option ℕ) (bytes : List ℕ) → IsByt
 gives_itself level m bytes fits =
     let cut = front-is_row level m bytes fits in
     let frames = front level m bytes in
-    let again : Row plain m (canon_row frames) frames = row_tidy_plain m (canon_row frames) frames (row_strict_tidy m (canon_row frames) frames (one_strict level m cut.used frames cut.row).canonical) in
+    let again : SpellsFrames plain m (canon_row frames) frames = row_tidy_plain m (canon_row frames) frames (row_strict_tidy m (canon_row frames) frames (one_strict level m cut.used frames cut.row).canonical) in
     record {
       whole = row_place plain m (canon_row frames) frames again;
       same = ap canon_row (row_front plain m (canon_row frames) frames again);
     }
 
 -- sequences with equal canonical bytes are encoded by them strictly, and so are one
-pub same_frames : (level : Level) (m : Option ℕ) (a b : List ℕ) (fs gs : List Frame) → Row level m a fs → Row level m b gs → (canon_row fs ≡ canon_row gs) ↔ (fs ≡ gs)
+pub same_frames : (level : Level) (m : Option ℕ) (a b : List ℕ) (fs gs : List Frame) → SpellsFrames level m a fs → SpellsFrames level m b gs → (canon_row fs ≡ canon_row gs) ↔ (fs ≡ gs)
 same_frames level m a b fs gs r s =
-    (λ e. one_row strict m (canon_row fs) fs gs (one_strict level m a fs r).canonical (subst (λ (bytes : List ℕ). Row strict m bytes gs) (sym e) (one_strict level m b gs s).canonical), λ e. ap canon_row e)
+    (λ e. one_row strict m (canon_row fs) fs gs (one_strict level m a fs r).canonical (subst (λ (bytes : List ℕ). SpellsFrames strict m bytes gs) (sym e) (one_strict level m b gs s).canonical), λ e. ap canon_row e)

@@ -12,14 +12,14 @@ use Rattle.amqp_frame.specs.declared.frame_type.AMQPFrameType.{AMQPFrameType}
 use Rattle.amqp_frame.specs.declared.frame_type.AMQPFrameType.TheVariants as kinds
 use Rattle.amqp_frame.specs.Frames.{Frame, Proto, Meth, Head, Body, Beat, BadBeat, Raw}
 use Rattle.amqp_frame.specs.Outer.{judge_frame_type, judge_version, judge_raw, version_raw, outer}
-use Rattle.amqp_frame.specs.Spelling.{Spells, IsWithin, Row}
+use Rattle.amqp_frame.specs.Spelling.{Spells, IsWithin, SpellsFrames}
 use Rattle.amqp_frame.specs.Canonical.{canon, canon_row, is_deep, is_long, size_of, read_back}
 use Rattle.amqp_frame.specs.Verdicts.{verdict}
 use Rattle.amqp_frame.specs.Fronts.{front, place}
 
 -- no bytes encode two sequences at one level
 abbrev pub OneMeaning : Type 0
-OneMeaning = (level : Level) (m : Option ℕ) (bytes : List ℕ) (fs gs : List Frame) → Row level m bytes fs → Row level m bytes gs → fs ≡ gs
+OneMeaning = (level : Level) (m : Option ℕ) (bytes : List ℕ) (fs gs : List Frame) → SpellsFrames level m bytes fs → SpellsFrames level m bytes gs → fs ≡ gs
 
 -- no encoding of a frame is a proper front of an encoding of a frame
 abbrev pub NoFrameBeginsAnother : Type 0
@@ -39,17 +39,17 @@ VerdictsAreStable = (level : Level) (m : Option ℕ) (bytes rest : List ℕ) →
 
 -- what is strict is tidy, and what is tidy is plain
 pub record LevelsNest : Type 0 where
-  pub strict_is_tidy : (m : Option ℕ) (bytes : List ℕ) (frames : List Frame) → Row strict m bytes frames → Row tidy m bytes frames
-  pub tidy_is_plain : (m : Option ℕ) (bytes : List ℕ) (frames : List Frame) → Row tidy m bytes frames → Row plain m bytes frames
+  pub strict_is_tidy : (m : Option ℕ) (bytes : List ℕ) (frames : List Frame) → SpellsFrames strict m bytes frames → SpellsFrames tidy m bytes frames
+  pub tidy_is_plain : (m : Option ℕ) (bytes : List ℕ) (frames : List Frame) → SpellsFrames tidy m bytes frames → SpellsFrames plain m bytes frames
 
 -- the canonical bytes are the one strict encoding of these frames, within the limit
 pub record HasOneStrict (m : Option ℕ) (frames : List Frame) : Type 0 where
-  pub canonical : Row strict m (canon_row frames) frames
-  pub only : (bytes : List ℕ) → Row strict m bytes frames → bytes ≡ canon_row frames
+  pub canonical : SpellsFrames strict m (canon_row frames) frames
+  pub only : (bytes : List ℕ) → SpellsFrames strict m bytes frames → bytes ≡ canon_row frames
 
 -- what is encoded at any level has one strict encoding
 abbrev pub OneCanonicalSpelling : Type 0
-OneCanonicalSpelling = (level : Level) (m : Option ℕ) (bytes : List ℕ) (frames : List Frame) → Row level m bytes frames → HasOneStrict m frames
+OneCanonicalSpelling = (level : Level) (m : Option ℕ) (bytes : List ℕ) (frames : List Frame) → SpellsFrames level m bytes frames → HasOneStrict m frames
 
 -- What programs hold: a method of the table with items of its fields, a content header with items of its properties, and numbers that
 -- fit the bytes in which they are written.
@@ -69,7 +69,7 @@ IsFrameHeld (BadBeat channel) = channel < 2 ^ 16
 
 -- two sequences, each encoded within a limit, have equal canonical bytes exactly where they are the same frames
 abbrev pub EqualBytesAreEqualFrames : Type 0
-EqualBytesAreEqualFrames = (level : Level) (m : Option ℕ) (a b : List ℕ) (fs gs : List Frame) → Row level m a fs → Row level m b gs → (canon_row fs ≡ canon_row gs) ↔ (fs ≡ gs)
+EqualBytesAreEqualFrames = (level : Level) (m : Option ℕ) (a b : List ℕ) (fs gs : List Frame) → SpellsFrames level m a fs → SpellsFrames level m b gs → (canon_row fs ≡ canon_row gs) ↔ (fs ≡ gs)
 
 -- the canonical bytes of a frame are decoded to it, whatever follows, and fewer bytes are incomplete
 pub record ReadsBack (level : Level) (frame : Frame) : Type 0 where
@@ -88,14 +88,14 @@ pub record IsShortest (bytes : List ℕ) (frames : List Frame) : Type 0 where
 
 -- canonical bytes are as short as any encoding of the same frames
 abbrev pub CanonicalBytesAreShortest : Type 0
-CanonicalBytesAreShortest = (level : Level) (m : Option ℕ) (bytes : List ℕ) (frames : List Frame) → Row level m bytes frames → IsShortest bytes frames
+CanonicalBytesAreShortest = (level : Level) (m : Option ℕ) (bytes : List ℕ) (frames : List Frame) → SpellsFrames level m bytes frames → IsShortest bytes frames
 
 -- the bytes begin with a sequence of these frames, as long as any, and then comes the rest
 pub record IsLongestRow (level : Level) (m : Option ℕ) (bytes : List ℕ) (frames : List Frame) (rest : List ℕ) : Type 0 where
   pub spelled : List ℕ
   pub parts : bytes ≡ spelled ++ rest
-  pub row : Row level m spelled frames
-  pub longest : (other more : List ℕ) (fs : List Frame) → bytes ≡ other ++ more → Row level m other fs → length other ≤ length spelled
+  pub row : SpellsFrames level m spelled frames
+  pub longest : (other more : List ℕ) (fs : List Frame) → bytes ≡ other ++ more → SpellsFrames level m other fs → length other ≤ length spelled
 
 -- the front of some bytes is the longest sequence that they begin with
 abbrev pub FrontIsLongest : Type 0

@@ -79,6 +79,6 @@ IsWithin None bytes = Unit {0}
 IsWithin (Some m) bytes = length bytes ≤ m + 8
 
 -- the bytes encode these frames, one after another, each within the limit
-abbrev pub Row : Level → Option ℕ → List ℕ → List Frame → Type 0
-Row level m bytes [] = bytes ≡ []
-Row level m bytes (f ∷ fs) = (first rest : List ℕ) × (bytes ≡ first ++ rest) × Spells level first f × IsWithin m first × Row level m rest fs
+abbrev pub SpellsFrames : Level → Option ℕ → List ℕ → List Frame → Type 0
+SpellsFrames level m bytes [] = bytes ≡ []
+SpellsFrames level m bytes (f ∷ fs) = (first rest : List ℕ) × (bytes ≡ first ++ rest) × Spells level first f × IsWithin m first × SpellsFrames level m rest fs

@@ -12,7 +12,7 @@ use Rattle.amqp_content.specs.Answers.{Answer, Ends, bodies_within, begun_answer
 use Rattle.amqp_content.specs.Stands.{State, At}
 use Rattle.amqp_content.specs.Steps.{step, run_state}
 use Rattle.amqp_content.specs.Messages.{Content, method_in, header_in, bytes_of, joined, content_with}
-use Rattle.amqp_content.specs.Outcomes.{Told, passed, held, done, wrong, told_of}
+use Rattle.amqp_content.specs.Outcomes.{OutcomeView, passed, held, done, wrong, answer_outcome}
 use Rattle.amqp_content.specs.Splits.{pieces}
 use Rattle.amqp_content.specs.Laws.{done_in}
 use Rattle.amqp_content.proofs.Pieces.{ArePieces, pieces_are}
@@ -172,7 +172,7 @@ units_cut size channel (unit ∷ units) begun some finished is_begun on =
 
 -- ---- the messages that answers complete
 
-done_append : (xs ys : List Told) → done_in (xs ++ ys) ≡ done_in xs ++ done_in ys
+done_append : (xs ys : List OutcomeView) → done_in (xs ++ ys) ≡ done_in xs ++ done_in ys
 done_append [] ys = refl
 done_append (passed frame ∷ xs) ys = done_append xs ys
 done_append (held ∷ xs) ys = done_append xs ys
@@ -181,10 +181,10 @@ done_append (wrong fault ∷ xs) ys = done_append xs ys
 
 -- the messages of answers
 abbrev pub done_by : List (Answer Frame) → List Content
-done_by answers = done_in (map told_of answers)
+done_by answers = done_in (map answer_outcome answers)
 
 pub done_by_append : (xs ys : List (Answer Frame)) → done_by (xs ++ ys) ≡ done_by xs ++ done_by ys
-done_by_append xs ys = ap done_in (map-append told_of xs ys) ∙ done_append (map told_of xs) (map told_of ys)
+done_by_append xs ys = ap done_in (map-append answer_outcome xs ys) ∙ done_append (map answer_outcome xs) (map answer_outcome ys)
 
 held_bodies : (opening header : Frame) (before bodies : List Frame) → done_by (bodies_within opening header before bodies) ≡ []
 held_bodies opening header before [] = refl

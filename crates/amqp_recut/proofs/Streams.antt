@@ -8,7 +8,7 @@ use Rattle.std.specs.Ordering.{nat_cmp}
 use Rattle.amqp_types.specs.Levels.{plain}
 use Rattle.amqp_frame.specs.Frames.{Frame, Proto, Meth, Head, Body, Beat, BadBeat, channel_id_of}
 use Rattle.amqp_frame.specs.Outlines.{outline_of}
-use Rattle.amqp_frame.specs.Spelling.{Row, Spells}
+use Rattle.amqp_frame.specs.Spelling.{SpellsFrames, Spells}
 use Rattle.amqp_frame.proofs.Outlined.{header_front}
 use Rattle.amqp_frame.proofs.Rows.{front-is_row}
 use Rattle.amqp_content.specs.declared.fault.ContentFault.{ContentFault}
@@ -309,7 +309,7 @@ spelled_fits bytes (Body channel content) h = omega arith
 spelled_fits bytes Beat h = omega arith
 spelled_fits bytes (BadBeat channel) h = omega arith
 
-row_fits : (m : Option ℕ) (bytes : List ℕ) (frames : List Frame) → Row plain m bytes frames → AllByRecursion Fits frames
+row_fits : (m : Option ℕ) (bytes : List ℕ) (frames : List Frame) → SpellsFrames plain m bytes frames → AllByRecursion Fits frames
 row_fits m bytes [] h = tt
 row_fits m bytes (frame ∷ frames) h = (spelled_fits h.0 frame h.3, row_fits m h.1 frames h.5)
 

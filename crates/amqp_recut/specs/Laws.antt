@@ -5,7 +5,7 @@ use Rattle.amqp_frame.specs.Outlines.{outline_of}
 use Rattle.amqp_content.specs.Units.{Nothing, Opened, Headed, of_channel, size_in, bytes_in}
 use Rattle.amqp_content.specs.Stands.{State, At, Lost}
 use Rattle.amqp_content.specs.Messages.{Content}
-use Rattle.amqp_content.specs.Outcomes.{told_of}
+use Rattle.amqp_content.specs.Outcomes.{answer_outcome}
 use Rattle.amqp_content.specs.Laws.{done_in}
 use Rattle.amqp_content.specs.Steps.{run_answers}
 use Rattle.amqp_recut.specs.InTurn.{greatest, state_on, AreInTurn, NoneIsOpen}
@@ -13,7 +13,7 @@ use Rattle.amqp_recut.specs.Cuts.{recut}
 
 -- the messages that are complete on a channel, in order
 abbrev pub messages_on : ℕ → List Frame → List Content
-messages_on channel frames = done_in (map told_of (run_answers outline_of greatest (At Nothing) (of_channel outline_of channel frames)))
+messages_on channel frames = done_in (map answer_outcome (run_answers outline_of greatest (At Nothing) (of_channel outline_of channel frames)))
 
 -- a body that comes after these has the size, or is the last of its message and no longer
 abbrev pub IsPiece : ℕ → State Frame → List ℕ → Type 0

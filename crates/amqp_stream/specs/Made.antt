@@ -2,7 +2,7 @@
 use Rattle.std.specs.Prelude.{◌≡◌, ℕ, zero, suc, ◌+◌, ◌%◌, ◌==◌, List, [], ◌∷◌, ◌++◌, length, Some, if◌then◌else◌}
 use Rattle.amqp_types.specs.Levels.{plain}
 use Rattle.amqp_frame.specs.Frames.{Frame}
-use Rattle.amqp_frame.specs.Spelling.{framed, Row}
+use Rattle.amqp_frame.specs.Spelling.{framed, SpellsFrames}
 
 -- the most frames that are generated
 abbrev pub most_frames : ℕ
@@ -45,7 +45,7 @@ made n = made_from 0 n
 -- bytes that are a sequence of n frames, with payloads of at most 131,072 bytes
 pub record IsRowOf (n : ℕ) (bytes : List ℕ) : Type 0 where
   pub frames : List Frame
-  pub spelled : Row plain (Some 131072) bytes frames
+  pub spelled : SpellsFrames plain (Some 131072) bytes frames
   pub count : length frames ≡ n
 
 -- the first n frames are n frames

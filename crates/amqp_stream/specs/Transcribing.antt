@@ -4,7 +4,7 @@ use Rattle.amqp_types.specs.Levels.{Level}
 use Rattle.amqp_types.specs.Judging.{Judged, past, fault, took, IsBytes}
 use Rattle.amqp_frame.specs.Frames.{Frame}
 use Rattle.amqp_frame.specs.Verdicts.{verdict}
-use Rattle.amqp_frame.specs.Spelling.{Row}
+use Rattle.amqp_frame.specs.Spelling.{SpellsFrames}
 use Rattle.amqp_frame.specs.Fronts.{front, place, IsUndecided}
 use Rattle.amqp_stream.specs.declared.errors.StreamError.{StreamError}
 use Rattle.amqp_stream.specs.declared.errors.StreamError.TheVariants as errors
@@ -18,7 +18,7 @@ place_verdict level m bytes = verdict level (Some m) (place level (Some m) bytes
 
 -- the bytes are a sequence of frames within the limit
 abbrev pub IsRow : Level → ℕ → List ℕ → Type 0
-IsRow level m bytes = (frames : List Frame) × Row level (Some m) bytes frames
+IsRow level m bytes = (frames : List Frame) × SpellsFrames level (Some m) bytes frames
 
 -- what is written for the frames at the front of some bytes
 abbrev pub transcript : (List Frame → List ℕ) → Level → ℕ → List ℕ → List ℕ

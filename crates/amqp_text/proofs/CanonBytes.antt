@@ -37,7 +37,7 @@ use Rattle.amqp_values.proofs.SlotLaws.{both_true, constant_strict}
 use Rattle.amqp_values.proofs.MethodLaws.{in_table}
 use Rattle.amqp_properties.proofs.PropertyLaws.{one_each}
 use Rattle.amqp_frame.specs.Frames.{Frame, Proto, Meth, Head, Body, Beat, BadBeat}
-use Rattle.amqp_frame.specs.Spelling.{Spells, Row, framed, IsFramed}
+use Rattle.amqp_frame.specs.Spelling.{Spells, SpellsFrames, framed, IsFramed}
 use Rattle.amqp_frame.specs.Canonical.{canon, canon_row}
 use Rattle.amqp_stream.proofs.Adding.{IsBytes-append, IsBytes-nil}
 use Rattle.amqp_text.proofs.ReadWords.{bytes_behind}
@@ -308,11 +308,11 @@ frames_keep bytes (Body channel content) fits h = along bytes (framed 3 channel 
 frames_keep bytes Beat fits h = framed_all 8 0 [] (omega arith) tt
 frames_keep bytes (BadBeat channel) fits h = framed_all 8 channel [] (omega arith) tt
 
-rows_keep : (m : Option ℕ) (bytes : List ℕ) (frames : List Frame) → All bytes → Row plain m bytes frames → All (canon_row frames)
+rows_keep : (m : Option ℕ) (bytes : List ℕ) (frames : List Frame) → All bytes → SpellsFrames plain m bytes frames → All (canon_row frames)
 rows_keep m bytes [] fits h = tt
 rows_keep m bytes (f ∷ fs) fits h =
     let parts = along bytes (h.0 ++ h.1) h.2 fits in
     all_both (canon f) (canon_row fs) (frames_keep h.0 f (all_front h.0 h.1 parts) h.3) (rows_keep m h.1 fs (all_back h.0 h.1 parts) h.5)
 
-pub canonical_bytes : (m : Option ℕ) (bytes : List ℕ) (frames : List Frame) → IsBytes bytes → Row plain m bytes frames → IsBytes (canon_row frames)
+pub canonical_bytes : (m : Option ℕ) (bytes : List ℕ) (frames : List Frame) → IsBytes bytes → SpellsFrames plain m bytes frames → IsBytes (canon_row frames)
 canonical_bytes m bytes frames fits h = are_bytes (canon_row frames) (rows_keep m bytes frames (all_bytes bytes fits) h)

@@ -64,7 +64,7 @@ none_cut m rest some none h = by_frames h.frames h.good h.is
     by_frames [] good e = some (sym (e ∙ append-nil rest))
     by_frames (g ∷ gs) good e = none g (flat_map line gs) good.0 (e ∙ append-nil rest)
 
--- ---- a source that tells its bytes
+-- ---- a source that reports its bytes
 
 pub record Left (bytes taken : List ℕ) (left : Option (List ℕ)) : Type 0 where
   pub more : List ℕ

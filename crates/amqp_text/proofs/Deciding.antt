@@ -66,7 +66,7 @@ pub record IsALine (m : ℕ) (text : List ℕ) : Type 0 where
   pub good : IsStrictWithin m frame
   pub is_line : text ≡ line frame
 
--- what the bytes of a frame are judged, of which a text is the line
+-- what the bytes of a frame are decoded as, of which a text is the line
 judged_line : (m : ℕ) (text : List ℕ) (raw : Raw) (f : Frame) → read_words (take (length text - 1) text) ≡ Some raw → IsStrictWithin m f → text ≡ line f → raw_bytes raw ≡ canon f
 judged_line m text raw f found good e =
     let same : raw ≡ raw_in f = let x = sym found ∙ line_back f text good.is_strict e in cc in

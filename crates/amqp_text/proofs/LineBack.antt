@@ -13,7 +13,7 @@ use Rattle.amqp_properties.proofs.HeaderLaws.{content_headers_lawful}
 use Rattle.amqp_frame.specs.declared.frame_type.AMQPFrameType.{AMQPFrameType}
 use Rattle.amqp_frame.specs.declared.frame_type.AMQPFrameType.TheVariants as kinds
 use Rattle.amqp_frame.specs.Frames.{Frame, Proto, Meth, Head, Body, Beat, BadBeat, Raw}
-use Rattle.amqp_frame.specs.Spelling.{Spells, Row, bytes_as}
+use Rattle.amqp_frame.specs.Spelling.{Spells, SpellsFrames, bytes_as}
 use Rattle.amqp_frame.specs.Canonical.{canon, payload_of}
 use Rattle.amqp_frame.specs.Verdicts.{whole, whole_as}
 use Rattle.amqp_frame.proofs.Made.{spells_as}
@@ -112,7 +112,7 @@ spells_plain kinds.Heartbeat channel payload f fits c l h = spells_as plain (byt
 pub strict_read : (kind : AMQPFrameType) (channel : ℕ) (payload : List ℕ) (f : Frame) → IsBytes payload → channel < 2 ^ 16 → length payload < 2 ^ 32 → whole_as kind channel payload ≡ Ok f → Spells strict (canon f) f
 strict_read kind channel payload f fits c l h =
     let bytes = bytes_as kind channel payload in
-    let row : Row plain None bytes (f ∷ []) = (bytes, [], sym (append-nil bytes), spells_plain kind channel payload f fits c l h, tt, refl) in
+    let row : SpellsFrames plain None bytes (f ∷ []) = (bytes, [], sym (append-nil bytes), spells_plain kind channel payload f fits c l h, tt, refl) in
     let canonical = (one_strict plain None bytes (f ∷ []) row).canonical in
     subst (λ (bs : List ℕ). Spells strict bs f) (first_is_canon canonical.0 f canonical.3) canonical.3
 
@@ -127,7 +127,7 @@ is_line m text payload canonical lined found done fits c l p bytes within same =
   is_canonical = p.2;
 }
 
--- ---- what is told of a text
+-- ---- what is returned for a text
 
 -- what is read of a text but its last byte, into an empty vector
 pub read_here : (text front old payload : List ℕ) (r : Result (AMQPFrameType × ℕ) TextError) → front ≡ take (length text - 1) text → old ≡ [] → ReadsWords (read_words front) old payload r → ReadsWords (read_words (take (length text - 1) text)) [] payload r

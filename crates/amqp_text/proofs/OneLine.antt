@@ -21,7 +21,7 @@ parsed {m = m} {text = text} frame n h same found =
     let is : f ≡ frame_of frame = value_took f (frame_of frame) (length (canon f)) n (sym whole ∙ ap (verdict plain None) (sym (same ∙ h.is_canonical)) ∙ found) in
     subst (λ (g : Frame). IsStrictWithin m g × (text ≡ line g)) is (h.strict_within, h.is_line)
 
--- what was told of a text that is a line
+-- what is returned for a text that is a line
 pub is_told : {m : ℕ} {text canonical : List ℕ} (b : Bool) → TellsLine m text canonical (Ok b) → b ≡ true → IsLineOf m text canonical
 is_told true h e = h
 is_told false h e = absurd cc

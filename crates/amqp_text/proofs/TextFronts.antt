@@ -5,7 +5,7 @@ use Rattle.std.proofs.lemmas.List.{length-append, take-append-drop}
 use Rattle.std.proofs.Math.Seq.{take-add}
 use Rattle.amqp_types.specs.Levels.{strict}
 use Rattle.amqp_frame.specs.Frames.{Frame}
-use Rattle.amqp_frame.specs.Spelling.{Spells, Row}
+use Rattle.amqp_frame.specs.Spelling.{Spells, SpellsFrames}
 use Rattle.amqp_frame.specs.Canonical.{canon, canon_row}
 use Rattle.amqp_frame.proofs.Strictness.{one_strict}
 use Rattle.amqp_stream.proofs.Adding.{IsBytes-append, IsBytes-nil}
@@ -24,7 +24,7 @@ AllStrict m = AllByRecursion (IsStrictWithin m)
 
 pub first_is_canon : (first : List ℕ) (f : Frame) → Spells strict first f → first ≡ canon f
 first_is_canon first f h =
-    let row : Row strict None first (f ∷ []) = (first, [], sym (append-nil first), h, tt, refl) in
+    let row : SpellsFrames strict None first (f ∷ []) = (first, [], sym (append-nil first), h, tt, refl) in
     (one_strict strict None first (f ∷ []) row).only first row ∙ append-nil (canon f)
 
 pub all_strict : (m : ℕ) (frames : List Frame) → AreStrict m frames → AllStrict m frames
@@ -37,7 +37,7 @@ all_strict m (f ∷ fs) h =
         is_strict = record { are_bytes = bytes_front (canon f) (canon_row fs) (canon_row (f ∷ fs)) refl h.1; encodes = subst (λ (bs : List ℕ). Spells strict bs f) same row.3 };
         within = subst (λ (bs : List ℕ). length bs ≤ m + 8) same row.4;
       },
-      all_strict m fs (subst (λ (bs : List ℕ). Row strict (Some m) bs fs) others row.5, bytes_behind (canon f) (canon_row fs) (canon_row (f ∷ fs)) refl h.1),
+      all_strict m fs (subst (λ (bs : List ℕ). SpellsFrames strict (Some m) bs fs) others row.5, bytes_behind (canon f) (canon_row fs) (canon_row (f ∷ fs)) refl h.1),
     )
 
 pub are_strict : (m : ℕ) (frames : List Frame) → AllStrict m frames → AreStrict m frames

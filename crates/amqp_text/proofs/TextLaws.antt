@@ -1,5 +1,5 @@
 -- Laws of texts: the longest is one, what was dumped is read back, and strict bytes and texts correspond.
-use Rattle.std.proofs.Common.{◌≡◌, ◌≢◌, ◌↔◌, ℕ, false, List, [], ◌∷◌, ◌++◌, length, Some, None, Ok, refl, sym, ap, ap₂, subst, ◌∙◌, append_assoc, append-nil, arith}
+use Rattle.std.proofs.Common.{◌≡◌, ◌≢◌, ◌↔◌, ℕ, false, List, [], ◌∷◌, ◌++◌, length, Some, None, Ok, refl, sym, ap, ap₂, subst, ◌∙◌, append_assoc, append-nil, arith, Result, Err}
 use Rattle.std.specs.List.{AllByRecursion, flat_map}
 use Rattle.std.proofs.lemmas.List.{take_all}
 use Rattle.std.proofs.lemmas.Bool.{ne_eqb}
@@ -7,22 +7,26 @@ use Rattle.amqp_types.specs.Levels.{plain, strict}
 use Rattle.amqp_types.specs.Judging.{IsBytes}
 use Rattle.amqp_frame.specs.Frames.{Frame, Proto, Meth, Head, Body, Beat, BadBeat}
 use Rattle.amqp_frame.specs.Fronts.{front, place}
-use Rattle.amqp_frame.specs.Spelling.{Spells, Row}
+use Rattle.amqp_frame.specs.Spelling.{Spells, SpellsFrames}
 use Rattle.amqp_frame.specs.Canonical.{canon, canon_row, is_deep, is_long, size_of, read_back}
 use Rattle.amqp_frame.specs.Laws.{IsFrameHeld}
 use Rattle.amqp_frame.proofs.Made.{verdict-spells}
 use Rattle.amqp_frame.proofs.ReadingBack.{reads_back}
 use Rattle.amqp_frame.proofs.Rows.{front-is_row, one_row}
 use Rattle.amqp_frame.proofs.Strictness.{one_strict, row_shortest}
+use Rattle.amqp_stream.specs.Ends.{Store, Gains}
 use Rattle.amqp_text.specs.Dumping.{dumped}
 use Rattle.amqp_text.specs.Laws.{IsStrict}
 use Rattle.amqp_text.specs.Lines.{line, lines}
-use Rattle.amqp_text.specs.Undumping.{AreStrict, IsLongestText}
-use Rattle.amqp_text.specs.UndumpLaws.{IsSameText, AreBytesAndText, IsUsual}
+use Rattle.amqp_text.specs.Undumping.{AreStrict, IsLongestText, UndumpsExactly}
+use Rattle.amqp_text.specs.LineReading.{HasNoNewline}
+use Rattle.amqp_text.specs.UndumpLaws.{IsSameText, Undoes, AreBytesAndText, IsUsual}
+use Rattle.amqp_text.specs.declared.errors.UndumpError.{UndumpError}
+use Rattle.amqp_text.specs.declared.errors.UndumpError.TheVariants as errors
 use Rattle.amqp_text.proofs.CanonBytes.{canonical_bytes}
 use Rattle.amqp_text.proofs.ReadWords.{bytes_front}
 use Rattle.amqp_text.proofs.LinesApart.{same_frame, split, same_sequence}
-use Rattle.amqp_text.proofs.TextFronts.{AllStrict, all_strict, at_clean, is_longest}
+use Rattle.amqp_text.proofs.TextFronts.{AllStrict, all_strict, at_clean, holds_none, is_longest}
 
 -- ---- the longest text is one
 
@@ -52,6 +56,25 @@ dumped_back m bytes fits =
     let good : AreStrict m frames = ((one_strict plain (Some m) cut.used frames cut.row).canonical, canonical_bytes (Some m) cut.used frames used cut.row) in
     is_longest m (lines frames) frames [] (all_strict m frames good) (sym (append-nil (lines frames))) (at_clean m [] tt)
 
+-- what stands after the text, and is none of it
+undoes : (m : ℕ) (bytes : List ℕ) (k l : Store) (r : Result (Unit {0}) UndumpError) (u : UndumpsExactly m (dumped m bytes) k l r) → u.frames ≡ front plain (Some m) bytes → u.rest ≡ [] → Undoes m bytes k l r
+undoes m bytes k l (Ok done) u frames none = record {
+  never_bad = λ e. absurd cc;
+  never_short = λ e. absurd cc;
+  written = λ e. subst (λ (xs : List ℕ). Gains k l xs) (u.answer.1 ∙ ap canon_row frames) u.gains;
+}
+undoes m bytes k l (Err errors.BadText) u frames none = absurd (holds_none u.rest (subst HasNoNewline (sym none) tt) u.answer.0)
+undoes m bytes k l (Err errors.CutShort) u frames none = absurd (u.answer.0 none)
+undoes m bytes k l (Err errors.TurnsSpent) u frames none = record { never_bad = λ e. absurd cc; never_short = λ e. absurd cc; written = λ e. absurd cc }
+undoes m bytes k l (Err errors.ReadFault) u frames none = record { never_bad = λ e. absurd cc; never_short = λ e. absurd cc; written = λ e. absurd cc }
+undoes m bytes k l (Err errors.WriteFault) u frames none = record { never_bad = λ e. absurd cc; never_short = λ e. absurd cc; written = λ e. absurd cc }
+undoes m bytes k l (Err errors.NoMemory) u frames none = record { never_bad = λ e. absurd cc; never_short = λ e. absurd cc; written = λ e. absurd cc }
+
+pub undump_undoes : (m : ℕ) (bytes : List ℕ) (k l : Store) (r : Result (Unit {0}) UndumpError) → IsBytes bytes → UndumpsExactly m (dumped m bytes) k l r → Undoes m bytes k l r
+undump_undoes m bytes k l r fits u =
+    let same = one_longest m (dumped m bytes) u.frames (front plain (Some m) bytes) u.rest [] u.text (dumped_back m bytes fits) in
+    undoes m bytes k l r u same.frames same.rests
+
 -- ---- strict bytes and texts
 
 only_strict : (m : ℕ) (bytes text : List ℕ) (h : AreBytesAndText m bytes text) → bytes ≡ canon_row h.frames
@@ -60,7 +83,7 @@ only_strict m bytes text h = (one_strict strict (Some m) bytes h.frames h.is_row
 are_strict_frames : (m : ℕ) (bytes text : List ℕ) (h : AreBytesAndText m bytes text) → AreStrict m h.frames
 are_strict_frames m bytes text h =
     let is = only_strict m bytes text h in
-    (subst (λ (bs : List ℕ). Row strict (Some m) bs h.frames) is h.is_row, subst (λ (bs : List ℕ). IsBytes bs) is h.are_bytes)
+    (subst (λ (bs : List ℕ). SpellsFrames strict (Some m) bs h.frames) is h.is_row, subst (λ (bs : List ℕ). IsBytes bs) is h.are_bytes)
 
 each_strict : (m : ℕ) (fs : List Frame) → AllStrict m fs → AllByRecursion IsStrict fs
 each_strict m [] h = tt
@@ -82,7 +105,7 @@ not_bad_beat f h e = absurd (let P : Frame → Type 0 = λ g. Spells strict (can
 
 strict_usual : (f : Frame) → IsStrict f → IsUsual f
 strict_usual f h =
-    let row : Row strict None (canon f) (f ∷ []) = (canon f, [], sym (append-nil (canon f)), h.encodes, tt, refl) in
+    let row : SpellsFrames strict None (canon f) (f ∷ []) = (canon f, [], sym (append-nil (canon f)), h.encodes, tt, refl) in
     let sized = row_shortest strict None (canon f) (f ∷ []) row in
     record { belongs = not_bad_beat f h.encodes; not_deep = sized.none_is_deep.0; not_long = sized.none_is_long.0 }
 

@@ -11,7 +11,7 @@ use Rattle.amqp_stream.specs.Errors.{Cause, faulty, out_of_memory, cause_of}
 use Rattle.amqp_stream.specs.Writing.{IsFaulty}
 use Rattle.amqp_text.specs.Lines.{line}
 
--- why a borrowed frame was not told: a fault of its payload, or memory
+-- why a borrowed frame has no line: a fault of its payload, or memory ran out
 abbrev pub IsUntold : Raw → Cause → Type 0
 IsUntold raw (faulty bad) = IsFaulty plain raw bad
 IsUntold raw out_of_memory = Unit {0}

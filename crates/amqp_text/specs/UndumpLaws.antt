@@ -1,16 +1,19 @@
 -- Laws of reading lines back.
-use Rattle.std.specs.Prelude.{◌≡◌, ◌≢◌, ◌↔◌, ℕ, List, [], Some, false}
+use Rattle.std.specs.Prelude.{◌≡◌, ◌≢◌, ◌↔◌, ℕ, List, [], Some, Result, Ok, Err, false}
 use Rattle.amqp_types.specs.Levels.{plain, strict}
 use Rattle.amqp_types.specs.Judging.{IsBytes}
 use Rattle.amqp_frame.specs.Frames.{Frame, BadBeat}
 use Rattle.amqp_frame.specs.Fronts.{front}
-use Rattle.amqp_frame.specs.Spelling.{Row}
-use Rattle.amqp_frame.specs.Canonical.{canon, is_deep, is_long}
+use Rattle.amqp_frame.specs.Spelling.{SpellsFrames}
+use Rattle.amqp_frame.specs.Canonical.{canon, canon_row, is_deep, is_long}
 use Rattle.amqp_frame.specs.Laws.{IsFrameHeld}
+use Rattle.amqp_stream.specs.Ends.{Store, Gains}
 use Rattle.amqp_text.specs.Dumping.{dumped}
 use Rattle.amqp_text.specs.Laws.{IsStrict}
 use Rattle.amqp_text.specs.Lines.{lines}
-use Rattle.amqp_text.specs.Undumping.{IsLongestText}
+use Rattle.amqp_text.specs.Undumping.{IsLongestText, UndumpsExactly}
+use Rattle.amqp_text.specs.declared.errors.UndumpError.{UndumpError}
+use Rattle.amqp_text.specs.declared.errors.UndumpError.TheVariants as errors
 
 -- some bytes begin with one longest text
 pub record IsSameText (fs gs : List Frame) (rest more : List ℕ) : Type 0 where
@@ -20,15 +23,25 @@ pub record IsSameText (fs gs : List Frame) (rest more : List ℕ) : Type 0 where
 abbrev pub OneLongestText : Type 0
 OneLongestText = (m : ℕ) (bytes : List ℕ) (fs gs : List Frame) (rest more : List ℕ) → IsLongestText m bytes fs rest → IsLongestText m bytes gs more → IsSameText fs gs rest more
 
--- What is dumped of some bytes is a text, to its end that of the frames at the front of the bytes. So their canonical bytes are read back.
+-- What `dump` writes for some bytes is, to its end, the text of the frames at the front of the bytes.
 abbrev pub DumpedTextIsReadBack : Type 0
 DumpedTextIsReadBack = (m : ℕ) (bytes : List ℕ) → IsBytes bytes → IsLongestText m (dumped m bytes) (front plain (Some m) bytes) []
+
+-- What `undump` returns and writes over what `dump` writes for some bytes: it finds no bad text and no line cut short, and at the end of
+-- input has written the canonical bytes of the frames at the front of the bytes.
+pub record Undoes (m : ℕ) (bytes : List ℕ) (k l : Store) (result : Result (Unit {0}) UndumpError) : Type 0 where
+  pub never_bad : result ≢ Err errors.BadText
+  pub never_short : result ≢ Err errors.CutShort
+  pub written : result ≡ Ok tt → Gains k l (canon_row (front plain (Some m) bytes))
+
+abbrev pub UndumpUndoesDump : Type 0
+UndumpUndoesDump = (m : ℕ) (bytes : List ℕ) (k l : Store) (result : Result (Unit {0}) UndumpError) → IsBytes bytes → UndumpsExactly m (dumped m bytes) k l result → Undoes m bytes k l result
 
 -- bytes that encode a sequence of frames strictly within a limit, and its text
 pub record AreBytesAndText (m : ℕ) (bytes text : List ℕ) : Type 0 where
   pub are_bytes : IsBytes bytes
   pub frames : List Frame
-  pub is_row : Row strict (Some m) bytes frames
+  pub is_row : SpellsFrames strict (Some m) bytes frames
   pub is_text : text ≡ lines frames
 
 -- they correspond one to one

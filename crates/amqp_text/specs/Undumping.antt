@@ -4,7 +4,7 @@ use Rattle.amqp_types.specs.Levels.{strict}
 use Rattle.amqp_types.specs.Judging.{IsBytes}
 use Rattle.amqp_frame.specs.Frames.{Frame}
 use Rattle.amqp_frame.specs.Canonical.{canon_row}
-use Rattle.amqp_frame.specs.Spelling.{Row}
+use Rattle.amqp_frame.specs.Spelling.{SpellsFrames}
 use Rattle.amqp_stream.specs.Ends.{Supply, Store, Takes, Gains, Rises, IsEmpty}
 use Rattle.amqp_stream.specs.Writing.{IsPrefix}
 use Rattle.amqp_text.specs.Lines.{lines}
@@ -14,7 +14,7 @@ use Rattle.amqp_text.specs.declared.errors.UndumpError.TheVariants as errors
 -- Frames that their canonical bytes encode strictly, within a limit on payloads. These are bytes: contracts see them as natural
 -- numbers, and a body with a number above 255, which no program holds, could have a line of bytes too.
 abbrev pub AreStrict : ℕ → List Frame → Type 0
-AreStrict m frames = Row strict (Some m) (canon_row frames) frames × IsBytes (canon_row frames)
+AreStrict m frames = SpellsFrames strict (Some m) (canon_row frames) frames × IsBytes (canon_row frames)
 
 -- a newline stands in the bytes
 pub record HoldsNewline (bytes : List ℕ) : Type 0 where
@@ -93,7 +93,7 @@ pub record UndumpsExactly (m : ℕ) (bytes : List ℕ) (k l : Store) (result : R
   pub gains : Gains k l written
   pub answer : IsAnswerToText (canon_row frames) rest written result
 
--- valid text: the lines of frames within the limit, and more turns than bytes
+-- valid text: the lines of frames within the limit, and a read budget above the number of bytes
 pub record IsValidText (m turns : ℕ) (bytes : List ℕ) : Type 0 where
   pub frames : List Frame
   pub are_strict : AreStrict m frames

@@ -82,10 +82,10 @@ pub enum UndumpError {
     /// A line that is that of no frame within the limit.
     BadText,
 
-    /// The source ended inside a line.
+    /// The input ends inside a line.
     CutShort,
 
-    /// A further read is wanted, and none is left of the read budget.
+    /// The read budget is used up before the end of input.
     TurnsSpent,
 
     /// A read failed.

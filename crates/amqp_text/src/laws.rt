@@ -1,7 +1,7 @@
 //! Laws of lines, each the contract of a function that does nothing.
 
 ghost use Rattle.amqp_text.specs.Laws.{EqualLinesAreEqualFrames, EqualTextsAreEqualSequences, LinesHaveOneNewline};
-ghost use Rattle.amqp_text.specs.UndumpLaws.{CorrespondOneToOne, DumpedTextIsReadBack, OneLongestText, StrictFramesAreUsual};
+ghost use Rattle.amqp_text.specs.UndumpLaws.{CorrespondOneToOne, DumpedTextIsReadBack, OneLongestText, StrictFramesAreUsual, UndumpUndoesDump};
 
 /// A line holds one newline, which is its last byte.
 pub fn lines_have_one_newline()
@@ -23,9 +23,14 @@ pub fn one_longest_text()
     ensures { OneLongestText }
 {}
 
-/// What `dump` writes for some bytes is read back by `undump` as the canonical bytes of the frames at their front.
+/// What `dump` writes for some bytes is, to its end, the text of the frames at their front.
 pub fn dumped_text_is_read_back()
     ensures { DumpedTextIsReadBack }
+{}
+
+/// Over what `dump` writes for some bytes, `undump` finds no fault, and writes the canonical bytes of the frames at their front.
+pub fn undump_undoes_dump()
+    ensures { UndumpUndoesDump }
 {}
 
 /// Strict bytes and texts correspond one to one.

@@ -21,7 +21,7 @@ pub use generation::gen_line;
 pub use laws::{
     bytes_and_texts_correspond, dumped_text_is_read_back, equal_lines_are_equal_frames,
     equal_texts_are_equal_sequences, lines_have_one_newline, one_longest_text,
-    strict_frames_are_usual,
+    strict_frames_are_usual, undump_undoes_dump,
 };
 pub use one_line::{dump_line, parse_line, undump_line};
 pub use undumping::undump;

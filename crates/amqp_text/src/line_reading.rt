@@ -48,7 +48,7 @@ fn is_same(one: &[u8], other: &[u8]) -> bool
     one == other
 }
 
-/// What is told of a text whose frame was not put.
+/// What is returned for a text whose frame was not put.
 fn refused(error: StreamError) -> Result<bool, NoMemory>
     ensures never { result ≢ Ok true }
     ensures none { result ≡ Ok false → error ≢ StreamError.NoMemory }
@@ -59,7 +59,7 @@ fn refused(error: StreamError) -> Result<bool, NoMemory>
     }
 }
 
-/// Puts the payload that a line tells, and the canonical bytes and the line of its frame, in memory that is used again.
+/// The payload that is read of a line, and the canonical bytes and the line of its frame, in memory that is used again.
 #[derive(Drop)]
 pub(crate) struct LineReader {
     payload: Vec<u8>,

@@ -1,7 +1,6 @@
 //! One line at a time: each method there and back, texts that are no line, each change of a line, and memory that is refused.
 
-use crate::method_rows::METHODS;
-use crate::tests::{KINDS, KINDS_LINE, LIMIT};
+use crate::tests::{DECLARE, KINDS, KINDS_LINE, LIMIT, PROPERTIES_LINE};
 use crate::{TextError, dump_line, gen_line, parse_line, undump_line};
 use amqp_canonical::bytes_from;
 use amqp_frame::{parse_frame, parse_frame_type, parse_raw_frame};
@@ -36,119 +35,154 @@ fn line_of(alloc: Global, bytes: &[u8]) -> Result<Vec<u8>, Fail> {
 }
 
 #[test]
-fn each_method_is_read_back(rt: HostRuntime) -> Result<(), Fail> {
-    let alloc = rt.alloc();
-    for (line, bytes) in METHODS {
-        let found = bytes_of(alloc, line.as_bytes(), LIMIT)?;
-        assert_eq!(rt; found.as_slice(), bytes);
-        let again = line_of(alloc, bytes)?;
-        assert_eq!(rt; again.as_slice(), line.as_bytes());
-    }
-    Ok(())
-}
-
-#[test]
 fn a_line_is_read_as_its_frame(rt: HostRuntime) -> Result<(), Fail> {
     let alloc = rt.alloc();
-    let (_, frame) = parse_frame(alloc, &KINDS)?;
+    let (_, frame) = parse_frame(alloc, &DECLARE)?;
     let mut line = Vec::new(alloc);
     gen_line(alloc, &mut line, &frame)?;
-    assert_eq!(rt; line.as_slice(), KINDS_LINE.as_bytes());
+    assert_eq!(rt;
+        line.as_slice(),
+        b"method 1 50.10 \"some_queue\" +++++ {}\n".as_slice()
+    );
     let read = parse_line(alloc, &line, LIMIT)?;
     assert!(rt; read == frame);
     Ok(())
 }
 
-/// Texts that are the line of no frame.
-const NO_LINES: [&[u8]; 80] = [
-    b"",
-    b"\n",
-    b"beat",
-    b"beat\n\n",
-    b" beat\n",
-    b"beat \n",
-    b"beat 0\n",
-    b"beat 00\n",
-    b"beat 65536\n",
-    b"beat -1\n",
-    b"Beat\n",
-    b"beats\n",
-    b"beat\r\n",
-    b"beat 1 \n",
-    b"body 1 xAB\n",
-    b"body 1 xa\n",
-    b"body 1 ab\n",
-    b"body 01 xab\n",
-    b"body 1  xab\n",
-    b"body 1 xab \n",
-    b"body xab\n",
-    b"body 1\n",
-    b"proto 0.9\n",
-    b"proto 0.9.256\n",
-    b"proto 00.9.1\n",
-    b"proto 0.9.1.0\n",
-    b"proto 0,9,1\n",
-    b"method 1 60.11 \n",
-    b"method 1 60.12\n",
-    b"method 1 61.11\n",
-    b"method 1 60.011\n",
-    b"method 1 60\n",
-    b"method 65536 60.11\n",
-    b"method 1 60.80 -0 -\n",
-    b"method 1 60.80 18446744073709551616 -\n",
-    b"method 1 60.80 1 ++\n",
-    b"method 1 60.80 1\n",
-    b"method 1 60.80 1 *\n",
-    b"method 1 60.80 +1 -\n",
-    b"method 1 60.21 a\n",
-    b"method 1 60.21 \"a\n",
-    b"method 1 60.21 \"a\" \"b\"\n",
-    b"method 1 60.21 \"\\61\"\n",
-    b"method 1 60.21 \"\\0A\"\n",
-    b"method 1 60.21 \"\\ff\"\n",
-    b"method 1 60.21 \"\\n\"\n",
-    b"method 1 50.10 \"q\" ----- {\"b\"=V,\"a\"=V}\n",
-    b"method 1 50.10 \"q\" ----- {\"a\"=V,\"a\"=V}\n",
-    b"method 1 50.10 \"q\" ----- {\"a\"=V,}\n",
-    b"method 1 50.10 \"q\" ----- {,}\n",
-    b"method 1 50.10 \"q\" ----- {\"a\"=t:2}\n",
-    b"method 1 50.10 \"q\" ----- {\"a\"=b:128}\n",
-    b"method 1 50.10 \"q\" ----- {\"a\"=b:-129}\n",
-    b"method 1 50.10 \"q\" ----- {\"a\"=b:-0}\n",
-    b"method 1 50.10 \"q\" ----- {\"a\"=B:-1}\n",
-    b"method 1 50.10 \"q\" ----- {\"a\"=U:1}\n",
-    b"method 1 50.10 \"q\" ----- {\"a\"=L:1}\n",
-    b"method 1 50.10 \"q\" ----- {\"a\"=q:1}\n",
-    b"method 1 50.10 \"q\" ----- {\"a\"=D:256/0}\n",
-    b"method 1 50.10 \"q\" ----- {\"a\"=D:1}\n",
-    b"method 1 50.10 \"q\" ----- {\"a\"=x:DE}\n",
-    b"method 1 50.10 \"q\" ----- {\"a\"=V:}\n",
-    b"method 1 50.10 \"q\" ----- {\"a\"=V\n",
-    b"method 1 50.10 \"q\" ----- {\"a\":V}\n",
-    b"method 1 50.10 \"q\" ----- {\"a\"=S:\"a\n",
-    b"method 1 50.10 \"q\" ----- {\"a\"=A:[V V]}\n",
-    b"method 1 50.10 \"q\" ----- { \"a\"=V}\n",
-    b"method 1 50.10 \"q\" ----- {\"\\ff\"=V}\n",
-    b"method 1 50.10 \"q\" ----- {}{}\n",
-    b"method 1 50.10 \"q\" ----- \n",
-    b"header 1 60 5 delivery_mode=2 content_type=\"a\"\n",
-    b"header 1 60 5 priority=1 priority=1\n",
-    b"header 1 60 5 color=1\n",
-    b"header 1 60\n",
-    b"header 1 60 5 priority=256\n",
-    b"header 1 60 5 priority=\"1\"\n",
-    b"header 1 60 18446744073709551616\n",
-    b"header 1 60 5 headers=\n",
-    b"header 1 65536 5\n",
-    b"method 1 60.21 \"aaaaaaaaaaaaaaaaaaaaaaaaaaaaaaaaaaaaaaaaaaaaaaaaaaaaaaaaaaaaaaaaaaaaaaaaaaaaaaaaaaaaaaaaaaaaaaaaaaaaaaaaaaaaaaaaaaaaaaaaaaaaaaaaaaaaaaaaaaaaaaaaaaaaaaaaaaaaaaaaaaaaaaaaaaaaaaaaaaaaaaaaaaaaaaaaaaaaaaaaaaaaaaaaaaaaaaaaaaaaaaaaaaaaaaaaaaaaaaaaaaaaaaaaaaaaaaaa\"\n",
+/// The canonical bytes of a content header with each property and the greatest body size.
+const PROPERTIES: [u8; 56] = [
+    2, 255, 255, 0, 0, 0, 48, 0, 60, 0, 0, 255, 255, 255, 255, 255, 255, 255, 255, 255, 252, 1, 97,
+    1, 98, 0, 0, 0, 0, 1, 9, 1, 99, 1, 100, 1, 101, 1, 102, 0, 0, 0, 0, 0, 0, 0, 7, 1, 103, 1, 104,
+    1, 105, 1, 106, 206,
 ];
+
+#[test]
+fn values_and_properties_are_read_back(rt: HostRuntime) -> Result<(), Fail> {
+    let alloc = rt.alloc();
+    let kinds = bytes_of(alloc, KINDS_LINE.as_bytes(), LIMIT)?;
+    assert_eq!(rt; kinds.as_slice(), KINDS.as_slice());
+    let properties = bytes_of(alloc, PROPERTIES_LINE.as_bytes(), LIMIT)?;
+    assert_eq!(rt; properties.as_slice(), PROPERTIES.as_slice());
+    Ok(())
+}
+
+/// Texts that end with one newline and are the line of no frame.
+const NO_LINES: &str = r#" beat
+beat 
+beat 0
+beat 00
+beat 65536
+beat -1
+Beat
+beats
+beat 1 
+body 1 xAB
+body 1 xa
+body 1 ab
+body 01 xab
+body 1  xab
+body 1 xab 
+body xab
+body 1
+proto 0.9
+proto 0.9.256
+proto 00.9.1
+proto 0.9.1.0
+proto 0,9,1
+method 1 60.11 
+method 1 60.12
+method 1 61.11
+method 1 60.011
+method 1 60
+method 65536 60.11
+method 1 60.80 -0 -
+method 1 60.80 18446744073709551616 -
+method 1 60.80 1 ++
+method 1 60.80 1
+method 1 60.80 1 *
+method 1 60.80 +1 -
+method 1 60.21 a
+method 1 60.21 "a
+method 1 60.21 "a" "b"
+method 1 60.21 "\61"
+method 1 60.21 "\0A"
+method 1 60.21 "\ff"
+method 1 60.21 "\n"
+method 1 50.10 "q" ----- {"b"=V,"a"=V}
+method 1 50.10 "q" ----- {"a"=V,"a"=V}
+method 1 50.10 "q" ----- {"a"=V,}
+method 1 50.10 "q" ----- {,}
+method 1 50.10 "q" ----- {"a"=t:2}
+method 1 50.10 "q" ----- {"a"=b:128}
+method 1 50.10 "q" ----- {"a"=b:-129}
+method 1 50.10 "q" ----- {"a"=b:-0}
+method 1 50.10 "q" ----- {"a"=B:-1}
+method 1 50.10 "q" ----- {"a"=U:1}
+method 1 50.10 "q" ----- {"a"=L:1}
+method 1 50.10 "q" ----- {"a"=q:1}
+method 1 50.10 "q" ----- {"a"=D:256/0}
+method 1 50.10 "q" ----- {"a"=D:1}
+method 1 50.10 "q" ----- {"a"=x:DE}
+method 1 50.10 "q" ----- {"a"=V:}
+method 1 50.10 "q" ----- {"a"=V
+method 1 50.10 "q" ----- {"a":V}
+method 1 50.10 "q" ----- {"a"=S:"a
+method 1 50.10 "q" ----- {"a"=A:[V V]}
+method 1 50.10 "q" ----- { "a"=V}
+method 1 50.10 "q" ----- {"\ff"=V}
+method 1 50.10 "q" ----- {}{}
+method 1 50.10 "q" ----- 
+header 1 60 5 delivery_mode=2 content_type="a"
+header 1 60 5 priority=1 priority=1
+header 1 60 5 color=1
+header 1 60
+header 1 60 5 priority=256
+header 1 60 5 priority="1"
+header 1 60 18446744073709551616
+header 1 60 5 headers=
+header 1 65536 5
+"#;
+
+/// Other texts that are none.
+const OTHER_TEXTS: [&[u8]; 5] = [b"", b"\n", b"beat", b"beat\n\n", b"beat\r\n"];
+
+/// Whether one of these texts, each with a newline, is a line.
+fn has_line(alloc: Global, texts: &str) -> Result<bool, Fail> {
+    for text in texts.lines() {
+        let mut line = Vec::new(alloc);
+        line.extend_from_slice(text.as_bytes())?;
+        line.push(b'\n')?;
+        if is_line(alloc, &line)? {
+            return Ok(true);
+        }
+    }
+    Ok(false)
+}
 
 #[test]
 fn other_texts_are_no_lines(rt: HostRuntime) -> Result<(), Fail> {
     let alloc = rt.alloc();
-    for text in NO_LINES {
+    let found = has_line(alloc, NO_LINES)?;
+    assert!(rt; !found);
+    for text in OTHER_TEXTS {
         let found = is_line(alloc, text)?;
         assert!(rt; !found);
+    }
+    Ok(())
+}
+
+#[test]
+fn a_long_short_string_is_not_read(rt: HostRuntime) -> Result<(), Fail> {
+    let alloc = rt.alloc();
+    for (size, found) in [(255, true), (256, false)] {
+        let mut line = Vec::new(alloc);
+        line.extend_from_slice(b"method 1 60.21 \"")?;
+        for _ in 0..size {
+            line.push(b'a')?;
+        }
+        line.extend_from_slice(b"\"\n")?;
+        let is = is_line(alloc, &line)?;
+        assert_eq!(rt; is, found);
     }
     Ok(())
 }
@@ -293,9 +327,9 @@ fn a_large_body_is_read_back(rt: HostRuntime) -> Result<(), Fail> {
 fn refused_memory_leaves_bytes(rt: HostRuntime) {
     let alloc = rt.alloc();
     let mut bytes = Vec::new(alloc);
-    for (line, _) in METHODS {
+    for line in SHORT_LINES {
         let held = bytes.len();
-        match undump_line(alloc, &mut bytes, line.as_bytes(), LIMIT) {
+        match undump_line(alloc, &mut bytes, line, LIMIT) {
             Ok(()) => assert!(rt; bytes.len() > held),
             Err(error) => {
                 assert_eq!(rt; error, TextError::NoMemory);

@@ -3,7 +3,7 @@
 use crate::{
     bytes_and_texts_correspond, dump, dumped_text_is_read_back, equal_lines_are_equal_frames,
     equal_texts_are_equal_sequences, gen_line, lines_have_one_newline, one_longest_text,
-    strict_frames_are_usual,
+    strict_frames_are_usual, undump_undoes_dump,
 };
 use amqp_frame::{AMQPFrame, GenError};
 use amqp_stream::{PieceSource, ScriptSink, StreamError, VecSink};
@@ -28,7 +28,7 @@ pub(crate) const MESSAGE_LINES: &str =
     "method 1 60.40 \"\" \"hello\" --\nheader 1 60 5 content_type=\"text/plain\" delivery_mode=2\nbody 1 x68656c6c6f\n";
 
 /// `queue.declare` with all of its flags.
-const DECLARE: [u8; 30] = [
+pub(crate) const DECLARE: [u8; 30] = [
     1, 0, 1, 0, 0, 0, 22, 0, 50, 0, 10, 0, 0, 10, 115, 111, 109, 101, 95, 113, 117, 101, 117, 101,
     31, 0, 0, 0, 0, 206,
 ];
@@ -74,7 +74,7 @@ pub(crate) const KINDS_LINE: &str =
     "method 1 50.10 \"q\" ----- {\"a\"=t:1,\"b\"=b:-128,\"c\"=B:255,\"d\"=s:-32768,\"e\"=u:65535,\"f\"=I:-2147483648,\"g\"=i:4294967295,\"h\"=l:-9223372036854775808,\"i\"=f:1065353216,\"j\"=d:18446744073709551615,\"k\"=D:2/123,\"l\"=S:\"\\0a\\22\\5c~\\7f\\ffA\",\"m\"=A:[V,t:0],\"n\"=T:0,\"o\"=F:{},\"p\"=x:dead,\"q\"=V,\"r\"=b:127,\"s\"=I:2147483647}\n";
 
 /// The line of `PROPERTIES`.
-const PROPERTIES_LINE: &str =
+pub(crate) const PROPERTIES_LINE: &str =
     "header 65535 60 18446744073709551615 content_type=\"a\" content_encoding=\"b\" headers={} delivery_mode=1 priority=9 correlation_id=\"c\" reply_to=\"d\" expiration=\"e\" message_id=\"f\" timestamp=7 kind=\"g\" user_id=\"h\" app_id=\"i\" cluster_id=\"j\"\n";
 
 /// The line of `START`.
@@ -251,4 +251,5 @@ fn laws_are_called() {
     dumped_text_is_read_back();
     bytes_and_texts_correspond();
     strict_frames_are_usual();
+    undump_undoes_dump();
 }

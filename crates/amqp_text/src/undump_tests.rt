@@ -1,7 +1,8 @@
 //! Lines read back as a table, and the calls where reads, writes and memory fail.
 
+use crate::method_rows::{METHOD_LINES, METHODS};
 use crate::tests::{LIMIT, MESSAGE, MESSAGE_LINES, ONES};
-use crate::{UndumpError, undump};
+use crate::{UndumpError, dump, undump};
 use amqp_stream::{PieceSource, ScriptSink, VecSink};
 use std::alloc::Global;
 use std::test::Fail;
@@ -42,6 +43,31 @@ fn lines_are_read_back(rt: HostRuntime) -> Result<(), Fail> {
             assert_eq!(rt; sink.bytes(), bytes);
         }
     }
+    Ok(())
+}
+
+/// What is written of a text.
+fn undumped(alloc: Global, text: &str) -> Result<Vec<u8>, Fail> {
+    let mut source = PieceSource::new(text.as_bytes(), &[], &[]);
+    let mut sink = VecSink::new(alloc);
+    undump(alloc, &mut source, &mut sink, LIMIT, 200)?;
+    Ok(Vec::from_slice(alloc, sink.bytes())?)
+}
+
+/// What is written of frames.
+fn dumped(alloc: Global, frames: &[u8]) -> Result<Vec<u8>, Fail> {
+    let mut source = PieceSource::new(frames, &[], &[]);
+    let mut sink = VecSink::new(alloc);
+    dump(alloc, &mut source, &mut sink, LIMIT, 200)?;
+    Ok(Vec::from_slice(alloc, sink.bytes())?)
+}
+
+#[test]
+fn each_method_is_read_back(rt: HostRuntime) -> Result<(), Fail> {
+    let bytes = undumped(rt.alloc(), METHOD_LINES)?;
+    assert_eq!(rt; bytes.as_slice(), METHODS.as_slice());
+    let lines = dumped(rt.alloc(), &METHODS)?;
+    assert_eq!(rt; lines.as_slice(), METHOD_LINES.as_bytes());
     Ok(())
 }
 

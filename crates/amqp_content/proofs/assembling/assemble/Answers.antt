@@ -2,7 +2,7 @@ use Rattle.std.proofs.Common.{◌≡◌, sym, ap, ◌∙◌, subst, map, List, [
 use Rattle.std.proofs.lemmas.List.{map_push}
 use Rattle.amqp_frame.specs.Frames.{Frame, frame_of}
 use Rattle.amqp_content.specs.declared.outcome.Outcome.{Outcome}
-use Rattle.amqp_content.specs.Outcomes.{Told, told, Pushes}
+use Rattle.amqp_content.specs.Outcomes.{OutcomeView, outcome_of, Pushes}
 use Rattle.amqp_content.specs.Sequences.{AreGiven}
 use Rattle.amqp_content.proofs.Apart.{AllStand, none_stand, none_given, assembled_step}
 use Rattle.amqp_content.proofs.assembling.assemble.Goals as goal
@@ -22,5 +22,5 @@ loop-frame-preserved c =
     record {
       max = e.max_body ∙ h.max;
       stand = next.stand;
-      given = subst (λ (os : List Outcome). AreGiven c.args.max_body [] (map frame_of (c.loop-frame.yielded ++ c.in-Some.frame ∷ [])) (map told os)) (sym c.in_ok-push-2.ensures.items) next.given;
+      given = subst (λ (os : List Outcome). AreGiven c.args.max_body [] (map frame_of (c.loop-frame.yielded ++ c.in-Some.frame ∷ [])) (map outcome_of os)) (sym c.in_ok-push-2.ensures.items) next.given;
     }

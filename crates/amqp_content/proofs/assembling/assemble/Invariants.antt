@@ -1,6 +1,6 @@
 use Rattle.std.proofs.Common.{◌≡◌, [], map}
 use Rattle.amqp_frame.specs.Frames.{frame_of}
-use Rattle.amqp_content.specs.Outcomes.{told}
+use Rattle.amqp_content.specs.Outcomes.{outcome_of}
 use Rattle.amqp_content.specs.Sequences.{AreGiven}
 use Rattle.amqp_content.proofs.Apart.{AllStand}
 use Rattle.amqp_content.proofs.assembling.assemble.Given as goal
@@ -9,5 +9,5 @@ abbrev pub invariant-loop-frame : goal.invariant-loop-frame
 invariant-loop-frame l = record {
   max : l.assembler.max_body ≡ l.max_body;
   stand : AllStand l.max_body (map frame_of l.yielded) l.assembler.channels;
-  given : AreGiven l.max_body [] (map frame_of l.yielded) (map told l.outcomes.items);
+  given : AreGiven l.max_body [] (map frame_of l.yielded) (map outcome_of l.outcomes.items);
 }

@@ -15,8 +15,8 @@ into_outcome-requires c =
     let kept = ap (λ (a : Assembling). kept_at a.channels c.args.channel_id) (sym c.self.view_is) ∙ kept_at-map c.self.inside.channels.entries c.args.channel_id ∙ ap (option_map pending_kept) (sym c.in-Some.ensures.value) in
     subst IsHeadedThere kept c.requires
 
-pub returns-clause-told : goal.returns-clause-told
-returns-clause-told c =
+pub returns-clause-outcome : goal.returns-clause-outcome
+returns-clause-outcome c =
     let kept = ap (λ (a : Assembling). kept_at a.channels c.args.channel_id) (sym c.self.view_is) ∙ kept_at-map c.self.inside.channels.entries c.args.channel_id ∙ ap (option_map pending_kept) (sym c.in-Some.ensures.value) in
     c.into_outcome.ensures ∙ ap (whole_kept c.args.channel_id) (sym kept)
 

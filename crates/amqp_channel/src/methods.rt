@@ -1,0 +1,5 @@
+//! The methods, a module for each class.
+
+pub mod channel;
+pub mod confirm;
+pub mod tx;
