@@ -21,7 +21,7 @@ use Rattle.amqp_canonical.specs.SlotJudgements.{TakesTidily, JudgesTidily, Judge
 use Rattle.amqp_canonical.proofs.Refusing.{Fails, fails_next}
 use Rattle.amqp_canonical.proofs.Children.{told_as}
 use Rattle.amqp_canonical.proofs.Strict.{lawful_strict}
-use Rattle.amqp_canonical.proofs.Joining.{IsRead, law_read, both_read, both_judged, told, IsReached, reached_none, reached_more, reached_fails, reached_all}
+use Rattle.amqp_canonical.proofs.Joining.{IsRead, law_read, both_read, both_judged, judgement, IsReached, reached_none, reached_more, reached_fails, reached_all}
 
 -- ---- what is encoded is decoded
 
@@ -75,7 +75,7 @@ slots_stop : (shape : Shape) (shapes : List Shape) (bytes : List ℕ) (e : Parse
 unfolding judge_slots
 slots_stop shape shapes bytes e h = fails_next e (one_slot shape bytes) _ h
 
-no_slots : (bytes : List ℕ) → JudgesLevels (AllSlots []) bytes (told 0 true true) (all_slots [] bytes)
+no_slots : (bytes : List ℕ) → JudgesLevels (AllSlots []) bytes (judgement 0 true true) (all_slots [] bytes)
 unfolding judge_slots
 no_slots bytes = record { thing = []; is = refl; canonical = (λ t. (refl, refl), λ h. refl); tidy = (λ t. (refl, refl), λ h. refl) }
 
@@ -87,7 +87,7 @@ pub slots_fail : (shapes : List Shape) (bytes : List ℕ) (k at : ℕ) (canonica
     → Fails e (one_slot (get_or shapes k other) (drop at bytes)) → Fails e (all_slots shapes bytes)
 slots_fail = reached_fails one_slot OneSlot all_slots AllSlots slots_stop
 
-pub slots_all : (shapes : List Shape) (bytes : List ℕ) (k at : ℕ) (canonical so_far : Bool) → length shapes ≤ k → AreSlotsReached shapes bytes k at canonical so_far → JudgesLevels (AllSlots shapes) bytes (told at canonical so_far) (all_slots shapes bytes)
+pub slots_all : (shapes : List Shape) (bytes : List ℕ) (k at : ℕ) (canonical so_far : Bool) → length shapes ≤ k → AreSlotsReached shapes bytes k at canonical so_far → JudgesLevels (AllSlots shapes) bytes (judgement at canonical so_far) (all_slots shapes bytes)
 slots_all = reached_all one_slot OneSlot all_slots AllSlots no_slots
 
 -- ---- constants of reserved fields

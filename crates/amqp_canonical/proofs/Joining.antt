@@ -84,18 +84,18 @@ and_true : (a : Bool) → (a && true) ≡ a
 and_true true = refl
 and_true false = refl
 
-abbrev pub told : ℕ → Bool → Bool → Result Judgement ParserError
-told n c t = Ok (record { used = n; canonical = c; tidy = t })
+abbrev pub judgement : ℕ → Bool → Bool → Result Judgement ParserError
+judgement n c t = Ok (record { used = n; canonical = c; tidy = t })
 
-same_told : (n m : ℕ) (c d t u : Bool) → n ≡ m → c ≡ d → t ≡ u → told n c t ≡ told m d u
-same_told n m c d t u p q r = ap (λ a. told a c t) p ∙ ap (λ a. told m a t) q ∙ ap (λ a. told m d a) r
+same_judgement : (n m : ℕ) (c d t u : Bool) → n ≡ m → c ≡ d → t ≡ u → judgement n c t ≡ judgement m d u
+same_judgement n m c d t u p q r = ap (λ a. judgement a c t) p ∙ ap (λ a. judgement m a t) q ∙ ap (λ a. judgement m d a) r
 
 after_twice : (at n : ℕ) (c d t u : Bool) (r : Result Judgement ParserError) → after_others at c t (after_others n d u r) ≡ after_others (at + n) (c && d) (t && u) r
-after_twice at n c d t u (Ok j) = same_told _ _ _ _ _ _ (sym (add_assoc at n j.used)) (and_assoc c d j.canonical) (and_assoc t u j.tidy)
+after_twice at n c d t u (Ok j) = same_judgement _ _ _ _ _ _ (sym (add_assoc at n j.used)) (and_assoc c d j.canonical) (and_assoc t u j.tidy)
 after_twice at n c d t u (Err e) = refl
 
 after_none : (r : Result Judgement ParserError) → after_others 0 true true r ≡ r
-after_none (Ok j) = same_told (0 + j.used) j.used j.canonical j.canonical j.tidy j.tidy (omega arith) refl refl
+after_none (Ok j) = same_judgement (0 + j.used) j.used j.canonical j.canonical j.tidy j.tidy (omega arith) refl refl
 after_none (Err e) = refl
 
 -- ---- many things, one after another
@@ -131,9 +131,9 @@ module _ {X A R : Type 0} (one : X → Judge A) (One : X → Level → List ℕ 
       let P : List X → Type 0 = λ ys. Fails e (all ys (drop at bytes)) in
       before.onward (Err e) (subst P (sym (at_drop_more (λ ys. ys) xs k other more)) (stop (get_or xs k other) (drop (k + 1) xs) (drop at bytes) e h))
 
-  pub reached_all : ((bytes : List ℕ) → JudgesLevels (All []) bytes (told 0 true true) (all [] bytes)) → (xs : List X) (bytes : List ℕ) (k at : ℕ) (canonical so_far : Bool) → length xs ≤ k
-      → IsReached xs bytes k at canonical so_far → JudgesLevels (All xs) bytes (told at canonical so_far) (all xs bytes)
+  pub reached_all : ((bytes : List ℕ) → JudgesLevels (All []) bytes (judgement 0 true true) (all [] bytes)) → (xs : List X) (bytes : List ℕ) (k at : ℕ) (canonical so_far : Bool) → length xs ≤ k
+      → IsReached xs bytes k at canonical so_far → JudgesLevels (All xs) bytes (judgement at canonical so_far) (all xs bytes)
   reached_all none xs bytes k at canonical so_far end before =
-      let P : List X → Type 0 = λ ys. JudgesLevels (All ys) (drop at bytes) (told 0 true true) (all ys (drop at bytes)) in
+      let P : List X → Type 0 = λ ys. JudgesLevels (All ys) (drop at bytes) (judgement 0 true true) (all ys (drop at bytes)) in
       let Whole : Result Judgement ParserError → Type 0 = λ s. JudgesLevels (All xs) bytes s (all xs bytes) in
-      subst Whole (same_told (at + 0) at (canonical && true) canonical (so_far && true) so_far (omega arith) (and_true canonical) (and_true so_far)) (before.onward (told 0 true true) (subst P (sym (drop_all k xs end)) (none (drop at bytes))))
+      subst Whole (same_judgement (at + 0) at (canonical && true) canonical (so_far && true) so_far (omega arith) (and_true canonical) (and_true so_far)) (before.onward (judgement 0 true true) (subst P (sym (drop_all k xs end)) (none (drop at bytes))))

@@ -34,7 +34,7 @@ use Rattle.amqp_canonical.specs.Shapes.{form_of, property_of}
 use Rattle.amqp_canonical.specs.SlotJudgements.{TakesTidily, JudgesTidily, JudgesLevels, after_others, AreCanonicalSlots, IsCanonicalContentHeader}
 use Rattle.amqp_canonical.proofs.Refusing.{Fails, fully, fails_next}
 use Rattle.amqp_canonical.proofs.Children.{told_as, both_told}
-use Rattle.amqp_canonical.proofs.Joining.{IsRead, law_read, both_read, both_judged, split_at, told, IsReached, reached_none, reached_more, reached_fails, reached_all}
+use Rattle.amqp_canonical.proofs.Joining.{IsRead, law_read, both_read, both_judged, split_at, judgement, IsReached, reached_none, reached_more, reached_fails, reached_all}
 use Rattle.amqp_canonical.proofs.Forms.{form_is_plain, slots_read, levels_of_canonical, canonical_of_levels}
 
 -- ---- one property
@@ -69,7 +69,7 @@ optional_there true form bytes (Ok j) fits there h =
 optional_there true form bytes (Err e) fits there h = fails_next e (judge_form form bytes) _ h
 optional_there false form bytes r fits there h = absurd (true≢false (sym there))
 
-pub optional_none : (present : Bool) (form : Form) (bytes : List ℕ) → present ≡ false → JudgesLevels (λ level. SpellsOptional level present form) bytes (told 0 true true) (judge_optional present form bytes)
+pub optional_none : (present : Bool) (form : Form) (bytes : List ℕ) → present ≡ false → JudgesLevels (λ level. SpellsOptional level present form) bytes (judgement 0 true true) (judge_optional present form bytes)
 unfolding judge_optional
 optional_none true form bytes none = absurd (true≢false none)
 optional_none false form bytes none = record { thing = None; is = refl; canonical = (λ t. (refl, refl), λ h. refl); tidy = (λ t. (refl, refl), λ h. refl) }
@@ -111,7 +111,7 @@ module _ (mask : ℕ) where
   unfolding judge_set
   properties_stop p ps bytes e h = fails_next e (one_property p bytes) _ h
 
-  no_properties : (bytes : List ℕ) → JudgesLevels (AllProperties []) bytes (told 0 true true) (all_properties [] bytes)
+  no_properties : (bytes : List ℕ) → JudgesLevels (AllProperties []) bytes (judgement 0 true true) (all_properties [] bytes)
   unfolding judge_set
   no_properties bytes = record { thing = []; is = refl; canonical = (λ t. (refl, refl), λ h. refl); tidy = (λ t. (refl, refl), λ h. refl) }
 
@@ -123,7 +123,7 @@ module _ (mask : ℕ) where
       → Fails e (one_property (get_or ps k other) (drop at bytes)) → Fails e (all_properties ps bytes)
   properties_fail = reached_fails one_property OneProperty all_properties AllProperties properties_stop
 
-  pub properties_all : (ps : List (ℕ × Shape)) (bytes : List ℕ) (k at : ℕ) (canonical so_far : Bool) → length ps ≤ k → ArePropertiesReached ps bytes k at canonical so_far → JudgesLevels (AllProperties ps) bytes (told at canonical so_far) (all_properties ps bytes)
+  pub properties_all : (ps : List (ℕ × Shape)) (bytes : List ℕ) (k at : ℕ) (canonical so_far : Bool) → length ps ≤ k → ArePropertiesReached ps bytes k at canonical so_far → JudgesLevels (AllProperties ps) bytes (judgement at canonical so_far) (all_properties ps bytes)
   properties_all = reached_all one_property OneProperty all_properties AllProperties no_properties
 
 -- of the whole table

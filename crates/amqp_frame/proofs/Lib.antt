@@ -4,14 +4,14 @@ pub mod Cuts
 pub mod Payloads
 pub mod Typed
 pub mod Spelled
-pub mod Made
+pub mod Encoded
 pub mod Outlined
 pub mod Tidied
 pub mod Rows
 pub mod Strictness
+pub mod Holding
 pub mod ReadingBack
 pub mod Sizes
-pub mod Holding
 pub mod EqualFrames
 pub mod Parts
 pub mod Within

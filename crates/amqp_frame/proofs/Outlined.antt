@@ -18,7 +18,7 @@ use Rattle.amqp_frame.specs.declared.outline.FrameOutline.TheVariants as outline
 use Rattle.amqp_frame.specs.Frames.{Frame, Proto, Meth, Head, Body, Beat, BadBeat, channel_id_of, beat_on}
 use Rattle.amqp_frame.specs.Outlines.{outline_of, outline_channel, long_long_at, outline_at, IsEnough}
 use Rattle.amqp_frame.specs.Verdicts.{all_of, whole_as}
-use Rattle.amqp_frame.proofs.Made.{read_as}
+use Rattle.amqp_frame.proofs.Encoded.{read_as}
 use Rattle.amqp_frame.proofs.Typed.{method_spells, header_spells}
 
 -- an outline has the channel of its frame

@@ -20,6 +20,7 @@ use Rattle.amqp_frame.specs.Spelling.{framed, Spells}
 use Rattle.amqp_frame.specs.Canonical.{canon, is_deep, is_long, is_long_for, size_of, read_back}
 use Rattle.amqp_frame.specs.Laws.{IsFrameHeld, ReadsBack}
 use Rattle.amqp_frame.proofs.Cuts.{verdict-append, verdict-got_within}
+use Rattle.amqp_frame.proofs.Holding.{held_fields}
 use Rattle.amqp_frame.proofs.Sizes.{countable, SizeIs, size_is_length}
 use Rattle.amqp_frame.proofs.Spelled.{verdict-spelled_before}
 use Rattle.amqp_frame.proofs.Strictness.{empty_beat, frame_from_strict}
@@ -28,11 +29,12 @@ canon_spells : (f : Frame) → IsFrameHeld f → is_deep f ≡ false → is_long
 unfolding canon
 canon_spells (Proto major minor revision) held deep long = refl
 canon_spells (Meth channel m) held deep long =
+    let fields = held_fields m held.1 in
     let short = either (any_long m.items) (is_long_for (payload_bytes m)) long in
     record {
       payload = payload_bytes m;
       is_framed = record { channel_fits = held.0; length_fits = countable (payload_bytes m) short.1; bytes_are = refl };
-      spelled = payload_held m held.1.slots held.1.known held.1.held deep short.0;
+      spelled = payload_held m fields.slots fields.known fields.held deep short.0;
     }
 canon_spells (Head channel header) held deep long =
     let short = either (any_long_option header.options) (is_long_for (content_header_bytes header)) long in

@@ -12,7 +12,7 @@ use Rattle.amqp_frame.specs.Fronts.{front, place, Precedes}
 use Rattle.amqp_frame.specs.Laws.{SpellsWithin, IsLongestRow}
 use Rattle.amqp_frame.proofs.Cuts.{IsStop, front-got, front-stop, front-none, place-none, stop-none, GoesOn, Precedes-none, verdict-append, verdict-exact, verdict-got_within}
 use Rattle.amqp_frame.proofs.Spelled.{verdict-spelled, verdict-spelled_before}
-use Rattle.amqp_frame.proofs.Made.{verdict-spells}
+use Rattle.amqp_frame.proofs.Encoded.{verdict-spells}
 
 -- ---- frames
 

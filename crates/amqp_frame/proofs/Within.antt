@@ -23,7 +23,7 @@ use Rattle.amqp_frame.specs.Spelling.{framed, proto, byte_of}
 use Rattle.amqp_frame.specs.Canonical.{canon, size_of}
 use Rattle.amqp_frame.specs.Verdicts.{IsPayloadError, filling, all_of, whole_as, verdict}
 use Rattle.amqp_frame.proofs.Cuts.{verdict-got_within}
-use Rattle.amqp_frame.proofs.Made.{spells_as, verdict-spells}
+use Rattle.amqp_frame.proofs.Encoded.{spells_as, verdict-spells}
 use Rattle.amqp_frame.proofs.Spelled.{framed-length}
 use Rattle.amqp_frame.proofs.Strictness.{spelled_sized}
 

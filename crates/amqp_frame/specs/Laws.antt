@@ -3,11 +3,8 @@ use Rattle.std.specs.Prelude.{◌≡◌, ◌≢◌, ◌↔◌, ℕ, ◌+◌, ◌
 use Rattle.std.specs.List.{AllByRecursion}
 use Rattle.amqp_types.specs.Levels.{Level, plain, tidy, strict}
 use Rattle.amqp_types.specs.Judging.{Judged, Fault, past, took, fault, ◌>>=◌, IsBytes, IsExact}
-use Rattle.amqp_types.specs.Slots.{Slot}
-use Rattle.amqp_types.specs.SlotLaws.{AreSlotsHeld}
-use Rattle.amqp_types.specs.Rows.{slots_at}
-use Rattle.amqp_types.specs.Methods.{Method}
 use Rattle.amqp_types.specs.ContentHeaders.{IsHeaderHeld}
+use Rattle.amqp_values.specs.HeldMethods.{IsHeldMethod}
 use Rattle.amqp_frame.specs.declared.frame_type.AMQPFrameType.{AMQPFrameType}
 use Rattle.amqp_frame.specs.declared.frame_type.AMQPFrameType.TheVariants as kinds
 use Rattle.amqp_frame.specs.Frames.{Frame, Proto, Meth, Head, Body, Beat, BadBeat, Raw}
@@ -51,17 +48,11 @@ pub record HasOneStrict (m : Option ℕ) (frames : List Frame) : Type 0 where
 abbrev pub OneCanonicalSpelling : Type 0
 OneCanonicalSpelling = (level : Level) (m : Option ℕ) (bytes : List ℕ) (frames : List Frame) → SpellsFrames level m bytes frames → HasOneStrict m frames
 
--- What programs hold: a method of the table with items of its fields, a content header with items of its properties, and numbers that
--- fit the bytes in which they are written.
-pub record IsMethodHeld (m : Method) : Type 0 where
-  pub slots : List Slot
-  pub known : slots_at m.class m.id ≡ Some slots
-  pub held : AreSlotsHeld slots m.items
-
--- what programs hold in a frame
+-- What programs hold in a frame: a method of the table with items of its fields, a content header with items of its properties, and
+-- numbers that fit the bytes in which they are written.
 abbrev pub IsFrameHeld : Frame → Type 0
 IsFrameHeld (Proto major minor revision) = (major < 2 ^ 8) × (minor < 2 ^ 8) × (revision < 2 ^ 8)
-IsFrameHeld (Meth channel m) = (channel < 2 ^ 16) × IsMethodHeld m
+IsFrameHeld (Meth channel m) = (channel < 2 ^ 16) × IsHeldMethod m
 IsFrameHeld (Head channel header) = (channel < 2 ^ 16) × IsHeaderHeld header
 IsFrameHeld (Body channel content) = channel < 2 ^ 16
 IsFrameHeld Beat = Unit {0}

@@ -39,7 +39,6 @@ pub fn content_header_held(header: &AMQPContentHeader)
 
 /// A frame is what programs can hold: a method of the table with items of its fields, properties of their forms, numbers
 /// that fit. Nothing is done.
-#[tactic(auto, using(crate::proofs::Holding::method_is_held))]
 pub fn frame_held(frame: &AMQPFrame)
     ensures { IsFrameHeld (frame_of frame.now) }
 {

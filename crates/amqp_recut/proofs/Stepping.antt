@@ -13,7 +13,7 @@ use Rattle.amqp_frame.specs.Frames.{Raw, Frame, Proto, Meth, Head, Body, channel
 use Rattle.amqp_frame.specs.Outlines.{outline_of}
 use Rattle.amqp_frame.specs.Canonical.{canon, canon_row}
 use Rattle.amqp_frame.specs.Verdicts.{whole, whole_as, all_of}
-use Rattle.amqp_frame.proofs.Made.{read_as}
+use Rattle.amqp_frame.proofs.Encoded.{read_as}
 use Rattle.amqp_content.specs.declared.fault.ContentFault.{ContentFault}
 use Rattle.amqp_content.specs.declared.mark.Mark.{Mark}
 use Rattle.amqp_content.specs.declared.mark.Mark.TheVariants as marks

@@ -12,7 +12,7 @@ use Rattle.amqp_frame.specs.Outer.{outer}
 use Rattle.amqp_frame.specs.Looks.{laid_out}
 use Rattle.amqp_frame.specs.Fronts.{front, Precedes}
 use Rattle.amqp_frame.proofs.OuterLook.{outer-in_bounds}
-use Rattle.amqp_frame.proofs.Made.{outer-beside}
+use Rattle.amqp_frame.proofs.Encoded.{outer-beside}
 use Rattle.amqp_frame.proofs.Cuts.{Precedes-none, Precedes-more, verdict-whole}
 use Rattle.amqp_stream.specs.declared.source.SourceFault.{SourceFault}
 use Rattle.amqp_stream.specs.Ends.{Supply, Store, Takes, Gains}

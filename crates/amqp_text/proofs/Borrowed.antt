@@ -24,7 +24,7 @@ use Rattle.amqp_frame.specs.Spelling.{framed}
 use Rattle.amqp_frame.specs.Canonical.{canon, payload_of}
 use Rattle.amqp_frame.specs.Judgements.{IsJudged, IsPayloadFault}
 use Rattle.amqp_frame.specs.Verdicts.{IsPayloadError, all_of, is_written_for, whole, whole_as}
-use Rattle.amqp_frame.proofs.Made.{read_as}
+use Rattle.amqp_frame.proofs.Encoded.{read_as}
 use Rattle.amqp_frame.proofs.Typed.{method_spells, header_spells}
 use Rattle.amqp_stream.specs.declared.errors.StreamError.{StreamError}
 use Rattle.amqp_stream.specs.declared.errors.StreamError.TheVariants as errors

@@ -12,7 +12,7 @@ use Rattle.amqp_frame.specs.Spelling.{Spells, raw_bytes}
 use Rattle.amqp_frame.specs.Canonical.{canon, payload_of}
 use Rattle.amqp_frame.specs.Verdicts.{verdict}
 use Rattle.amqp_frame.proofs.Spelled.{verdict-spelled}
-use Rattle.amqp_frame.proofs.Made.{verdict-spells}
+use Rattle.amqp_frame.proofs.Encoded.{verdict-spells}
 use Rattle.amqp_stream.proofs.Adding.{IsBytes-append, IsBytes-nil}
 use Rattle.amqp_text.specs.Laws.{IsStrict}
 use Rattle.amqp_text.specs.Lines.{words, line, lines}

@@ -14,11 +14,14 @@ use Rattle.amqp_frame.specs.Frames.{Frame, Proto, Meth, Head, Body, Beat, BadBea
 use Rattle.amqp_frame.specs.Outlines.{outline_of}
 use Rattle.amqp_frame.specs.Canonical.{canon, is_deep, is_long, is_long_for, size_of, payload_of}
 use Rattle.amqp_frame.specs.Laws.{IsFrameHeld}
+use Rattle.amqp_frame.proofs.Holding.{held_fields}
 use Rattle.amqp_text.specs.Payloads.{IsPayload, IsIn}
 
 held_payload : (f : Frame) → IsFrameHeld f → is_deep f ≡ false → is_long f ≡ false → IsPayload (payload_of f) f
 held_payload (Proto major minor revision) held deep long = refl
-held_payload (Meth channel m) held deep long = payload_held m held.1.slots held.1.known held.1.held deep (either (any_long m.items) (is_long_for (payload_bytes m)) long).0
+held_payload (Meth channel m) held deep long =
+    let fields = held_fields m held.1 in
+    payload_held m fields.slots fields.known fields.held deep (either (any_long m.items) (is_long_for (payload_bytes m)) long).0
 held_payload (Head channel header) held deep long = header_held header held.1 deep (either (any_long_option header.options) (is_long_for (content_header_bytes header)) long).0
 held_payload (Body channel content) held deep long = refl
 held_payload Beat held deep long = refl

@@ -16,7 +16,7 @@ use Rattle.amqp_frame.specs.Frames.{Frame, Proto, Meth, Head, Body, Beat, BadBea
 use Rattle.amqp_frame.specs.Spelling.{Spells, SpellsFrames, bytes_as}
 use Rattle.amqp_frame.specs.Canonical.{canon, payload_of}
 use Rattle.amqp_frame.specs.Verdicts.{whole, whole_as}
-use Rattle.amqp_frame.proofs.Made.{spells_as}
+use Rattle.amqp_frame.proofs.Encoded.{spells_as}
 use Rattle.amqp_frame.proofs.Strictness.{one_strict}
 use Rattle.amqp_frame.proofs.Typed.{method_whole, header_whole}
 use Rattle.amqp_stream.specs.declared.errors.StreamError.{StreamError}

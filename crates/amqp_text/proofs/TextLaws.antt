@@ -10,7 +10,7 @@ use Rattle.amqp_frame.specs.Fronts.{front, place}
 use Rattle.amqp_frame.specs.Spelling.{Spells, SpellsFrames}
 use Rattle.amqp_frame.specs.Canonical.{canon, canon_row, is_deep, is_long, size_of, read_back}
 use Rattle.amqp_frame.specs.Laws.{IsFrameHeld}
-use Rattle.amqp_frame.proofs.Made.{verdict-spells}
+use Rattle.amqp_frame.proofs.Encoded.{verdict-spells}
 use Rattle.amqp_frame.proofs.ReadingBack.{reads_back}
 use Rattle.amqp_frame.proofs.Rows.{front-is_row, one_row}
 use Rattle.amqp_frame.proofs.Strictness.{one_strict, row_shortest}

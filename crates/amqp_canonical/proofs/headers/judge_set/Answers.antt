@@ -7,7 +7,7 @@ use Rattle.amqp_canonical.specs.Shapes.{form_of}
 use Rattle.amqp_canonical.specs.declared.shapes.Shape.{Shape}
 use Rattle.amqp_canonical.specs.declared.shapes.Shape.TheVariants as shapes
 use Rattle.amqp_canonical.proofs.Refusing.{Fails}
-use Rattle.amqp_canonical.proofs.Joining.{told}
+use Rattle.amqp_canonical.proofs.Joining.{judgement}
 use Rattle.amqp_canonical.proofs.Properties.{as_present, properties_none, properties_more, properties_fail, properties_all, set_judged}
 use Rattle.amqp_canonical.proofs.headers.judge_set.Goals as goal
 
@@ -39,4 +39,4 @@ pub returns-clause-judged : goal.returns-clause-judged
 returns-clause-judged c =
     let l = c.loop-shape in
     let ps = c.property_shapes-shapes.result.now in
-    set_judged c.args.mask ps c.args.i.now (told l.at l.canonical l.tidy) c.property_shapes-shapes.ensures (properties_all c.args.mask ps c.args.i.now l.shape-index l.at l.canonical l.tidy c.loop-shape-test.false l.invariant.1)
+    set_judged c.args.mask ps c.args.i.now (judgement l.at l.canonical l.tidy) c.property_shapes-shapes.ensures (properties_all c.args.mask ps c.args.i.now l.shape-index l.at l.canonical l.tidy c.loop-shape-test.false l.invariant.1)

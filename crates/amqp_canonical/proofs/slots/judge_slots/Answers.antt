@@ -2,7 +2,7 @@ use Rattle.std.proofs.Common.{length, drop, ◌≤◌, arith}
 use Rattle.std.proofs.lemmas.List.{length-drop, take_rest}
 use Rattle.amqp_canonical.specs.declared.shapes.Shape.TheVariants as shapes
 use Rattle.amqp_canonical.proofs.Forms.{slots_none, slots_more, slots_fail, slots_all, least_more, least_all, canonical_slots}
-use Rattle.amqp_canonical.proofs.Joining.{told}
+use Rattle.amqp_canonical.proofs.Joining.{judgement}
 use Rattle.amqp_canonical.proofs.slots.judge_slots.Goals as goal
 
 pub loop-shape-init : goal.loop-shape-init
@@ -27,4 +27,4 @@ pub returns-clause-judged : goal.returns-clause-judged
 returns-clause-judged c =
     let l = c.loop-shape in
     let shapes = c.args.shapes.now in
-    canonical_slots shapes c.args.i.now (told l.at l.canonical l.tidy) (λ k. omega (arith, c.type_inv.i k)) (least_all shapes l.shape-index c.loop-shape-test.false l.invariant.2) (slots_all shapes c.args.i.now l.shape-index l.at l.canonical l.tidy c.loop-shape-test.false l.invariant.1)
+    canonical_slots shapes c.args.i.now (judgement l.at l.canonical l.tidy) (λ k. omega (arith, c.type_inv.i k)) (least_all shapes l.shape-index c.loop-shape-test.false l.invariant.2) (slots_all shapes c.args.i.now l.shape-index l.at l.canonical l.tidy c.loop-shape-test.false l.invariant.1)
