@@ -5,7 +5,7 @@ ghost use Rattle.amqp_types.specs.Levels.{plain};
 ghost use Rattle.amqp_frame.specs.Canonical.{canon};
 ghost use Rattle.amqp_frame.specs.Frames.{Frame};
 ghost use Rattle.amqp_frame.specs.Verdicts.{verdict};
-ghost use Rattle.amqp_text.specs.LineReading.{EndsLine, HasNoNewline};
+ghost use Rattle.amqp_text.specs.LineReading.{HasNoNewline};
 ghost use Rattle.amqp_text.specs.Lines.{line};
 ghost use Rattle.amqp_text.specs.OneLine.{IsStrictWithin};
 ghost use Rattle.amqp_text.specs.Undumping.{HoldsNewline};
@@ -15,7 +15,7 @@ ghost use Rattle.amqp_c.specs.Statuses.{bad_text, incomplete, out_of_memory};
 use crate::next::{frame_at, scan};
 use crate::statuses::{BAD_TEXT, BUFFER_TOO_SMALL};
 use amqp_stream::StreamError;
-use amqp_text::{TextError, dump_line, undump_line};
+use amqp_text::{TextError, dump_line, line_end, undump_line};
 use amqp_types::put_bytes;
 use std::alloc::Global;
 
@@ -97,20 +97,6 @@ pub extern "C" fn feksroum_dump(
     }
 }
 
-/// Where the first line ends, after its newline.
-fn line_end(text: &[u8]) -> Option<usize>
-    ensures { EndsLine text.now result }
-{
-    let mut place = 0;
-    while place < text.len() {
-        if text[place] == b'\n' {
-            return Some(place + 1);
-        }
-        place += 1;
-    }
-    None
-}
-
 /// Writes the canonical bytes of the frame whose line is in front, with a payload of at most `max_payload` bytes, at the
 /// front of a buffer where they fit.
 #[unsafe(no_mangle)]
@@ -127,7 +113,7 @@ pub extern "C" fn feksroum_undump(
     ensures incomplete { HasNoNewline text.now → RefusesLine incomplete out.old out.new result }
     ensures memory { result.status ≡ out_of_memory → RefusesLine out_of_memory out.old out.new result }
 {
-    let Some(end) = line_end(text) else {
+    let Some(end) = line_end(text, 0) else {
         return nothing_with(StreamError::CutShort.status());
     };
     let mut canonical = Vec::new(alloc);

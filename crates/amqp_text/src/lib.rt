@@ -24,7 +24,7 @@ pub use laws::{
     strict_frames_are_usual, undump_undoes_dump,
 };
 pub use one_line::{dump_line, parse_line, undump_line};
-pub use undumping::undump;
+pub use undumping::{line_end, undump};
 
 #[cfg(test)]
 mod method_rows;

@@ -17,8 +17,8 @@ use std::alloc::Global;
 /// How many bytes a read takes at most, and how many are pending at most.
 const PIECE: usize = 65536;
 
-/// Where the first line ends, after its newline. None of the first `searched` bytes is a newline.
-fn line_end(text: &[u8], searched: usize) -> Option<usize>
+/// Where the first line ends, after its newline. The first `searched` bytes, none of which is a newline, are not looked at.
+pub fn line_end(text: &[u8], searched: usize) -> Option<usize>
     requires within { searched ≤ length text.now }
     requires none { HasNoNewline (take searched text.now) }
     ensures { EndsLine text.now result }
