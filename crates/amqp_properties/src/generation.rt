@@ -6,7 +6,7 @@ ghost use Rattle.amqp_types.specs.PropertyBytes.{properties_bytes, properties_si
 ghost use Rattle.amqp_values.specs.Fields.{Lists};
 ghost use Rattle.amqp_properties.specs.Options.{options};
 
-use crate::optional::{
+use crate::optional_fields::{
     field_long_long_uint, field_short_short_uint, field_short_string, field_table,
 };
 use crate::properties::AMQPProperties;

@@ -6,6 +6,7 @@ mod generation;
 mod held_properties;
 mod laws;
 mod optional;
+mod optional_fields;
 mod parsing;
 mod properties;
 

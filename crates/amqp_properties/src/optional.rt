@@ -8,10 +8,9 @@ ghost use Rattle.amqp_types.specs.Slots.{Item, number_item, text_item, entries_i
 ghost use Rattle.amqp_types.specs.SlotJudging.{Steps};
 ghost use Rattle.amqp_types.specs.PropertyJudging.{judge_optional};
 ghost use Rattle.amqp_types.specs.PropertyBytes.{worth_of};
-ghost use Rattle.amqp_properties.specs.OptionalFields.{IsOptionalField};
 
 use amqp_values::{
-    Field, FieldTable, LongLongUInt, NoMemory, ParserError, ShortShortUInt, ShortString, ShortUInt,
+    FieldTable, LongLongUInt, NoMemory, ParserError, ShortShortUInt, ShortString, ShortUInt,
     SlotReader,
 };
 use std::alloc::Global;
@@ -99,50 +98,6 @@ pub fn worth<T>(option: &Option<T>, worth: ShortUInt) -> ShortUInt
     match option {
         None => 0,
         Some(_) => worth,
-    }
-}
-
-/// A short string, where it is there.
-#[tactic(auto, unfolding(amqp_types::specs::PropertyBytes::optional_bytes, amqp_types::specs::PropertyBytes::is_deep_option, amqp_types::specs::PropertyBytes::is_long_option, amqp_values::specs::Fields::field_bytes, amqp_values::specs::Fields::is_deep_field, amqp_values::specs::Fields::is_long_field))]
-pub fn field_short_string(option: &Option<ShortString>) -> Field<'_>
-    ensures { IsOptionalField result short_string_form (option_map text_item option.now) }
-{
-    match option {
-        None => Field::Nothing,
-        Some(string) => Field::ShortString(string),
-    }
-}
-
-/// A table, where it is there.
-#[tactic(auto, unfolding(amqp_types::specs::PropertyBytes::optional_bytes, amqp_types::specs::PropertyBytes::is_deep_option, amqp_types::specs::PropertyBytes::is_long_option, amqp_values::specs::Fields::field_bytes, amqp_values::specs::Fields::is_deep_field, amqp_values::specs::Fields::is_long_field))]
-pub fn field_table(option: &Option<FieldTable>) -> Field<'_>
-    ensures { IsOptionalField result table_form (option_map entries_item option.now) }
-{
-    match option {
-        None => Field::Nothing,
-        Some(table) => Field::Table(table),
-    }
-}
-
-/// A number of 1 byte, where it is there.
-#[tactic(auto, unfolding(amqp_types::specs::PropertyBytes::optional_bytes, amqp_types::specs::PropertyBytes::is_deep_option, amqp_types::specs::PropertyBytes::is_long_option, amqp_values::specs::Fields::field_bytes, amqp_values::specs::Fields::is_deep_field, amqp_values::specs::Fields::is_long_field))]
-pub fn field_short_short_uint(option: &Option<ShortShortUInt>) -> Field<'_>
-    ensures { IsOptionalField result (number_form bytes1) (option_map number_item option.now) }
-{
-    match option {
-        None => Field::Nothing,
-        Some(n) => Field::ShortShortUInt(*n),
-    }
-}
-
-/// A number of 8 bytes, where it is there.
-#[tactic(auto, unfolding(amqp_types::specs::PropertyBytes::optional_bytes, amqp_types::specs::PropertyBytes::is_deep_option, amqp_types::specs::PropertyBytes::is_long_option, amqp_values::specs::Fields::field_bytes, amqp_values::specs::Fields::is_deep_field, amqp_values::specs::Fields::is_long_field))]
-pub fn field_long_long_uint(option: &Option<LongLongUInt>) -> Field<'_>
-    ensures { IsOptionalField result (number_form bytes8) (option_map number_item option.now) }
-{
-    match option {
-        None => Field::Nothing,
-        Some(n) => Field::LongLongUInt(*n),
     }
 }
 
