@@ -1,6 +1,8 @@
 -- What a header scan returns.
-use Rattle.std.specs.Prelude.{ℕ, ◌+◌, ◌-◌, ◌≤◌, List, length, take, drop}
+use Rattle.std.specs.Prelude.{◌≡◌, ℕ, ◌+◌, ◌-◌, ◌^◌, ◌<◌, ◌≤◌, List, length, take, drop}
 use Rattle.amqp_types.specs.Judging.{Judged, took, past, fault, unknown_frame_type, bad_protocol_header, too_large, bad_frame_end}
+use Rattle.amqp_frame.specs.declared.frame_type.AMQPFrameType.{AMQPFrameType}
+use Rattle.amqp_frame.specs.declared.frame_type.AMQPFrameType.TheVariants as kinds
 use Rattle.amqp_frame.specs.declared.looking.Look.{Look}
 use Rattle.amqp_frame.specs.declared.looking.Look.TheVariants as looks
 use Rattle.amqp_frame.specs.declared.looking.FrameLayout.{FrameLayout}
@@ -52,3 +54,33 @@ IsBehind looks.UnknownFrameType rest = Unit {0}
 IsBehind looks.BadProtocolHeader rest = Unit {0}
 IsBehind looks.TooLarge rest = Unit {0}
 IsBehind looks.BadFrameEnd rest = Unit {0}
+
+-- how many bytes come before a payload: type, channel and length, or `AMQP` and a zero byte
+abbrev pub payload_place : AMQPFrameType → ℕ
+payload_place kinds.ProtocolHeader = 5
+payload_place kinds.Method = 7
+payload_place kinds.Header = 7
+payload_place kinds.Body = 7
+payload_place kinds.Heartbeat = 7
+
+-- a payload begins at this place, and its length fits the four bytes that it is written in
+abbrev pub BeginsAt : ℕ → FrameLayout → Type 0
+BeginsAt place layout = (layout.payload_start ≡ place) × (layout.payload_len < 2 ^ 32)
+
+-- of a frame that was found, by its type
+abbrev pub IsPlaced : Look → Type 0
+IsPlaced (looks.Whole layout) = BeginsAt (payload_place layout.frame_type) layout
+IsPlaced looks.Incomplete = Unit {0}
+IsPlaced looks.UnknownFrameType = Unit {0}
+IsPlaced looks.BadProtocolHeader = Unit {0}
+IsPlaced looks.TooLarge = Unit {0}
+IsPlaced looks.BadFrameEnd = Unit {0}
+
+-- of a frame of this type whose payload begins at this place
+abbrev pub IsPlacedAt : AMQPFrameType → ℕ → Look → Type 0
+IsPlacedAt kind place (looks.Whole layout) = (layout.frame_type ≡ kind) × BeginsAt place layout
+IsPlacedAt kind place looks.Incomplete = Unit {0}
+IsPlacedAt kind place looks.UnknownFrameType = Unit {0}
+IsPlacedAt kind place looks.BadProtocolHeader = Unit {0}
+IsPlacedAt kind place looks.TooLarge = Unit {0}
+IsPlacedAt kind place looks.BadFrameEnd = Unit {0}

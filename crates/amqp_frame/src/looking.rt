@@ -1,7 +1,8 @@
 //! The header scan: what stands at the front of some bytes, whatever its payload is.
 
 ghost use Rattle.std.specs.Prelude.{◌≡◌};
-ghost use Rattle.amqp_frame.specs.Looks.{looked, looked_behind, IsInside, IsBehind};
+ghost use Rattle.amqp_frame.specs.declared.frame_type.AMQPFrameType.TheVariants as kinds;
+ghost use Rattle.amqp_frame.specs.Looks.{looked, looked_behind, IsInside, IsBehind, IsPlaced, IsPlacedAt};
 ghost use Rattle.amqp_frame.specs.Outer.{outer, judge_raw, version_at, begins_as};
 
 use crate::frame_type::AMQPFrameType;
@@ -45,6 +46,7 @@ pub enum Look {
 pub fn look_at(max_payload: Option<u32>, bytes: &[u8]) -> Look
     ensures value { outer max_payload bytes.now ≡ looked result bytes.now }
     ensures inside { IsInside result bytes.now }
+    ensures placed { IsPlaced result }
 {
     match bytes {
         [] => Look::Incomplete,
@@ -75,6 +77,7 @@ pub(crate) fn agrees(bytes: &[u8], wanted: &[u8]) -> bool
 fn look_version(rest: &[u8]) -> Look
     ensures value { version_at rest.now ≡ looked_behind result rest.now }
     ensures inside { IsBehind result rest.now }
+    ensures placed { IsPlacedAt kinds.ProtocolHeader 5 result }
 {
     if !agrees(rest, b"MQP\0") {
         return Look::BadProtocolHeader;
@@ -96,6 +99,7 @@ fn look_version(rest: &[u8]) -> Look
 pub(crate) fn look_raw(max_payload: Option<u32>, frame_type: AMQPFrameType, rest: &[u8]) -> Look
     ensures value { judge_raw max_payload frame_type rest.now ≡ looked_behind result rest.now }
     ensures inside { IsBehind result rest.now }
+    ensures placed { IsPlacedAt frame_type 7 result }
 {
     if rest.len() < 6 {
         return Look::Incomplete;

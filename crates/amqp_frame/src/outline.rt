@@ -1,6 +1,6 @@
 //! Outlines of frames: kind, channel, ids and sizes, read without the other fields and without memory.
 
-ghost use Rattle.std.specs.Prelude.{◌≡◌, ◌≤◌, ◌↔◌, Some, length, IsOk, IsTrue};
+ghost use Rattle.std.specs.Prelude.{◌≡◌, ◌≤◌, ◌↔◌, Some, length, IsOk, IsSome, IsTrue};
 ghost use Rattle.amqp_types.specs.Tidiness.{short_at};
 ghost use Rattle.amqp_frame.specs.Frames.{Frame, frame_of, raw_of};
 ghost use Rattle.amqp_frame.specs.Outlines.{IsEnough, long_long_at, outline_at, outline_channel, outline_of};
@@ -154,7 +154,9 @@ fn outline_if_enough(
     channel_id: ChannelId,
     payload: &[u8],
 ) -> Option<FrameOutline>
-    ensures { (frame : Frame) → whole_as frame_type channel_id payload.now ≡ Ok frame → result ≡ Some (outline_of frame) }
+    ensures whole { (frame : Frame) → whole_as frame_type channel_id payload.now ≡ Ok frame → result ≡ Some (outline_of frame) }
+    ensures enough { IsEnough frame_type payload.now → result ≡ Some (outline_at frame_type channel_id payload.now) }
+    ensures none { IsSome result → IsEnough frame_type payload.now }
 {
     if is_enough(frame_type, payload) {
         Some(outline_at(frame_type, channel_id, payload))
@@ -163,10 +165,13 @@ fn outline_if_enough(
     }
 }
 
-/// The outline of the frame that a whole payload encodes. Of a payload with a fault it may be any outline, and is None where
-/// the ids and sizes are not there.
+/// The outline that the ids and sizes at the front of a payload give, and None where they are not there. Of a whole payload it is
+/// the outline of the frame.
 pub fn outline_front(raw: AMQPRawFrame<'_>) -> Option<FrameOutline>
-    ensures { (frame : Frame) → whole (raw_of raw.entry) ≡ Ok frame → result ≡ Some (outline_of frame) }
+    ensures whole { (frame : Frame) → whole (raw_of raw.entry) ≡ Ok frame → result ≡ Some (outline_of frame) }
+    ensures enough { IsEnough raw.entry.frame_type raw.entry.payload.now
+        → result ≡ Some (outline_at raw.entry.frame_type raw.entry.channel_id raw.entry.payload.now) }
+    ensures none { IsSome result → IsEnough raw.entry.frame_type raw.entry.payload.now }
 {
     outline_if_enough(raw.frame_type, raw.channel_id, raw.payload)
 }

@@ -86,6 +86,7 @@ pub fn parse_raw_frame<'a>(
 ) -> Result<(usize, AMQPRawFrame<'a>), ParserError>
     ensures judged { AnswersFully raw_of result (judge_raw None frame_type i.now) }
     ensures used { IfOk result (λ found. found.0 ≤ length i.now) }
+    ensures few { IfOk result (λ found. length found.1.payload.now < 2 ^ 32) }
 {
     match look_raw(None, frame_type, i) {
         Look::Incomplete => Err(ParserError::Incomplete),
