@@ -24,7 +24,7 @@
  *
  * Stack: a call takes at most about 40 KiB of it, however large a frame is.
  * Time: linear in the bytes, but for tables whose entries stand in no order. Those are sorted, in time n log n for n entries,
- * where feksroum_canonicalize is lent a scratch (feksroum_scratch says how long); without one a table of more than 256
+ * where feksroum_canonicalize is given a scratch (feksroum_scratch says how long); without one a table of more than 256
  * entries takes time quadratic in their number. The README beside the bindings has numbers.
  */
 #ifndef FEKSROUM_H
@@ -66,7 +66,8 @@ enum {
     FEKSROUM_UNKNOWN_TAG = 19, /* a field tag that names no type */
     FEKSROUM_TOO_DEEP = 20, /* tables or arrays nested more than 64 deep */
 
-    /* The bytes end inside a frame: more are needed. At the end of a stream it is the fault CutShort. */
+    /* The bytes end inside a frame, or the text inside a line: more are needed. At the end of a stream it is the fault
+     * CutShort. */
     FEKSROUM_INCOMPLETE = 21,
 
     /* Of streams: as many reads as were allowed were made. No function here returns it. */
@@ -75,7 +76,7 @@ enum {
     /* At level tidy: a frame that can be read and is not tidy. */
     FEKSROUM_NOT_TIDY = 23,
 
-    /* Of text: a line that is the line of no frame. */
+    /* Of text: a line that is the line of no frame with a payload of at most max_payload bytes. */
     FEKSROUM_BAD_TEXT = 26,
 
     /* Of calls. */

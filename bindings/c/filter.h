@@ -14,7 +14,7 @@ typedef struct filter_ends {
 } filter_ends;
 
 /* Writes the canonical bytes of all that is read, before each further read, and returns the status of the stream: 0 where
- * all of it is a sequence of frames, 3 where no memory is there, 4 or 5 where a read or write failed, else the fault. */
+ * all of it is a sequence of frames, 3 out of memory, 4 or 5 where a read or write failed, else the fault. */
 int filter_run(const filter_ends *ends, uint32_t max_payload, uint8_t level);
 
 #endif

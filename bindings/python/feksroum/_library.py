@@ -80,7 +80,7 @@ class TooDeep(Error):
 
 
 class CutShort(Error):
-    """The bytes end inside a frame."""
+    """The bytes end inside a frame, or the text inside a line."""
 
     status = 21
 
@@ -92,7 +92,7 @@ class NotTidy(Error):
 
 
 class BadText(Error):
-    """A line that is the line of no frame."""
+    """A line that is the line of no frame with a payload within the limit."""
 
     status = 26
 
