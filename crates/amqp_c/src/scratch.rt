@@ -1,4 +1,4 @@
-//! The scratch that callers may lend, in which the entries of large tables are sorted.
+//! The scratch that callers may pass, in which the entries of large tables are sorted.
 
 ghost use Rattle.std.specs.Prelude.{◌≡◌, ◌≤◌, ◌/◌, ℕ, List, length};
 ghost use Rattle.amqp_types.specs.Judging.{IsBytes};

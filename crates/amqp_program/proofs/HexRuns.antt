@@ -35,7 +35,7 @@ nothing_left (b ∷ bytes) past stop e = absurd cc
 nothing_left (b ∷ bytes) (fault bad) stop e = absurd cc
 nothing_left (b ∷ bytes) (took f n) stop e = absurd stop
 
--- bytes to which the answer is Ok are a row
+-- bytes with the result Ok are a sequence of frames
 answered_row : (level : Level) (m : ℕ) (bytes : List ℕ) → IsBytes bytes → answer_to level m bytes ≡ Ok tt → IsRow level m bytes
 answered_row level m bytes fits e =
     let none = nothing_left (place level (Some m) bytes) (place_verdict level m bytes) (splits_of level (Some m) bytes).stop e in

@@ -30,7 +30,7 @@ few_counted turns bytes rest k l r (inr never) =
     let same : l.total ≡ k.total = let told = ap (λ s. s.taken) never.sink in cc in
     omega arith
 
--- only want of memory keeps a run from being done
+-- only running out of memory keeps a run from being done
 pub made_or_no_memory : (n turns : ℕ) (bytes rest : List ℕ) (k l : Counted) (r : Result (Unit {0}) StreamError) → n ≤ most_frames → bytes ≡ made n → turns ≡ length (made n) + 1 → k ≡ record { total = 0; faults = 0 } → Ran turns bytes rest k l r → (l.total < last → l.faults ≡ 0) → ((input : List ℕ) → Some bytes ≡ Some input → IsValid plain max_payload turns input → NoFaults (faultless bytes) (faultless rest) (count_of k) (count_of l) → IsOkOrNoMemory r) → IsOkOrNoMemory r
 made_or_no_memory n turns bytes rest k l r few is enough start ran below complete =
     let len : length bytes ≡ length (made n) = ap length is in

@@ -34,7 +34,7 @@ accepted a b k l answer (inl c) e =
     }
 accepted a b k l answer (inr never) e = let other = sym never.no_memory ∙ e in absurd cc
 
--- a run that gave this answer
+-- a run with this result
 pub raw_runs : (a b : Supply) (k l : Store) (answer : Result (Unit {0}) StreamError) (status : ℕ) → status ≡ status_of answer → Canonicalizes plain max_payload raw_turns a b k l answer ⊎ NeverBegan a b k l answer → (answer ≡ Err errors.NoMemory → NeverBegan a b k l answer) → ((input : List ℕ) → a.left ≡ Some input → AnswersExactly plain max_payload input k l answer) → ((input : List ℕ) → a.left ≡ Some input → IsValid plain max_payload raw_turns input → NoFaults a b k l → IsOkOrNoMemory answer) → RunsRaw a b k l status
 raw_runs a b k l answer status e stream memory exact complete = record {
   answer = answer;

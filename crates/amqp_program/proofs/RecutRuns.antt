@@ -28,7 +28,7 @@ answer_not_two (Err recuts.OpenContent) e = absurd (omega arith)
 pub recut_not_two : (size : ℕ) (a b : Supply) (k l : Store) (status : ℕ) → RunsRecut size a b k l status → status ≢ 2
 recut_not_two size a b k l status run h = answer_not_two run.answer (sym run.status_is ∙ h)
 
--- a run that gave this answer
+-- a run with this result
 pub recut_runs : (size : ℕ) (a b : Supply) (k l : Store) (answer : Result (Unit {0}) RecutError) (status : ℕ) → status ≡ recut_status_of answer → Recuts max_payload size raw_turns a b k l answer ⊎ NeverBegan a b k l answer → ((input : List ℕ) → a.left ≡ Some input → RecutsExactly max_payload size input k l answer) → ((input : List ℕ) → a.left ≡ Some input → IsValid plain max_payload raw_turns input → IsComplete max_payload input → NoFaults a b k l → IsOkOrNoMemory answer) → RunsRecut size a b k l status
 recut_runs size a b k l answer status e stream exact complete = record {
   answer = answer;

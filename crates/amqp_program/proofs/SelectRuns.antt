@@ -19,7 +19,7 @@ use Rattle.amqp_program.proofs.Statuses.{answer_status_not_two, answer_status_th
 pub select_not_two : (rules : List Rule) (a b : Supply) (k l : Store) (status : ℕ) → RunsSelect rules a b k l status → status ≢ 2
 select_not_two rules a b k l status run h = answer_status_not_two run.answer (sym run.status_is ∙ h)
 
--- a run that gave this answer
+-- a run with this result
 pub select_runs : (rules : List Rule) (a b : Supply) (k l : Store) (answer : Result (Unit {0}) StreamError) (status : ℕ) → status ≡ status_of answer → Transcribes (selection rules) plain max_payload raw_turns a b k l answer ⊎ NeverBegan a b k l answer → (answer ≡ Err errors.NoMemory → NeverBegan a b k l answer) → ((input : List ℕ) → a.left ≡ Some input → TranscribesExactly (selection rules) plain max_payload input k l answer) → ((input : List ℕ) → a.left ≡ Some input → IsValid plain max_payload raw_turns input → NoFaults a b k l → IsOkOrNoMemory answer) → RunsSelect rules a b k l status
 select_runs rules a b k l answer status e stream memory exact complete = record {
   answer = answer;
@@ -41,7 +41,7 @@ by_all rules a b k l status run = record {
   complete = run.complete;
 }
 
--- these are the rules that the words spell
+-- these are the rules that the words stand for
 pub runs_spelled : (words : List (List ℕ)) (found rest rules : List Rule) (a b : Supply) (k l : Store) (status : ℕ) → Spell words found → Spell words rules → rest ≡ uncovered found → RunsSelect rest a b k l status → RunsSelect rules a b k l status
 runs_spelled words found rest rules a b k l status is spell e run =
     by_all rules a b k l status (subst (λ kept. RunsSelect kept a b k l status) (e ∙ ap uncovered (one_spelling words found rules is spell)) run)

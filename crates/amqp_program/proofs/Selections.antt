@@ -1,4 +1,4 @@
--- Words that spell rules spell only these, and rules that an earlier one covers select nothing.
+-- Words that stand for rules stand for these alone, and rules that an earlier one covers select nothing.
 use Rattle.std.proofs.Common.{◌≡◌, ℕ, Bool, true, false, List, [], ◌∷◌, ◌++◌, map, Some, None, Err, refl, sym, ap, subst, ◌∙◌, arith}
 use mathlib.Core.Path.{fun_ext}
 use Rattle.std.specs.Prelude.{codes, if◌then◌else◌}
@@ -28,18 +28,18 @@ same_rules (rule ∷ rules) (other ∷ others) h k e =
     let same_more = same_rules rules others h.1 k.1 more in
     cc
 
--- no words spell two lists of rules
+-- no words stand for two lists of rules
 pub one_spelling : (words : List (List ℕ)) (rules others : List Rule) → Spell words rules → Spell words others → rules ≡ others
 one_spelling words rules others h k = same_rules rules others h.are_rules k.are_rules (sym h.are ∙ k.are)
 
--- a word among those that spell rules spells a rule
+-- a word among those that stand for rules stands for a rule
 is_rule_word : (before rest : List (List ℕ)) (word : List ℕ) (rules : List Rule) → AllByRecursion IsRule rules → before ++ word ∷ rest ≡ map spelled rules → IsRuleWord word
 is_rule_word [] rest word [] h e = cc
 is_rule_word [] rest word (rule ∷ rules) h e = record { rule = rule; is_rule = h.0; is = cc }
 is_rule_word (first ∷ before) rest word [] h e = cc
 is_rule_word (first ∷ before) rest word (rule ∷ rules) h e = is_rule_word before rest word rules h.1 cc
 
--- words that are refused, but for memory, spell no rules
+-- words that are refused, but for memory, stand for no rules
 abbrev pub IsRefusal : RuleError → Type 0
 IsRefusal errors.NoMemory = ⊥
 IsRefusal error = Unit {0}
@@ -70,7 +70,7 @@ select_alone (word ∷ more) words e =
     let is = (bytes_eq-Decides word (codes "select")).0 (tested (bytes_eq word (codes "select")) more words e) in
     ap (λ first. command_of (first ∷ more)) is ∙ named_select more
 
--- `select` with words that spell no rules is none of the forms, and only then
+-- `select` with words that stand for no rules is none of the forms, and only then
 pub no_form : (texts words : List (List ℕ)) → after_select texts ≡ Some words → ((rules : List Rule) → ¬ Spell words rules) → IsNoForm texts
 no_form texts words after none = record {
   no_command = select_alone texts words after;

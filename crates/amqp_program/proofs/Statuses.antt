@@ -1,4 +1,4 @@
--- Statuses of errors and answers, told apart.
+-- Statuses of errors and results, distinguished.
 use Rattle.std.proofs.Common.{◌≡◌, ◌≢◌, ℕ, ◌<◌, ◌≤◌, List, Result, Ok, Err, refl, sym, ap, ◌∙◌, arith}
 use Rattle.hex.specs.declared.error.FromHexError.{FromHexError}
 use Rattle.amqp_types.specs.Levels.{Level}
@@ -54,7 +54,7 @@ pub answer_status_three : (r : Result (Unit {0}) StreamError) → status_of r �
 answer_status_three (Ok done) e = absurd (omega arith)
 answer_status_three (Err error) e = ap Err (only_memory error e)
 
--- what is printed has the status of the answer
+-- what is printed has the status of the result
 printed-status : (front : List ℕ) (r : Result (Unit {0}) StreamError) → (printed front r).status ≡ status_of r
 printed-status front (Ok done) = refl
 printed-status front (Err error) = refl

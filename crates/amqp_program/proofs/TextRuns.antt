@@ -19,7 +19,7 @@ use Rattle.amqp_program.proofs.Statuses.{answer_status_not_two}
 pub dump_not_two : (a b : Supply) (k l : Store) (status : ℕ) → RunsDump a b k l status → status ≢ 2
 dump_not_two a b k l status run h = answer_status_not_two run.answer (sym run.status_is ∙ h)
 
--- a run that gave this answer
+-- a run with this result
 pub dump_runs : (a b : Supply) (k l : Store) (answer : Result (Unit {0}) StreamError) (status : ℕ) → status ≡ status_of answer → Dumps max_payload raw_turns a b k l answer ⊎ NeverBegan a b k l answer → ((input : List ℕ) → a.left ≡ Some input → TranscribesExactly lines plain max_payload input k l answer) → ((input : List ℕ) → a.left ≡ Some input → IsValid plain max_payload raw_turns input → NoFaults a b k l → IsOkOrNoMemory answer) → RunsDump a b k l status
 dump_runs a b k l answer status e stream exact complete = record {
   answer = answer;
@@ -42,7 +42,7 @@ answer_not_two r e = grind arith
 pub undump_not_two : (a b : Supply) (k l : Store) (status : ℕ) → RunsUndump a b k l status → status ≢ 2
 undump_not_two a b k l status run h = answer_not_two run.answer (sym run.status_is ∙ h)
 
--- a run that gave this answer
+-- a run with this result
 pub undump_runs : (a b : Supply) (k l : Store) (answer : Result (Unit {0}) UndumpError) (status : ℕ) → status ≡ undump_status_of answer → Undumps max_payload raw_turns a b k l answer → ((input : List ℕ) → a.left ≡ Some input → UndumpsExactly max_payload input k l answer) → ((input : List ℕ) → a.left ≡ Some input → IsValidLines max_payload raw_turns input → NoFaults a b k l → IsUndumpedOrNoMemory answer) → RunsUndump a b k l status
 undump_runs a b k l answer status e stream exact complete = record {
   answer = answer;

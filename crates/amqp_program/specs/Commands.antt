@@ -56,7 +56,7 @@ abbrev pub after_select : List (List ℕ) → Option (List (List ℕ))
 after_select [] = None
 after_select (word ∷ more) = if bytes_eq word (codes "select") then Some more else None
 
--- `select`, and words that spell 1 to 64 rules
+-- `select`, and words that stand for 1 to 64 rules
 pub record IsSelection (texts : List (List ℕ)) (rules : List Rule) : Type 0 where
   pub words : List (List ℕ)
   pub are : after_select texts ≡ Some words

@@ -26,7 +26,7 @@ abbrev pub printed : List ℕ → Result (Unit {0}) StreamError → Printed
 printed front (Ok done) = record { text = front; status = 0 }
 printed front (Err error) = record { text = front ++ (stream_error_name error ++ 10 ∷ []); status = stream_error_status error }
 
--- The canonical bytes of the row at the front in lower-case hex. Where that is not all, the place's fault is named, or that the input is cut short.
+-- The canonical bytes of the frames at the front in lower-case hex. Where that is not all, the place's fault is named, or that the input is cut short.
 unfoldable pub report_at : Level → List ℕ → Printed
 report_at level bytes = printed (encode_lower (canon_of level max_payload bytes) ++ 10 ∷ []) (answer_to level max_payload bytes)
 
@@ -34,6 +34,6 @@ abbrev pub report_of : Level → Result (List ℕ) FromHexError → Printed
 report_of level (Ok bytes) = report_at level bytes
 report_of level (Err error) = record { text = codes "BadHex" ++ 10 ∷ []; status = 7 }
 
--- Hex digits of either case, an even number of them, with at most one newline behind them, which is dropped.
+-- Hex digits of either case, an even number of them, with at most one newline after them, which is dropped.
 abbrev pub report : Level → List ℕ → Printed
 report level text = report_of level (decode_of (strip_last 10 text))

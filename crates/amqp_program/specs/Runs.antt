@@ -40,7 +40,7 @@ pub data HexEnds (level : Level) (text written : List ℕ) (a b : Supply) (k l :
   write_failed : status ≡ 5 → IsWhole text b → Rises k.faults l.faults → IsPrefix written (report level text).text → HexEnds level text written a b k l status
   reported : status ≡ (report level text).status → IsWhole text b → written ≡ (report level text).text → HexEnds level text written a b k l status
 
--- where a run ended with 0, the decoded text is a row of frames, and their canonical bytes were written
+-- where a run ended with 0, the decoded text is a sequence of frames, and their canonical bytes were written
 pub record AcceptsHex (level : Level) (text written : List ℕ) (b : Supply) : Type 0 where
   pub whole : IsWhole text b
   pub bytes : List ℕ
@@ -67,7 +67,7 @@ pub record RunsHex (level : Level) (a b : Supply) (k l : Store) (status : ℕ) :
   pub accepts : status ≡ 0 → AcceptsHex level text written b
   pub complete : (input : List ℕ) → a.left ≡ Some input → IsValidText level input → NoFaults a b k l → IsDoneOrNoMemory status
 
--- the status of an answer
+-- the status of a result
 abbrev pub status_of : Result (Unit {0}) StreamError → ℕ
 status_of (Ok done) = 0
 status_of (Err error) = stream_error_status error
@@ -112,7 +112,7 @@ pub record RunsDump (a b : Supply) (k l : Store) (status : ℕ) : Type 0 where
   pub exact : (input : List ℕ) → a.left ≡ Some input → TranscribesExactly lines plain max_payload input k l answer
   pub complete : (input : List ℕ) → a.left ≡ Some input → IsValid plain max_payload raw_turns input → NoFaults a b k l → IsDoneOrNoMemory status
 
--- the status of an answer of undumping
+-- the status of a result of undumping
 abbrev pub undump_status_of : Result (Unit {0}) UndumpError → ℕ
 undump_status_of (Ok done) = 0
 undump_status_of (Err error) = undump_error_status error
@@ -125,7 +125,7 @@ pub record RunsUndump (a b : Supply) (k l : Store) (status : ℕ) : Type 0 where
   pub exact : (input : List ℕ) → a.left ≡ Some input → UndumpsExactly max_payload input k l answer
   pub complete : (input : List ℕ) → a.left ≡ Some input → IsValidLines max_payload raw_turns input → NoFaults a b k l → IsDoneOrNoMemory status
 
--- the status of an answer of recutting
+-- the status of a result of recutting
 abbrev pub recut_status_of : Result (Unit {0}) RecutError → ℕ
 recut_status_of (Ok done) = 0
 recut_status_of (Err error) = recut_error_status error

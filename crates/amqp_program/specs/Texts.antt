@@ -15,7 +15,7 @@ TextEnds taken old new (Err errors.ReadFault) = (length taken ≤ longest) × Ri
 TextEnds taken old new (Err errors.TooLong) = longest < length taken
 TextEnds taken old new (Err errors.NoMemory) = length taken ≤ longest
 
--- a text was read to its end, or it is told why not
+-- a text was read to its end, or it is reported why not
 pub record ReadsText (old new : Supply) (result : Result (List ℕ) TextError) : Type 0 where
   pub taken : List ℕ
   pub reads : ℕ

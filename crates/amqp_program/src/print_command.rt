@@ -10,11 +10,12 @@ pub const HELP: &str = "feksroum: reads AMQP 0-9-1 frames and writes their canon
 
   feksroum hex        reads a hex text, and prints the canonical bytes of the frames in
                       front in hex; a fault is named on a line of its own
-  feksroum raw        reads bytes, and writes canonical bytes as it reads; a fault is said
+  feksroum raw        reads bytes, and writes canonical bytes as it reads; a fault is reported
                       by the status alone
-  feksroum tidy       as hex, and takes tidy frames alone: those in which all that decoding
+  feksroum tidy       as hex, and takes tidy frames alone: those in which all that reading
                       drops stands as it is written
-  feksroum lent       as raw, by borrowed frames: memory is taken before the first read alone
+  feksroum lent       as raw, by the codec whose errors have no out of memory: memory is taken
+                      before the first read alone
   feksroum dump       reads bytes, and writes a line of text for each frame
   feksroum undump     reads such lines, and writes the canonical bytes of their frames
   feksroum select RULE..
@@ -34,8 +35,9 @@ The status is 0 where all of the input was frames. Others: 1 words that cannot b
 bytes of text, 7 BadHex, 10 UnknownFrameType, 11 BadProtocolHeader, 12 TooLarge (a payload
 above 131072 bytes), 13 BadFrameEnd, 14 UnknownClass, 15 UnknownMethod, 16 ShortPayload,
 17 TrailingBytes, 18 NotUtf8, 19 UnknownTag, 20 TooDeep, 21 CutShort, 22 TurnsSpent, 23 NotTidy,
-24 BadContent (a frame that is not in turn on its channel), 25 OpenContent (the input ends in a
-message), 26 BadText (a line that is no frame's).
+24 BadContent (a frame that is not in turn on its channel), 25 OpenContent (the input ends inside
+a message), 26 BadText (a line that is the line of no frame with a payload of at most 131072
+bytes).
 ";
 
 /// The version.

@@ -15,7 +15,7 @@ pub enum TextError {
     /// More than `LONGEST_TEXT` bytes were taken.
     TooLong,
 
-    /// Want of memory.
+    /// Out of memory.
     NoMemory,
 }
 

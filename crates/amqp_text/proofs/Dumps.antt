@@ -132,7 +132,7 @@ pub never_untidy : (s t : Unit {0}) (m turns : ℕ) (a b : Supply) (k l : Store)
 never_untidy s t m turns a b k l r (inl run) e = run.tidy_only (ending_is r errors.NotTidy e)
 never_untidy s t m turns a b k l r (inr none) e = let other = sym (ending_is r errors.NotTidy e) ∙ none.no_memory in absurd cc
 
--- ---- the answer by all of the bytes
+-- ---- the result by all of the bytes
 
 -- the same manner, but that memory never runs out
 abbrev without_memory : Manner (Unit {0}) Infallible

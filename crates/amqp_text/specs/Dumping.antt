@@ -30,7 +30,7 @@ pub record AtFrame (m : ℕ) (taken written : List ℕ) : Type 0 where
   pub next : BeginsWith (λ kind. Unit {0}) (Some m) rest
   pub written_is : written ≡ dumped m row
 
--- when each answer comes
+-- when each result comes
 abbrev pub HasCauseDumped : ℕ → ℕ → List ℕ → List ℕ → Supply → Supply → Store → Store → Result (Unit {0}) StreamError → Type 0
 HasCauseDumped m turns taken written a b k l (Ok done) = IsRow plain m taken × IsEmpty b.left
 HasCauseDumped m turns taken written a b k l (Err error) = IsCausedBy plain m turns taken a b k l (AtFrame m taken written) (cause_of error)

@@ -40,7 +40,7 @@ told_signed width = judge_map signed_decimal (judge_signed width)
 abbrev pub told_number : NumberWidth → Judge (List ℕ)
 told_number width = judge_map decimal (judge_number width)
 
--- the value behind a tag; `nested` tells a value one level deeper, where there is room for one
+-- the value after a tag; `nested` tells a value one level deeper, where there is room for one
 unfoldable pub told_behind : Option (Judge (List ℕ)) → FieldTag → Judge (List ℕ)
 told_behind nested tag.Boolean bytes = judge_map truth_text judge_boolean bytes
 told_behind nested tag.ShortShortInt bytes = told_signed bytes1 bytes
@@ -121,12 +121,12 @@ told_properties bytes = do
 
 -- ---- what a call writes
 
--- What is told is behind what stood there, and it is so many bytes. (Where nothing can be told, or memory runs out, nothing is said.)
+-- What is told is after what stood there, and it is so many bytes. (Where nothing can be told, or memory runs out, nothing is said.)
 abbrev pub Tells : Judged (List ℕ) → List ℕ → List ℕ → Result ℕ NoMemory → Type 0
 Tells (took text used) old new (Ok n) = (n ≡ used) × (new ≡ old ++ text)
 Tells told old new result = Unit {0}
 
--- the text is behind what stood there, unless memory runs out
+-- the text is after what stood there, unless memory runs out
 abbrev pub Writes : List ℕ → List ℕ → List ℕ → Result (Unit {0}) NoMemory → Type 0
 Writes old new text (Ok done) = new ≡ old ++ text
 Writes old new text (Err error) = Unit {0}

@@ -71,7 +71,7 @@ pub fn dump<S: Source, K: Sink>(
     ensures unread { turns ≡ 0 → source.new ≡ source.old }
     ensures never_untidy { result ≢ Err StreamError.NotTidy }
 
-    // Over a source that tells its bytes, the answer is by all of them, however they are cut.
+    // Over a source that reports its bytes, the result depends on all of them, however they are cut.
     ensures exact { (bytes : List ℕ) → (S.supply source.old).left ≡ Some bytes
         → TranscribesExactly lines plain max_payload bytes (K.store sink.old) (K.store sink.new) result }
     ensures complete { (bytes : List ℕ) → (S.supply source.old).left ≡ Some bytes
