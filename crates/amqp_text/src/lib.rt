@@ -2,6 +2,7 @@
 #![tactic(auto)]
 
 mod dumping;
+mod equality;
 mod errors;
 mod generation;
 mod laws;
@@ -16,6 +17,7 @@ mod values;
 mod words;
 
 pub use dumping::dump;
+pub use equality::{equal_text_errors, equal_undump_errors};
 pub use errors::{TextError, UndumpError};
 pub use generation::gen_line;
 pub use laws::{
