@@ -112,3 +112,8 @@ pub record HasNext (old_supply new_supply : Supply) (turns_old turns_new : ℕ) 
   pub room : length new.held ≤ old.limit + 8
   pub undecided_room : outer (Some old.limit) new.held ≡ past → length new.held ≤ old.limit + 7
   pub again : (bad : Fault) → outer (Some old.limit) old.held ≡ fault bad → AnswersAgain bad turns_old turns_new old new result
+
+-- The same at the return of the call, while the frame is borrowed: there is a state that the reader has afterwards.
+pub record Returns (old_supply new_supply : Supply) (turns_old turns_new : ℕ) (old : Holding) (result : Result (Option AMQPRawFrame) ReadError) : Type 0 where
+  pub new : Holding
+  pub has_next : HasNext old_supply new_supply turns_old turns_new old new result

@@ -30,7 +30,7 @@ impl Model for FrameReader {
 }
 
 impl FrameReader {
-    ghost use Rattle.std.specs.Prelude.{◌≡◌, ◌+◌, ◌^◌, ◌<◌, ◌≤◌, ◌↔◌, [], Some, IsTrue, IfOk, length, drop};
+    ghost use Rattle.std.specs.Prelude.{◌≡◌, ◌+◌, ◌^◌, ◌<◌, ◌≤◌, ◌↔◌, [], Some, IsTrue, IfOk, IfSome, length, drop};
     ghost use Rattle.std.specs.Borrow.{sem};
     ghost use Rattle.std.specs.Io.BufRead.{Rests};
     ghost use Rattle.amqp_types.specs.Judging.{past};
@@ -38,7 +38,7 @@ impl FrameReader {
     ghost use Rattle.amqp_frame.specs.Outer.{outer};
     ghost use Rattle.amqp_frame.specs.Looks.{laid_out};
     ghost use Rattle.amqp_stream.specs.contracts.reader.FrameReader.{the_row};
-    ghost use Rattle.amqp_stream.specs.Reading.{ReadsMore, PullsTo, Lies, LiesIn, Finds, HasNext};
+    ghost use Rattle.amqp_stream.specs.Reading.{ReadsMore, PullsTo, Lies, LiesIn, Finds, HasNext, Returns};
 
     /// A reader that holds nothing, for payloads of at most so many bytes.
     pub fn open(alloc: Global, max_payload: ChunkSize) -> Result<FrameReader, NoMemory>
@@ -161,6 +161,8 @@ impl FrameReader {
         source: &mut S,
         turns: &mut u64,
     ) -> Result<Option<AMQPRawFrame<'_>>, ReadError>
+        ensures few { IfOk result (λ found. IfSome found (λ raw. length raw.payload.now < 2 ^ 32)) }
+        ensures returns { Returns (S.supply source.old) (S.supply source.new) turns.old turns.new self.old result }
         ensures* after { sem 𝓛 (Rests the_row self.entry (λ new.
             HasNext (S.supply source.old) (S.supply source.new) turns.old turns.new self.old new result)) }
     {

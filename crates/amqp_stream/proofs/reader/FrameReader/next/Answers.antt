@@ -1,5 +1,6 @@
-use Rattle.std.proofs.Common.{◌+◌, ◌-◌, ◌^◌, ◌<◌, ◌≤◌, ℕ, List, length, drop, Ok, Err, None, refl, sym, ap, subst, ◌∙◌, arith}
+use Rattle.std.proofs.Common.{◌+◌, ◌-◌, ◌^◌, ◌<◌, ◌≤◌, ℕ, List, length, take, drop, Ok, Err, None, refl, sym, ap, subst, ◌∙◌, arith}
 use Rattle.amqp_frame.specs.Looks.{laid_out}
+use Rattle.amqp_frame.proofs.OuterLook.{outer-in_bounds}
 use Rattle.amqp_stream.specs.Reading.{Holding, LiesIn, IsBorrowed, HasNext}
 use Rattle.amqp_stream.proofs.Spans.{part-drop, part-frame, part-length}
 use Rattle.amqp_stream.proofs.Pulling.{raw_with, has_next, err_as, none_as, some_as}
@@ -10,7 +11,8 @@ returns-in-Err g c =
     let m = c.args.self.now.limit in
     let fits : m < 2 ^ 32 = omega (arith, c.self.invariant.2, ap (λ h. h.limit) c.self.view_is, c.in-Err.ensures.limit) in
     let P : Holding → Type 0 = λ h. HasNext (g.S.Source.supply c.args.source.now) (g.S.Source.supply c.pull.new.source) c.args.turns.now c.pull.new.turns c.args.self.now h (Err c.in-Err.error) in
-    ((refl, λ _. tt, subst P (sym c.self.view_is) (has_next fits c.in-Err.ensures.limit (err_as (LiesIn m) (IsBorrowed m) m _ _ _ _ _ _ c.in-Err.error c.in-Err.ensures.pulls))), record { after = tt })
+    let next : P c.pull.new.self = has_next fits c.in-Err.ensures.limit (err_as (LiesIn m) (IsBorrowed m) m _ _ _ _ _ _ c.in-Err.error c.in-Err.ensures.pulls) in
+    ((refl, λ _. tt, subst P (sym c.self.view_is) (next)), record { few = tt; returns = record { new = c.pull.new.self; has_next = next }; after = tt })
 
 pub returns-in-Ok-None : goal.returns-in-Ok-None
 returns-in-Ok-None g c =
@@ -18,7 +20,8 @@ returns-in-Ok-None g c =
     let fits : m < 2 ^ 32 = omega (arith, c.self.invariant.2, ap (λ h. h.limit) c.self.view_is, c.in-Ok-None.ensures.limit) in
     let P : Holding → Type 0 = λ h. HasNext (g.S.Source.supply c.args.source.now) (g.S.Source.supply c.pull.new.source) c.args.turns.now c.pull.new.turns c.args.self.now h (Ok None) in
     let pulls = rw c.in-Ok-None.field-0-is at c.in-Ok-None.ensures.pulls in
-    ((refl, λ _. tt, subst P (sym c.self.view_is) (has_next fits c.in-Ok-None.ensures.limit (none_as (LiesIn m) (IsBorrowed m) m _ _ _ _ _ _ pulls))), record { after = tt })
+    let next : P c.pull.new.self = has_next fits c.in-Ok-None.ensures.limit (none_as (LiesIn m) (IsBorrowed m) m _ _ _ _ _ _ pulls) in
+    ((refl, λ _. tt, subst P (sym c.self.view_is) (next)), record { few = tt; returns = record { new = c.pull.new.self; has_next = next }; after = tt })
 
 pub returns-in-Ok-Some : goal.returns-in-Ok-Some
 returns-in-Ok-Some g c =
@@ -36,4 +39,6 @@ returns-in-Ok-Some g c =
     let raw = ap (λ (xs : List ℕ). raw_with layout xs) payload ∙ ap (λ h. laid_out layout h.held) c.self.view_is in
     let rest = part-drop buf span.start span.end layout.frame_len ∙ ap (λ h. drop layout.frame_len h.held) c.self.view_is in
     let fits : m < 2 ^ 32 = omega (arith, c.self.invariant.2, same) in
-    ((refl, λ _. tt, has_next fits same (some_as m _ _ _ _ _ _ _ layout _ pulls raw rest)), record { after = tt })
+    let next = has_next fits same (some_as m _ _ _ _ _ _ _ layout _ pulls raw rest) in
+    let bounds = outer-in_bounds _ _ _ _ lies.found in
+    ((refl, λ _. tt, next), record { few = omega (arith, ap length payload, ap (λ h. length (take layout.payload_len (drop layout.payload_start h.held))) c.self.view_is, ap (λ (xs : List ℕ). length (take layout.payload_len (drop layout.payload_start xs))) pulls.ends.1, bounds.payload m refl, fits); returns = record { new = _; has_next = next }; after = tt })
