@@ -6,3 +6,4 @@ pub mod Pieces
 pub mod Whole
 pub mod Apart
 pub mod Entries
+pub mod EqualContents

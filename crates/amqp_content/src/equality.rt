@@ -4,6 +4,9 @@ ghost use Rattle.std.specs.Prelude.{◌≡◌, ◌↔◌, IsTrue};
 
 use crate::fault::ContentFault;
 use crate::mark::Mark;
+use crate::message::Message;
+use crate::opening::Opening;
+use crate::outcome::Outcome;
 use crate::progress::Progress;
 
 /// Faults are equal exactly where they are the same.
@@ -22,6 +25,30 @@ pub fn equal_marks(a: &Mark, b: &Mark) -> bool
 
 /// Messages have come equally far exactly where it is the same of both, with the same numbers.
 pub fn equal_progress(a: &Progress, b: &Progress) -> bool
+    ensures { IsTrue result ↔ (a.now ≡ b.now) }
+{
+    a == b
+}
+
+/// Openings are equal exactly where they are the same method, with the same fields.
+#[tactic(auto, using(crate::proofs::EqualContents::same_opening))]
+pub fn equal_openings(a: &Opening, b: &Opening) -> bool
+    ensures { IsTrue result ↔ (a.now ≡ b.now) }
+{
+    a == b
+}
+
+/// Messages are equal exactly where their channels, openings, properties and bodies are the same.
+#[tactic(auto, using(crate::proofs::EqualContents::same_message))]
+pub fn equal_messages(a: &Message, b: &Message) -> bool
+    ensures { IsTrue result ↔ (a.now ≡ b.now) }
+{
+    a == b
+}
+
+/// Outcomes are equal exactly where they are the same, with the same frame, message or fault.
+#[tactic(auto, using(crate::proofs::EqualContents::same_outcome))]
+pub fn equal_outcomes(a: &Outcome, b: &Outcome) -> bool
     ensures { IsTrue result ↔ (a.now ≡ b.now) }
 {
     a == b

@@ -18,7 +18,10 @@ mod tracker;
 pub use amqp_types::NoMemory;
 pub use assembler::Assembler;
 pub use assembling::assemble;
-pub use equality::{equal_content_faults, equal_marks, equal_progress};
+pub use equality::{
+    equal_content_faults, equal_marks, equal_messages, equal_openings, equal_outcomes,
+    equal_progress,
+};
 pub use fault::ContentFault;
 pub use laws::{answers_are_steps, channels_are_answered, channels_are_apart, splits_are_whole};
 pub use mark::Mark;

@@ -1,0 +1,75 @@
+-- Openings, messages and outcomes are equal exactly where contracts see the same.
+use Rattle.std.proofs.Common.{◌≡◌, true, true≢false, refl, sym, ap, subst, rules}
+use Rattle.std.specs.Bool.{Decides}
+use Rattle.std.specs.Cmp.{unsigned_Decides}
+use Rattle.std.specs.Cmp.Lexicographic.{bytes_decides}
+use Rattle.amqp_values.proofs.Deciding.{both}
+use Rattle.amqp_basic.proofs.Equality.{same_publish, same_return, same_deliver, same_get_ok}
+use Rattle.amqp_properties.proofs.Equality.{all_equal-decides}
+use Rattle.amqp_frame.proofs.EqualFrames.{same_frame}
+use Rattle.amqp_content.specs.declared.fault.ContentFault.{ContentFault}
+use Rattle.amqp_content.specs.contracts.fault.ContentFaultPartialEq.TheImpl as fault
+use Rattle.amqp_content.specs.declared.opening.Opening.{Opening}
+use Rattle.amqp_content.specs.declared.opening.Opening.TheVariants as openings
+use Rattle.amqp_content.specs.contracts.opening.OpeningPartialEq.TheImpl as opening
+use Rattle.amqp_content.specs.Messages.{Parts}
+use Rattle.amqp_content.specs.contracts.message.MessagePartialEq.TheImpl as message
+use Rattle.amqp_content.specs.declared.outcome.Outcome.{Outcome}
+use Rattle.amqp_content.specs.declared.outcome.Outcome.TheVariants as outcomes
+use Rattle.amqp_content.specs.contracts.outcome.OutcomePartialEq.TheImpl as outcome
+
+-- ---- openings
+
+opening_same : (a b : Opening) → opening.ghosts.eq a b ≡ true → a ≡ b
+opening_same (openings.Publish a) (openings.Publish b) h = ap openings.Publish ((same_publish a b).0 h)
+opening_same (openings.Return a) (openings.Return b) h = ap openings.Return ((same_return a b).0 h)
+opening_same (openings.Deliver a) (openings.Deliver b) h = ap openings.Deliver ((same_deliver a b).0 h)
+opening_same (openings.GetOk a) (openings.GetOk b) h = ap openings.GetOk ((same_get_ok a b).0 h)
+opening_same a b h = absurd (true≢false (sym h))
+
+opening_itself : (a : Opening) → opening.ghosts.eq a a ≡ true
+opening_itself (openings.Publish a) = (same_publish a a).1 refl
+opening_itself (openings.Return a) = (same_return a a).1 refl
+opening_itself (openings.Deliver a) = (same_deliver a a).1 refl
+opening_itself (openings.GetOk a) = (same_get_ok a a).1 refl
+
+pub same_opening : (a b : Opening) → Decides (opening.ghosts.eq a b) (a ≡ b)
+same_opening a b = (opening_same a b, λ e. let P : Opening → Type 0 = λ x. opening.ghosts.eq a x ≡ true in subst P e (opening_itself a))
+
+-- ---- messages
+
+abbrev SameParts : Parts → Parts → Type 0
+SameParts a b = (a.channel ≡ b.channel) × ((a.opening ≡ b.opening) × ((a.properties ≡ b.properties) × (a.body ≡ b.body)))
+
+parts_decided : (a b : Parts) → Decides (message.ghosts.eq a b) (SameParts a b)
+parts_decided a b = both _ _ (unsigned_Decides a.channel b.channel) (both _ _ (same_opening a.opening b.opening) (both _ _ (all_equal-decides a.properties b.properties) (bytes_decides a.body b.body)))
+
+message_of_parts : (a b : Parts) → SameParts a b → a ≡ b
+message_of_parts a b e = λ i. record { channel = e.0 i; opening = e.1.0 i; properties = e.1.1.0 i; body = e.1.1.1 i }
+
+parts_of_message : (a b : Parts) → a ≡ b → SameParts a b
+parts_of_message a b e = (ap (λ (m : Parts). m.channel) e, (ap (λ (m : Parts). m.opening) e, (ap (λ (m : Parts). m.properties) e, ap (λ (m : Parts). m.body) e)))
+
+pub same_message : (a b : Parts) → Decides (message.ghosts.eq a b) (a ≡ b)
+same_message a b = (λ h. message_of_parts a b ((parts_decided a b).0 h), λ e. (parts_decided a b).1 (parts_of_message a b e))
+
+-- ---- outcomes
+
+same_fault : (a b : ContentFault) → Decides (fault.ghosts.eq a b) (a ≡ b)
+same_fault a b = search rules
+
+outcome_same : (a b : Outcome) → outcome.ghosts.eq a b ≡ true → a ≡ b
+outcome_same (outcomes.Passed a) (outcomes.Passed b) h = ap outcomes.Passed ((same_frame a b).0 h)
+outcome_same outcomes.Held outcomes.Held h = refl
+outcome_same (outcomes.Done a) (outcomes.Done b) h = ap outcomes.Done ((same_message a b).0 h)
+outcome_same (outcomes.Fault a) (outcomes.Fault b) h = ap outcomes.Fault ((same_fault a b).0 h)
+outcome_same a b h = absurd (true≢false (sym h))
+
+outcome_itself : (a : Outcome) → outcome.ghosts.eq a a ≡ true
+outcome_itself (outcomes.Passed a) = (same_frame a a).1 refl
+outcome_itself outcomes.Held = refl
+outcome_itself (outcomes.Done a) = (same_message a a).1 refl
+outcome_itself (outcomes.Fault a) = (same_fault a a).1 refl
+
+pub same_outcome : (a b : Outcome) → Decides (outcome.ghosts.eq a b) (a ≡ b)
+same_outcome a b = (outcome_same a b, λ e. let P : Outcome → Type 0 = λ x. outcome.ghosts.eq a x ≡ true in subst P e (outcome_itself a))
