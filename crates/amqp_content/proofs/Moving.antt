@@ -1,18 +1,14 @@
 -- One frame more on what has begun: a unit is finished, or grows, or the frame is refused.
-use Rattle.std.proofs.Common.{◌≡◌, ◌≢◌, ℕ, ◌+◌, ◌<◌, ◌≤◌, zero, suc, Bool, true, false, cond, eqb, ltb, leb, List, [], ◌∷◌, ◌++◌, length, append_assoc, refl, sym, ap, subst, ◌∙◌, arith, inl, inr, Option, Some, None}
+use Rattle.std.proofs.Common.{◌≡◌, ℕ, ◌+◌, Bool, true, false, eqb, leb, List, [], ◌∷◌, ◌++◌, append_assoc, refl, sym, ap, ◌∙◌, arith}
 use Rattle.std.specs.List.{AllByRecursion}
 use Rattle.std.proofs.lemmas.List.{append-nil}
-use Rattle.std.proofs.lemmas.Bool.{cases_eq, eq-eqb, ne_eqb}
 use Rattle.std.proofs.lemmas.Bool.Decides.{nat_tests}
 use Rattle.amqp_frame.specs.declared.outline.FrameOutline.{FrameOutline}
 use Rattle.amqp_frame.specs.declared.outline.FrameOutline.TheVariants as outlines
-use Rattle.amqp_content.specs.declared.mark.Mark.{Mark}
-use Rattle.amqp_content.specs.declared.mark.Mark.TheVariants as marks
-use Rattle.amqp_content.specs.Units.{is_content, is_opening_id, IsOpening, IsOtherMethod, IsBasicHeader, IsBody, size_in, count_in, bytes_in, Finished, Lone, Empty, Full, Begun, Nothing, Opened, Headed, begun_frames, finished_frames, IsBegun, IsFinished}
-use Rattle.amqp_content.specs.Answers.{Answer, Alone, Within, Ends, Wrong, bodies_within, begun_answers, finished_answers, fault_after}
+use Rattle.amqp_content.specs.Units.{is_opening_id, IsOpening, IsBody, size_in, count_in, bytes_in, Finished, Lone, Empty, Full, Begun, Nothing, Opened, Headed, begun_frames, finished_frames, IsBegun, IsFinished}
+use Rattle.amqp_content.specs.Answers.{Answer, Within, Ends, Wrong, bodies_within, begun_answers, finished_answers, fault_after}
 use Rattle.amqp_content.specs.Stands.{State, At, Lost}
-use Rattle.amqp_content.specs.Marks.{begun_progress}
-use Rattle.amqp_content.specs.Steps.{mark_after, body_mark, begun_with, step_marked, step}
+use Rattle.amqp_content.specs.Steps.{begun_with, step}
 
 -- ---- one more frame at the end
 

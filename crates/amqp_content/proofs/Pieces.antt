@@ -1,5 +1,5 @@
 -- Pieces of bytes: one by one, joined again, and none of them empty.
-use Rattle.std.proofs.Common.{◌≡◌, ℕ, ◌+◌, ◌-◌, ◌*◌, ◌/◌, ◌<◌, ◌≤◌, min, ap₂, zero, suc, List, [], ◌∷◌, ◌++◌, length, map, take, drop, refl, sym, ap, subst, ◌∙◌, arith, add-one}
+use Rattle.std.proofs.Common.{◌≡◌, ℕ, ◌+◌, ◌-◌, ◌*◌, ◌≤◌, min, ap₂, zero, suc, List, [], ◌∷◌, ◌++◌, length, map, take, drop, refl, sym, ap, ◌∙◌, arith}
 use Rattle.std.proofs.lemmas.List.{append-nil, append_assoc, drop-drop, take-append-drop, length-drop, length-take, take_min, drop_min, nil_from_length}
 use Rattle.std.specs.List.{range_with_len, flat_map, AllByRecursion}
 use Rattle.amqp_content.specs.Splits.{piece_count, pieces}

@@ -1,13 +1,13 @@
 -- Frames one after another: what the steps give is the one reading of them by their longest prefix in turn.
-use Rattle.std.proofs.Common.{◌≡◌, ◌≢◌, ℕ, ◌+◌, ◌<◌, ◌≤◌, Bool, true, false, eqb, leb, List, [], ◌∷◌, ◌++◌, length, map, append_assoc, refl, sym, ap, subst, ◌∙◌, arith, inl, inr, ◌⊎◌}
-use Rattle.std.proofs.lemmas.List.{append-nil, append_cancel_left, same_from_push, length-append, length_push}
+use Rattle.std.proofs.Common.{◌≡◌, ℕ, ◌+◌, ◌<◌, ◌≤◌, true, false, eqb, leb, List, [], ◌∷◌, ◌++◌, length, map, append_assoc, refl, sym, ap, subst, ◌∙◌, arith, inl, inr, ◌⊎◌}
+use Rattle.std.proofs.lemmas.List.{append-nil, length-append, length_push}
 use Rattle.std.specs.List.{AllByRecursion, flat_map}
-use Rattle.std.proofs.lemmas.Bool.{cases_eq, eq-eqb, ne_eqb}
+use Rattle.std.proofs.lemmas.Bool.{eq-eqb, ne_eqb}
 use Rattle.std.proofs.lemmas.Bool.Decides.{nat_tests}
 use Rattle.amqp_frame.specs.declared.outline.FrameOutline.{FrameOutline}
 use Rattle.amqp_frame.specs.declared.outline.FrameOutline.TheVariants as outlines
 use Rattle.amqp_content.specs.declared.fault.ContentFault.TheVariants as faults
-use Rattle.amqp_content.specs.Units.{is_content, is_opening_id, IsOpening, IsOtherMethod, IsBasicHeader, IsBody, size_in, count_in, bytes_in, Finished, Lone, Empty, Full, Begun, Nothing, Opened, Headed, begun_frames, finished_frames, frames_in, IsBegun, IsFinished, IsInTurn, Reading}
+use Rattle.amqp_content.specs.Units.{IsOpening, IsOtherMethod, IsBasicHeader, IsBody, size_in, count_in, bytes_in, Finished, Lone, Empty, Full, Begun, Nothing, Opened, Headed, begun_frames, finished_frames, frames_in, IsBegun, IsFinished, IsInTurn, Reading}
 use Rattle.amqp_content.specs.Answers.{Answer, Alone, Within, Ends, Wrong, bodies_within, begun_answers, finished_answers, fault_after, answers_in, rest_answers, answers_of, Answers, IsLastAnswer}
 use Rattle.amqp_content.specs.Stands.{State, At, Lost, state_after, Stands}
 use Rattle.amqp_content.specs.Steps.{step, run_answers, run_state}

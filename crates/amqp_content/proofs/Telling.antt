@@ -1,25 +1,22 @@
 -- What an assembler keeps decides what one more frame gives, and what to keep after it.
-use Rattle.std.proofs.Common.{◌≡◌, ℕ, ◌+◌, ◌<◌, ◌≤◌, Bool, true, false, cond, eqb, leb, List, [], ◌∷◌, ◌++◌, length, refl, sym, ap, ap₂, subst, ◌∙◌, arith, Option, Some, None, Result, Ok, Err}
+use Rattle.std.proofs.Common.{◌≡◌, ℕ, ◌+◌, Bool, true, false, eqb, leb, List, [], ◌∷◌, ◌++◌, length, refl, sym, ap, ap₂, ◌∙◌, arith, Option, Some, None, Result, Ok, Err}
 use Rattle.std.specs.Prelude.{IfOk}
 use Rattle.std.proofs.lemmas.List.{append-nil, append_assoc, length-append}
 use Rattle.amqp_types.specs.Methods.{Method}
 use Rattle.amqp_types.specs.ContentHeaders.{ContentHeader}
-use Rattle.amqp_frame.specs.Frames.{Frame, Proto, Meth, Head, Body, Beat, BadBeat, channel_id_of}
+use Rattle.amqp_frame.specs.Frames.{Frame, Proto, Meth, Head, Body, Beat, BadBeat}
 use Rattle.amqp_frame.specs.Outlines.{outline_of}
 use Rattle.amqp_content.specs.declared.fault.ContentFault.{ContentFault}
 use Rattle.amqp_content.specs.declared.fault.ContentFault.TheVariants as faults
-use Rattle.amqp_content.specs.declared.mark.Mark.{Mark}
 use Rattle.amqp_content.specs.declared.mark.Mark.TheVariants as marks
-use Rattle.amqp_content.specs.declared.progress.Progress.{Progress}
 use Rattle.amqp_content.specs.declared.progress.Progress.TheVariants as progresses
 use Rattle.amqp_content.specs.declared.outcome.Outcome.{Outcome}
 use Rattle.amqp_content.specs.Units.{is_content, is_opening_id, size_in, count_in, bytes_in, Begun, Nothing, Opened, Headed}
-use Rattle.amqp_content.specs.Answers.{Answer, IsLastAnswer}
-use Rattle.amqp_content.specs.Stands.{State, At, Lost, Stands}
+use Rattle.amqp_content.specs.Stands.{State, At, Lost}
 use Rattle.amqp_content.specs.Marks.{progress_of}
 use Rattle.amqp_content.specs.Steps.{mark_after, step}
-use Rattle.amqp_content.specs.Messages.{method_in, header_in, bytes_of, joined}
-use Rattle.amqp_content.specs.Outcomes.{OutcomeView, answer_outcome, Kept, message, fault, kept_of, kept_progress, marked_outcome, kept_marked, mark_kept, AssemblerStands, IsOutcomeOf, Pushes, Takes, outcome_of, IsMessage, IsHeadedThere, with_header}
+use Rattle.amqp_content.specs.Messages.{header_in, bytes_of, joined}
+use Rattle.amqp_content.specs.Outcomes.{OutcomeView, answer_outcome, Kept, message, fault, kept_of, kept_progress, marked_outcome, kept_marked, mark_kept, Pushes, Takes, outcome_of, IsMessage, IsHeadedThere, with_header}
 use Rattle.amqp_content.proofs.Running.{advance}
 
 pub joined-push : (frames : List Frame) (frame : Frame) → joined (frames ++ frame ∷ []) ≡ joined frames ++ bytes_of frame

@@ -1,15 +1,14 @@
 -- What a tracker keeps decides the mark of one more frame, and what to keep after it.
-use Rattle.std.proofs.Common.{◌≡◌, ℕ, ◌+◌, ◌<◌, ◌≤◌, Bool, true, false, cond, eqb, leb, List, [], ◌∷◌, ◌++◌, refl, sym, ap, subst, ◌∙◌, arith, Option, Some, None}
+use Rattle.std.proofs.Common.{◌≡◌, ℕ, ◌+◌, Bool, true, false, eqb, leb, List, [], ◌∷◌, ◌++◌, refl, sym, ap, ◌∙◌, Option, Some}
 use Rattle.amqp_frame.specs.declared.outline.FrameOutline.{FrameOutline}
 use Rattle.amqp_frame.specs.declared.outline.FrameOutline.TheVariants as outlines
 use Rattle.amqp_content.specs.declared.mark.Mark.{Mark}
 use Rattle.amqp_content.specs.declared.progress.Progress.{Progress}
 use Rattle.amqp_content.specs.declared.progress.Progress.TheVariants as kept
 use Rattle.amqp_content.specs.Units.{is_content, is_opening_id, size_in, count_in, bytes_in, Begun, Nothing, Opened, Headed}
-use Rattle.amqp_content.specs.Answers.{Answer, IsLastAnswer}
-use Rattle.amqp_content.specs.Stands.{State, At, Lost, Stands, kept_at}
-use Rattle.amqp_content.specs.Marks.{itself, begun_progress, progress_of, mark_of, TrackerStands, IsMarked, Tracks}
-use Rattle.amqp_content.specs.Steps.{mark_after, progress_marked, progress_after, begun_with, step}
+use Rattle.amqp_content.specs.Stands.{State, At, Lost, kept_at}
+use Rattle.amqp_content.specs.Marks.{itself, progress_of, mark_of, TrackerStands, Tracks}
+use Rattle.amqp_content.specs.Steps.{mark_after, progress_marked, progress_after, step}
 use Rattle.amqp_content.proofs.Moving.{bytes_in-push}
 use Rattle.amqp_content.proofs.Running.{advance, stands_nothing}
 

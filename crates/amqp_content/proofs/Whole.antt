@@ -1,25 +1,24 @@
 -- Messages that are split into frames come back whole and in order.
-use Rattle.std.proofs.Common.{◌≡◌, ℕ, ◌+◌, ◌<◌, ◌≤◌, zero, suc, Bool, true, List, [], ◌∷◌, ◌++◌, length, map, refl, sym, ap, ap₂, subst, ◌∙◌, arith, Option}
+use Rattle.std.proofs.Common.{◌≡◌, ℕ, ◌+◌, ◌<◌, ◌≤◌, true, List, [], ◌∷◌, ◌++◌, length, map, refl, sym, ap, ap₂, subst, ◌∙◌, arith}
 use Rattle.std.proofs.lemmas.List.{append-nil, append_assoc, length-append, map-append}
 use Rattle.std.specs.List.{AllByRecursion, flat_map}
-use Rattle.amqp_types.specs.Methods.{Method}
 use Rattle.amqp_types.specs.ContentHeaders.{ContentHeader}
-use Rattle.amqp_frame.specs.Frames.{Frame, Meth, Head, Body, channel_id_of}
+use Rattle.amqp_frame.specs.Frames.{Frame, Meth, Head, Body}
 use Rattle.amqp_frame.specs.Outlines.{outline_of}
 use Rattle.amqp_content.specs.declared.opening.Opening.{Opening}
 use Rattle.amqp_content.specs.declared.opening.Opening.TheVariants as openings
 use Rattle.amqp_content.specs.Units.{is_opening_id, size_in, bytes_in, Begun, Nothing, Opened, Headed}
-use Rattle.amqp_content.specs.Answers.{Answer, Within, Ends, Answers}
-use Rattle.amqp_content.specs.Stands.{State, At, Lost}
+use Rattle.amqp_content.specs.Answers.{Answer, Within, Ends}
+use Rattle.amqp_content.specs.Stands.{State, At}
 use Rattle.amqp_content.specs.Steps.{step, run_answers, run_state}
-use Rattle.amqp_content.specs.Messages.{Parts, Content, content_of, opening_method, method_in, header_in, bytes_of, joined, content_with}
+use Rattle.amqp_content.specs.Messages.{Parts, Content, content_of, opening_method, method_in, header_in, joined, content_with}
 use Rattle.amqp_content.specs.Outcomes.{OutcomeView, passed, held, done, wrong, answer_outcome}
 use Rattle.amqp_content.specs.Splits.{pieces, split_header, split_of}
 use Rattle.amqp_content.specs.Laws.{done_in, IsNoFault, AreWhole}
 use Rattle.amqp_content.proofs.Moving.{bytes_in-push}
 use Rattle.amqp_content.proofs.Running.{opening_step, header_step, empty_step, body_step, last_step, run_answers-append, run_state-append, answers_run}
 use Rattle.amqp_content.proofs.Telling.{joined-push}
-use Rattle.amqp_content.proofs.Pieces.{ArePieces, pieces_are, pieces-none}
+use Rattle.amqp_content.proofs.Pieces.{ArePieces, pieces_are}
 
 done_in-append : (xs ys : List OutcomeView) → done_in (xs ++ ys) ≡ done_in xs ++ done_in ys
 done_in-append [] ys = refl

@@ -1,8 +1,8 @@
 -- Laws of content.
-use Rattle.std.specs.Prelude.{◌≡◌, ℕ, ◌≤◌, List, [], ◌∷◌, ◌++◌, map, length}
+use Rattle.std.specs.Prelude.{◌≡◌, ℕ, ◌≤◌, List, [], ◌∷◌, map, length}
 use Rattle.std.specs.List.{AllByRecursion, flat_map}
 use Rattle.amqp_frame.specs.declared.outline.FrameOutline.{FrameOutline}
-use Rattle.amqp_frame.specs.Frames.{Frame, frame_of}
+use Rattle.amqp_frame.specs.Frames.{Frame}
 use Rattle.amqp_frame.specs.Outlines.{outline_of}
 use Rattle.amqp_content.specs.Units.{Nothing, of_channel}
 use Rattle.amqp_content.specs.Answers.{Answer, Answers}

@@ -1,5 +1,5 @@
 -- What a tracker marks frames with, and what it keeps of a channel.
-use Rattle.std.specs.Prelude.{◌≡◌, ◌≢◌, ℕ, ◌+◌, List, Option, Some, None, ◌++◌, [], ◌∷◌, Bool, true, false}
+use Rattle.std.specs.Prelude.{◌≡◌, ℕ, ◌+◌, List, Option, Some, None, ◌++◌, [], ◌∷◌, Bool, true, false}
 use Rattle.amqp_frame.specs.declared.outline.FrameOutline.{FrameOutline}
 use Rattle.amqp_frame.specs.declared.outline.FrameOutline.TheVariants as outlines
 use Rattle.amqp_frame.specs.Outlines.{outline_channel}
@@ -7,7 +7,7 @@ use Rattle.amqp_content.specs.declared.mark.Mark.{Mark}
 use Rattle.amqp_content.specs.declared.mark.Mark.TheVariants as marks
 use Rattle.amqp_content.specs.declared.progress.Progress.{Progress}
 use Rattle.amqp_content.specs.declared.progress.Progress.TheVariants as kept
-use Rattle.amqp_content.specs.Units.{Begun, Nothing, Opened, Headed, size_in, count_in, bytes_in}
+use Rattle.amqp_content.specs.Units.{Begun, Nothing, Opened, Headed, size_in, bytes_in}
 use Rattle.amqp_content.specs.Answers.{Answer, Alone, Within, Ends, Wrong, IsLastAnswer}
 use Rattle.amqp_content.specs.Stands.{State, At, Lost, Stands, kept_at}
 

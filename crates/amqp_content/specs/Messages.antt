@@ -1,5 +1,5 @@
 -- Messages, and what their frames give.
-use Rattle.std.specs.Prelude.{◌≡◌, ℕ, List, [], ◌∷◌, ◌++◌, Option}
+use Rattle.std.specs.Prelude.{ℕ, List, [], ◌∷◌, ◌++◌, Option}
 use Rattle.std.specs.List.{flat_map}
 use Rattle.amqp_types.specs.Methods.{Method, method}
 use Rattle.amqp_types.specs.Slots.{Item}

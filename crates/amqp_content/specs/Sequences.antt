@@ -1,5 +1,5 @@
 -- Frames of many channels one after another, and what an assembler gives for each.
-use Rattle.std.specs.Prelude.{◌≡◌, ℕ, Bool, true, false, List, [], ◌∷◌, ◌++◌, if◌then◌else◌}
+use Rattle.std.specs.Prelude.{◌≡◌, ℕ, true, false, List, [], ◌∷◌, ◌++◌, if◌then◌else◌}
 use Rattle.amqp_frame.specs.Frames.{Frame, channel_id_of}
 use Rattle.amqp_frame.specs.Outlines.{outline_of}
 use Rattle.amqp_content.specs.Units.{is_content, is_of_channel, of_channel}

@@ -1,6 +1,6 @@
 -- A message as frames.
-use Rattle.std.specs.Prelude.{ℕ, ◌+◌, ◌-◌, ◌*◌, ◌/◌, List, [], ◌∷◌, ◌++◌, map, take, drop, length}
-use Rattle.std.specs.List.{range_with_len, flat_map}
+use Rattle.std.specs.Prelude.{ℕ, ◌+◌, ◌-◌, ◌*◌, ◌/◌, List, ◌∷◌, map, take, drop, length}
+use Rattle.std.specs.List.{range_with_len}
 use Rattle.amqp_properties.specs.Options.{options}
 use Rattle.amqp_types.specs.ContentHeaders.{ContentHeader}
 use Rattle.amqp_frame.specs.Frames.{Frame, Meth, Head, Body}

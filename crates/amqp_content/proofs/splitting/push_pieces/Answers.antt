@@ -1,4 +1,4 @@
-use Rattle.std.proofs.Common.{◌≡◌, ◌≤◌, ◌-◌, ◌++◌, drop, rules, sym, ap, ◌∙◌, map, length, take, min, arith, eqb}
+use Rattle.std.proofs.Common.{◌≡◌, ◌≤◌, ◌-◌, ◌++◌, drop, rules, ap, ◌∙◌, map, length, take, min, arith}
 use Rattle.std.proofs.lemmas.List.{map_push, take_rest}
 use Rattle.std.proofs.lemmas.Bool.Decides.{nat_tests}
 use Rattle.amqp_frame.specs.Frames.{Body, frame_of}

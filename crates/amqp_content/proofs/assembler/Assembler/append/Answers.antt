@@ -1,8 +1,7 @@
-use Rattle.std.proofs.Common.{◌≡◌, sym, ap, ◌∙◌, map}
-use Rattle.std.specs.Prelude.{option_map}
+use Rattle.std.proofs.Common.{sym, ap, ◌∙◌}
 use Rattle.amqp_content.specs.Stands.{kept_at}
-use Rattle.amqp_content.specs.Outcomes.{Assembling, pending_kept, entry_kept, with_bytes}
-use Rattle.amqp_content.proofs.Entries.{kept_at-map, writes_kept, writes_same, kept_of_map, nothing_kept, same_assembling, on_err}
+use Rattle.amqp_content.specs.Outcomes.{Assembling, with_bytes}
+use Rattle.amqp_content.proofs.Entries.{writes_kept, writes_same, kept_of_map, nothing_kept, same_assembling, on_err}
 use Rattle.amqp_content.proofs.assembler.Assembler.append.Goals as goal
 
 pub returns-in_default-clause-kept : goal.returns-in_default-clause-kept

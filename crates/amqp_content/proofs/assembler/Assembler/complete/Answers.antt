@@ -1,4 +1,4 @@
-use Rattle.std.proofs.Common.{sym, ap, ◌∙◌, subst, ◌≡◌, Some}
+use Rattle.std.proofs.Common.{sym, ap, ◌∙◌, subst}
 use Rattle.std.specs.Prelude.{option_map}
 use Rattle.amqp_content.specs.Stands.{kept_at}
 use Rattle.amqp_content.specs.Outcomes.{Assembling, IsHeadedThere, pending_kept, whole_kept}

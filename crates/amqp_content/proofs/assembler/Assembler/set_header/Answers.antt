@@ -1,10 +1,8 @@
-use Rattle.std.proofs.Common.{◌≡◌, sym, ap, ◌∙◌, map}
-use Rattle.std.specs.Prelude.{option_map}
-use Rattle.std.specs.BTreeMap.{BTreeMap}
+use Rattle.std.proofs.Common.{sym, ap, ◌∙◌}
 use Rattle.amqp_frame.specs.Frames.{header_of}
 use Rattle.amqp_content.specs.Stands.{kept_at}
-use Rattle.amqp_content.specs.Outcomes.{Assembling, pending_kept, entry_kept, with_header}
-use Rattle.amqp_content.proofs.Entries.{kept_at-map, writes_kept, kept_of_map, nothing_kept}
+use Rattle.amqp_content.specs.Outcomes.{Assembling, with_header}
+use Rattle.amqp_content.proofs.Entries.{writes_kept, kept_of_map, nothing_kept}
 use Rattle.amqp_content.proofs.assembler.Assembler.set_header.Goals as goal
 
 pub returns-in_default-clause-kept : goal.returns-in_default-clause-kept

@@ -1,4 +1,4 @@
-use Rattle.std.proofs.Common.{sym, ap, ◌∙◌, rules}
+use Rattle.std.proofs.Common.{rules}
 use Rattle.amqp_content.proofs.Tracking.{tracks_step}
 use Rattle.amqp_content.proofs.tracker.Tracker.track_outline.Goals as goal
 
