@@ -4,3 +4,4 @@ pub mod Sized
 pub mod SlotsSized
 pub mod Parts
 pub mod Standing
+pub mod EqualFrames

@@ -6,6 +6,7 @@ use Rattle.amqp_types.specs.declared.errors.ParserError.{ParserError}
 use Rattle.amqp_types.specs.declared.errors.ParserError.TheVariants as errors
 use Rattle.amqp_frame.specs.declared.frame_type.AMQPFrameType.{AMQPFrameType}
 use Rattle.amqp_frame.specs.declared.frame_type.AMQPFrameType.TheVariants as kinds
+use Rattle.amqp_frame.specs.declared.version.ProtocolVersion.{ProtocolVersion}
 use Rattle.amqp_frame.specs.Frames.{Frame, Raw}
 use Rattle.amqp_frame.specs.Verdicts.{whole}
 use Rattle.amqp_lent.specs.Payloads.{header_payload, method_payload}
@@ -41,3 +42,21 @@ IsFrame lent = (frame : Frame) × StandsFor lent frame
 abbrev pub Lends : Result LentFrame ParserError → Result Frame Fault → Type 0
 Lends (Ok lent) read = (frame : Frame) × (read ≡ Ok frame) × StandsFor lent frame
 Lends (Err error) read = (error ≢ errors.NoMemory) × RefusesWhole error read
+
+-- A borrowed frame as equality sees it: the numbers that it holds, and its borrowed bytes, wherever they lie.
+pub data LentParts : Type 0 where
+  protocol_header : (version : ProtocolVersion) → LentParts
+  method : (channel class id : ℕ) (slots : List ℕ) → LentParts
+  content_header : (channel class size : ℕ) (properties : List ℕ) → LentParts
+  body : (channel : ℕ) (content : List ℕ) → LentParts
+  heartbeat : LentParts
+  invalid_heartbeat : (channel : ℕ) → LentParts
+
+-- a borrowed frame in these words
+abbrev pub parts_of : LentFrame → LentParts
+parts_of (frames.ProtocolHeader version) = protocol_header version
+parts_of (frames.Method channel class id slots) = method channel class id slots.now
+parts_of (frames.Header channel class size properties) = content_header channel class size properties.now
+parts_of (frames.Body channel content) = body channel content.now
+parts_of frames.Heartbeat = heartbeat
+parts_of (frames.InvalidHeartbeat channel) = invalid_heartbeat channel

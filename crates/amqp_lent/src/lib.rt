@@ -21,7 +21,7 @@ mod value;
 mod writing;
 
 pub use codec::{LentCodec, canonicalize_lent};
-pub use equality::equal_lent_errors;
+pub use equality::{equal_lent_errors, equal_lent_frames};
 pub use errors::LentError;
 pub use frame::{LentFrame, lent_frame};
 pub use table::lent_table;
