@@ -49,7 +49,7 @@ fn tables_are_refused(rt: HostRuntime) {
     ];
     for (bytes, wanted) in rows {
         match lent_table(bytes) {
-            Ok(_) => assert!(rt; false, "{wanted} is not told"),
+            Ok(_) => assert!(rt; false, "{wanted} is not returned"),
             Err(error) => assert_eq!(rt; error, wanted),
         }
     }

@@ -14,8 +14,10 @@ ghost use Rattle.amqp_lent.specs.Payloads.{header_payload, method_payload};
 use crate::frame::LentFrame;
 use crate::payload_measuring::{size_header, size_method};
 use crate::payload_writing::{put_header, put_method};
-use amqp_frame::{frame_head, header_bytes, heartbeat_bytes, put_framed};
-use amqp_types::{ChannelId, GenError, Identifier, PayloadSize, put_bytes};
+use amqp_frame::{header_bytes, heartbeat_bytes, put_around, put_framed};
+use amqp_types::{
+    ChannelId, FRAME_BODY, FRAME_HEADER, FRAME_METHOD, GenError, Identifier, PayloadSize, put_bytes,
+};
 
 /// How many canonical bytes the frame has that a borrowed frame stands for.
 pub fn lent_size(frame: LentFrame<'_>) -> u64
@@ -43,54 +45,47 @@ pub fn lent_size(frame: LentFrame<'_>) -> u64
     }
 }
 
-/// Puts the frame of a method, which has so many canonical bytes, and returns the place after it.
+/// Puts the frame of a method, and returns the place after it.
 fn put_method_frame(
     buf: &mut [u8],
     channel: ChannelId,
     class: Identifier,
     id: Identifier,
     slots: &[u8],
-    size: u64,
 ) -> usize
     requires read { IsRead (judge_payload (method_payload class id slots.now)) }
     requires few { length (method_payload class id slots.now) < 2 ^ 32 }
-    requires counted { length (canonical_of payload_bytes (judge_payload (method_payload class id slots.now))) + 8 ≡ size }
     requires room { length (framed 1 channel (canonical_of payload_bytes (judge_payload (method_payload class id slots.now)))) ≤ length buf.old }
     ensures { Puts buf.old buf.new 0 (framed 1 channel (canonical_of payload_bytes (judge_payload (method_payload class id slots.now)))) result }
 {
-    let len = (size - 8) as u32;
-    let place = put_bytes(buf, 0, &frame_head(1, channel, len));
-    let end = put_method(buf, place, class, id, slots);
-    put_bytes(buf, end, &[206])
+    let end = put_method(buf, 7, class, id, slots);
+    put_around(buf, 0, end, FRAME_METHOD, channel)
 }
 
-/// Puts the frame of a content header, which has so many canonical bytes, and returns the place after it.
+/// Puts the frame of a content header, and returns the place after it.
 fn put_header_frame(
     buf: &mut [u8],
     channel: ChannelId,
     class: Identifier,
     body_size: PayloadSize,
     properties: &[u8],
-    size: u64,
 ) -> usize
     requires read { IsRead (judge_content_header (header_payload class body_size properties.now)) }
     requires few { length (header_payload class body_size properties.now) < 2 ^ 32 }
-    requires counted { length (canonical_of content_header_bytes (judge_content_header (header_payload class body_size properties.now))) + 8 ≡ size }
-    requires room { length (framed 2 channel (canonical_of content_header_bytes (judge_content_header (header_payload class body_size properties.now)))) ≤ length buf.old }
-    ensures { Puts buf.old buf.new 0 (framed 2 channel (canonical_of content_header_bytes (judge_content_header (header_payload class body_size properties.now)))) result }
+    requires room { length (framed 2 channel (canonical_of content_header_bytes (judge_content_header (header_payload class body_size properties.now))))
+        ≤ length buf.old }
+    ensures { Puts buf.old buf.new 0
+        (framed 2 channel (canonical_of content_header_bytes (judge_content_header (header_payload class body_size properties.now)))) result }
 {
-    let len = (size - 8) as u32;
-    let place = put_bytes(buf, 0, &frame_head(2, channel, len));
-    let end = put_header(buf, place, class, body_size, properties);
-    put_bytes(buf, end, &[206])
+    let end = put_header(buf, 7, class, body_size, properties);
+    put_around(buf, 0, end, FRAME_HEADER, channel)
 }
 
-/// Puts the canonical bytes, which are so many, at the front of a slice.
-fn put_lent(buf: &mut [u8], frame: LentFrame<'_>, size: u64) -> usize
+/// Puts the canonical bytes at the front of a slice, and returns the place after them.
+fn put_lent(buf: &mut [u8], frame: LentFrame<'_>) -> usize
     requires stands { IsFrame frame }
     requires few { length (payload_of frame) < 2 ^ 32 }
-    requires measured { (read : Frame) → StandsFor frame read → size ≡ length (canon read) }
-    requires room { size ≤ length buf.old }
+    requires room { (read : Frame) → StandsFor frame read → length (canon read) ≤ length buf.old }
     ensures { (read : Frame) → StandsFor frame.entry read → Puts buf.old buf.new 0 (canon read) result }
 {
     match frame {
@@ -99,14 +94,14 @@ fn put_lent(buf: &mut [u8], frame: LentFrame<'_>, size: u64) -> usize
             class_id,
             method_id,
             slots,
-        } => put_method_frame(buf, channel, class_id, method_id, slots, size),
+        } => put_method_frame(buf, channel, class_id, method_id, slots),
         LentFrame::Header {
             channel,
             class_id,
             body_size,
             properties,
-        } => put_header_frame(buf, channel, class_id, body_size, properties, size),
-        LentFrame::Body(channel, content) => put_framed(buf, 0, 3, channel, content),
+        } => put_header_frame(buf, channel, class_id, body_size, properties),
+        LentFrame::Body(channel, content) => put_framed(buf, 0, FRAME_BODY, channel, content),
         LentFrame::ProtocolHeader(version) => put_bytes(buf, 0, &header_bytes(version)),
         LentFrame::Heartbeat => put_bytes(buf, 0, &heartbeat_bytes(0)),
         LentFrame::InvalidHeartbeat(channel) => put_bytes(buf, 0, &heartbeat_bytes(channel)),
@@ -124,5 +119,5 @@ pub fn write_lent(buf: &mut [u8], frame: LentFrame<'_>) -> Result<usize, GenErro
     if size > buf.len() as u64 {
         return Err(GenError::BufferTooSmall);
     }
-    Ok(put_lent(buf, frame, size))
+    Ok(put_lent(buf, frame))
 }

@@ -1,8 +1,4 @@
 use Rattle.std.proofs.Common.{◌<◌, ◌^◌, length, ap, subst, ◌∙◌, arith}
-use Rattle.amqp_types.specs.Methods.{judge_payload, payload_bytes}
-use Rattle.amqp_types.specs.ContentHeaders.{judge_content_header, content_header_bytes}
-use Rattle.amqp_canonical.specs.Writes.{canonical_of}
-use Rattle.amqp_frame.proofs.Sizes.{framed_length}
 use Rattle.amqp_lent.specs.declared.frame.LentFrame.{LentFrame}
 use Rattle.amqp_lent.specs.Frames.{StandsFor, payload_of}
 use Rattle.amqp_lent.specs.Payloads.{header_payload, method_payload}
@@ -16,10 +12,9 @@ put_method_frame-requires c =
     let Q : LentFrame → Type 0 = λ f. length (payload_of f) < 2 ^ 32 in
     let here = subst P c.in-Method.is c.requires.stands.1 in
     let few = subst Q c.in-Method.is c.requires.few in
-    let size = c.requires.measured c.requires.stands.0 c.requires.stands.1 in
+    let room = c.requires.room c.requires.stands.0 c.requires.stands.1 in
     let one = method_canon c.in-Method.channel (method_payload c.in-Method.class_id c.in-Method.method_id c.in-Method.slots.now) c.requires.stands.0 here in
-    let count = framed_length 1 c.in-Method.channel (canonical_of payload_bytes (judge_payload (method_payload c.in-Method.class_id c.in-Method.method_id c.in-Method.slots.now))) in
-    record { read = one.0; few = few; counted = omega (arith, count, size, ap length one.1); room = omega (arith, size, ap length one.1, c.requires.room) }
+    record { read = one.0; few = few; room = omega (arith, room, ap length one.1) }
 
 pub put_header_frame-requires : goal.put_header_frame-requires
 put_header_frame-requires c =
@@ -27,10 +22,9 @@ put_header_frame-requires c =
     let Q : LentFrame → Type 0 = λ f. length (payload_of f) < 2 ^ 32 in
     let here = subst P c.in-Header.is c.requires.stands.1 in
     let few = subst Q c.in-Header.is c.requires.few in
-    let size = c.requires.measured c.requires.stands.0 c.requires.stands.1 in
+    let room = c.requires.room c.requires.stands.0 c.requires.stands.1 in
     let one = header_canon c.in-Header.channel (header_payload c.in-Header.class_id c.in-Header.body_size c.in-Header.properties.now) c.requires.stands.0 here in
-    let count = framed_length 2 c.in-Header.channel (canonical_of content_header_bytes (judge_content_header (header_payload c.in-Header.class_id c.in-Header.body_size c.in-Header.properties.now))) in
-    record { read = one.0; few = few; counted = omega (arith, count, size, ap length one.1); room = omega (arith, size, ap length one.1, c.requires.room) }
+    record { read = one.0; few = few; room = omega (arith, room, ap length one.1) }
 
 pub put_framed-requires : goal.put_framed-requires
 put_framed-requires c =
@@ -38,40 +32,34 @@ put_framed-requires c =
     let Q : LentFrame → Type 0 = λ f. length (payload_of f) < 2 ^ 32 in
     let here = subst P c.in-Body.is c.requires.stands.1 in
     let few = subst Q c.in-Body.is c.requires.few in
-    let size = c.requires.measured c.requires.stands.0 c.requires.stands.1 in
+    let room = c.requires.room c.requires.stands.0 c.requires.stands.1 in
     let one = body_canon c.in-Body.channel c.in-Body.content.now c.requires.stands.0 here in
-    record { short = few; room = omega (arith, size, ap length one, c.requires.room) }
+    record { short = few; room = omega (arith, room, ap length one) }
 
 pub put_bytes-requires : goal.put_bytes-requires
 put_bytes-requires c =
     let P : LentFrame → Type 0 = λ f. StandsFor f c.requires.stands.0 in
-    let Q : LentFrame → Type 0 = λ f. length (payload_of f) < 2 ^ 32 in
     let here = subst P c.in-ProtocolHeader.is c.requires.stands.1 in
-    let few = subst Q c.in-ProtocolHeader.is c.requires.few in
-    let size = c.requires.measured c.requires.stands.0 c.requires.stands.1 in
+    let room = c.requires.room c.requires.stands.0 c.requires.stands.1 in
     let v = c.in-ProtocolHeader.version in
     let one = version_canon 0 v.major v.minor v.revision c.requires.stands.0 here in
-    record { room = omega (arith, size, ap length one, ap length c.header_bytes.ensures, c.requires.room) }
+    record { room = omega (arith, room, ap length one, ap length c.header_bytes.ensures) }
 
 pub put_bytes-requires-in-Heartbeat : goal.put_bytes-requires-in-Heartbeat
 put_bytes-requires-in-Heartbeat c =
     let P : LentFrame → Type 0 = λ f. StandsFor f c.requires.stands.0 in
-    let Q : LentFrame → Type 0 = λ f. length (payload_of f) < 2 ^ 32 in
     let here = subst P c.in-Heartbeat.is c.requires.stands.1 in
-    let few = subst Q c.in-Heartbeat.is c.requires.few in
-    let size = c.requires.measured c.requires.stands.0 c.requires.stands.1 in
+    let room = c.requires.room c.requires.stands.0 c.requires.stands.1 in
     let one = beat_canon 0 c.requires.stands.0 here in
-    record { room = omega (arith, size, ap length one, ap length c.heartbeat_bytes.ensures, c.requires.room) }
+    record { room = omega (arith, room, ap length one, ap length c.heartbeat_bytes.ensures) }
 
 pub put_bytes-requires-in-InvalidHeartbeat : goal.put_bytes-requires-in-InvalidHeartbeat
 put_bytes-requires-in-InvalidHeartbeat c =
     let P : LentFrame → Type 0 = λ f. StandsFor f c.requires.stands.0 in
-    let Q : LentFrame → Type 0 = λ f. length (payload_of f) < 2 ^ 32 in
     let here = subst P c.in-InvalidHeartbeat.is c.requires.stands.1 in
-    let few = subst Q c.in-InvalidHeartbeat.is c.requires.few in
-    let size = c.requires.measured c.requires.stands.0 c.requires.stands.1 in
+    let room = c.requires.room c.requires.stands.0 c.requires.stands.1 in
     let one = beat_canon c.in-InvalidHeartbeat.channel c.requires.stands.0 here in
-    record { room = omega (arith, size, ap length one, ap length c.heartbeat_bytes-in-InvalidHeartbeat.ensures, c.requires.room) }
+    record { room = omega (arith, room, ap length one, ap length c.heartbeat_bytes-in-InvalidHeartbeat.ensures) }
 
 pub returns-in-Method : goal.returns-in-Method
 returns-in-Method c = λ read stands.

@@ -3,7 +3,7 @@ use Rattle.amqp_frame.specs.Canonical.{canon}
 use Rattle.amqp_lent.proofs.writing.write_lent.Goals as goal
 
 pub put_lent-requires : goal.put_lent-requires
-put_lent-requires c = record { stands = c.requires.stands; few = c.requires.few; measured = c.lent_size-size.ensures; room = omega arith }
+put_lent-requires c = record { stands = c.requires.stands; few = c.requires.few; room = λ read stands. omega (arith, c.lent_size-size.ensures read stands) }
 
 pub returns-then-size-buf : goal.returns-then-size-buf
 returns-then-size-buf c = λ read stands. (refl, omega (arith, c.lent_size-size.ensures read stands), refl)
