@@ -116,7 +116,7 @@ UnlessStoppedRecut (Err (errors.BadContent fault)) So = So
 UnlessStoppedRecut (Err errors.OpenContent) So = So
 UnlessStoppedRecut (Err (errors.Stream error)) So = UnlessStopped (cause_of error) So
 
--- what a call answers over a source that tells its bytes
+-- what a call returns over a source that reports its bytes
 pub record RecutsExactly (m size : ℕ) (bytes : List ℕ) (k l : Store) (result : Result (Unit {0}) RecutError) : Type 0 where
   pub written : List ℕ
   pub gains : Gains k l written

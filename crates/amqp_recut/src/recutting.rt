@@ -43,7 +43,7 @@ pub fn recut<S: Source, K: Sink>(
     ensures never_too_large { result ≢ Err (RecutError.BadContent ContentFault.BodyTooLarge) }
     ensures never_faulted { result ≢ Err (RecutError.BadContent ContentFault.Faulted) }
 
-    // Over a source that tells its bytes, the answer is by all of them, however they are cut.
+    // Over a source that reports its bytes, the result depends on them alone, however they are cut.
     ensures exact { (bytes : List ℕ) → (S.supply source.old).left ≡ Some bytes
         → RecutsExactly max_payload size bytes (K.store sink.old) (K.store sink.new) result }
     ensures complete { (bytes : List ℕ) → (S.supply source.old).left ≡ Some bytes
