@@ -1,5 +1,5 @@
-use Rattle.std.proofs.Common.{length, take, refl, sym, ap, subst, ◌∙◌, Ok, Err, arith}
-use Rattle.std.proofs.lemmas.List.{take_at, length-append}
+use Rattle.std.proofs.Common.{length, take, sym, ap, ◌∙◌, Ok, Err}
+use Rattle.std.proofs.lemmas.List.{take_at}
 use Rattle.amqp_frame.specs.Frames.{raw_of}
 use Rattle.amqp_frame.specs.Canonical.{canon}
 use Rattle.amqp_frame.specs.Judgements.{IsPayloadFault}
