@@ -33,13 +33,13 @@ encoded {level = level} x =
 are_bytes : {level : Level} {text written : List ℕ} {b : Supply} (x : AcceptsHex level text written b) → IsBytes (canon_of level max_payload x.bytes)
 are_bytes {level = level} {text = text} {written = written} {b = b} x =
     canonical_bytes (Some max_payload) x.bytes (frames_in level text written b x) (decode_of-ok (strip_last 10 text) x.bytes x.decoded).3
-      (at_plain level (Some max_payload) x.bytes (frames_in level text written b x) (encoded x))
+    (at_plain level (Some max_payload) x.bytes (frames_in level text written b x) (encoded x))
 
 pub equal_output : EqualOutputIsEqualFrames
 equal_output level text other written output b c one two =
     let same = same_frames level (Some max_payload) one.bytes two.bytes (frames_in level text written b one) (frames_in level other output c two) (encoded one) (encoded two) in
-    let lines : List ℕ → List ℕ = λ bytes. encode_lower bytes ++ 10 ∷ [] in
-    ( (λ e. same.0 (equal_hex (canon_of level max_payload one.bytes) (canon_of level max_payload two.bytes) (are_bytes one) (are_bytes two)
-        (append_cancel_right (encode_lower (canon_of level max_payload one.bytes)) (encode_lower (canon_of level max_payload two.bytes)) (10 ∷ []) (sym one.canonical ∙ e ∙ two.canonical))))
-    , (λ e. one.canonical ∙ ap lines (same.1 e) ∙ sym two.canonical)
+    let lines : List ℕ → List ℕ = λ bytes. encode_lower bytes ++ 10 ∷ [] in (
+      (λ e. same.0 (equal_hex (canon_of level max_payload one.bytes) (canon_of level max_payload two.bytes) (are_bytes one) (are_bytes two)
+          (append_cancel_right (encode_lower (canon_of level max_payload one.bytes)) (encode_lower (canon_of level max_payload two.bytes)) (10 ∷ []) (sym one.canonical ∙ e ∙ two.canonical)))),
+      (λ e. one.canonical ∙ ap lines (same.1 e) ∙ sym two.canonical),
     )
