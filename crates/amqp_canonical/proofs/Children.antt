@@ -25,7 +25,7 @@ use Rattle.std.specs.declared.cmp.Ordering.{Ordering}
 use Rattle.std.specs.declared.cmp.Ordering.TheVariants.{Less, Equal, Greater}
 use Rattle.amqp_canonical.specs.Judgements.{IsAbove, IsBelow, AreCanonicalValues, AreCanonicalEntries, Fills}
 
--- ---- the values up to a place, and what is told of them
+-- ---- the values up to a place, and what is said of them
 pub record ValuesTo (room : ℕ) (content : List ℕ) (at : ℕ) (canonical : Bool) : Type 0 where
   pub things : List FieldValue
   pub rest : after things (filled (judge_value room) 0 (drop at content)) ≡ filled (judge_value room) 0 content
@@ -36,7 +36,7 @@ pub record ValuesTo (room : ℕ) (content : List ℕ) (at : ℕ) (canonical : Bo
 abbrev pub IsLast : ℕ → List ℕ → List Entry → Type 0
 IsLast at previous things = ((at ≡ 0) × (things ≡ [])) ⊎ ((0 < at) × (es : List Entry) × (v : FieldValue) × (things ≡ es ++ (previous, v) ∷ []))
 
--- the entries up to a place, and what is told of them
+-- the entries up to a place, and what is said of them
 pub record EntriesTo (room : ℕ) (content : List ℕ) (at : ℕ) (previous : List ℕ) (canonical : Bool) : Type 0 where
   pub things : List Entry
   pub rest : after things (filled (judge_entry (judge_value room)) 0 (drop at content)) ≡ filled (judge_entry (judge_value room)) 0 content
@@ -238,7 +238,7 @@ entries_end room content at previous canonical long h =
     let P : List ℕ → Type 0 = λ bs. IsTrue canonical ↔ AreCanonicalEntries bs h.things in
     record { thing = h.things; is = ends (judge_entry (judge_value room)) (λ xs. h.things ++ xs) at content _ long h.rest ∙ ap Ok (append-nil h.things); told = subst P (take_all content at long) h.told }
 
--- where the entries before are not canonical, it is not told whether the key comes after
+-- where the entries before are not canonical, it is not said whether the key comes after
 is_less : Ordering → Bool
 is_less Less = true
 is_less Equal = false

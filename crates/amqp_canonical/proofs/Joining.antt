@@ -101,7 +101,7 @@ after_none (Err e) = refl
 -- ---- many things, one after another
 
 module _ {X A R : Type 0} (one : X → Judge A) (One : X → Level → List ℕ → A → Type 0) (all : List X → Judge R) (All : List X → Level → List ℕ → R → Type 0) where
-  -- what is returned of the rest tells what is returned of all
+  -- what is returned of the rest says what is returned of all
   pub record IsReached (xs : List X) (bytes : List ℕ) (k at : ℕ) (canonical so_far : Bool) : Type 0 where
     pub onward : (r : Result Judgement ParserError) → JudgesLevels (All (drop k xs)) (drop at bytes) r (all (drop k xs) (drop at bytes)) → JudgesLevels (All xs) bytes (after_others at canonical so_far r) (all xs bytes)
 

@@ -39,7 +39,7 @@ use Rattle.amqp_canonical.proofs.ReadParts.{took_of, is_read}
 number_count : (width : NumberWidth) (bytes : List ℕ) (x n : ℕ) → judge_number width bytes ≡ took x n → n ≡ byte_count width
 number_count width bytes x n h = let long = guard_took (nat_lt (length bytes) (byte_count width)) _ x n h in sym (count_took _ x (byte_count width) n long.1)
 
--- a number of 2 bytes that is told rightly
+-- a number of 2 bytes that is reported rightly
 abbrev pub IsShortAt : List ℕ → ℕ → Type 0
 IsShortAt bytes x = IsRead (judge_number bytes2 bytes) → judge_number bytes2 bytes ≡ took x 2
 

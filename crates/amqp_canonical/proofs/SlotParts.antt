@@ -283,7 +283,7 @@ slot_read shapes.ReservedLongString bytes h = (reserved_read long_string_form by
 
 -- ---- fields one after another
 
--- the items of the first field are told from the others by their number
+-- the items of the first field are parted from the others by their number
 both_bytes : (slot : Slot) (slots : List Slot) (bytes : List ℕ) (xs ys : List Item) (n : ℕ) → IsBytes bytes → judge_slot slot bytes ≡ took xs n → slots_bytes (slot ∷ slots) (xs ++ ys) ≡ slot_bytes slot xs ++ slots_bytes slots ys
 unfolding slots_bytes judge_dropped
 both_bytes (kept_slot form) slots bytes xs ys n fits is =

@@ -1,4 +1,4 @@
--- The test of whole frames tells what is tidy.
+-- The test of whole frames says what is tidy.
 use Rattle.std.proofs.Common.{◌≡◌, ◌≢◌, ◌↔◌, ℕ, ◌^◌, ◌<◌, true, List, [], ◌∷◌, length, None, Ok, refl, sym, ap, subst, ◌∙◌}
 use Rattle.amqp_types.specs.Levels.{tidy}
 use Rattle.amqp_types.specs.Judging.{took, IsBytes}

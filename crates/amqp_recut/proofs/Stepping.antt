@@ -189,7 +189,7 @@ pub beat_is_outside : IsOutsideType kinds.Heartbeat
 unfolding IsOutsideType
 beat_is_outside = tt
 
--- ---- what is answered
+-- ---- what is returned
 
 pub refused_as : (s : Recutter) (raw : Raw) (bad : ContentFault) (ending : Ending Refusal) (a : Store) (x y : List ℕ) → y ≡ x → ((frame : Frame) → whole raw ≡ Ok frame → step_recutting s frame ≡ Err (refusals.BadContent bad)) → Refuses raw bad ending → WritesBy recutting s s raw a a x y ending
 refused_as s raw bad (refused_by (refusals.BadContent other)) a x y same steps h =

@@ -40,7 +40,7 @@ use Rattle.amqp_recut.proofs.Holding.{none_held, some_held}
 use Rattle.amqp_recut.proofs.Channels.{held_of_state}
 use Rattle.amqp_recut.proofs.Running.{StandsFor, Ends, all, fault, Ran, runs, longest_ran, none_lost, lost_later}
 
--- ---- answers
+-- ---- results
 
 none_is_some : (why : Refusal) → None ≡ Some why → ⊥
 none_is_some why e = cc
@@ -81,7 +81,7 @@ error_by out_of_memory = streams.NoMemory
 error_by-cause : (error : StreamError) → error_by (cause_of error) ≡ error
 error_by-cause error = grind arith
 
--- an ending as an answer
+-- an ending as a result
 abbrev recut_ending : Ending Refusal → Result (Unit {0}) RecutError
 recut_ending finished = Ok tt
 recut_ending (refused_by (refusals.BadContent bad)) = Err (errors.BadContent bad)
@@ -344,7 +344,7 @@ fresh size s t m turns a b k l (Err (runs_end.Refused (refusals.BadContent worse
     subst (λ (f : ContentFault). (f ≢ faults.BodyTooLarge) × (f ≢ faults.Faulted)) same (fresh_run size s t m turns a b k l worse some new run)
 fresh size s t m turns a b k l (Err (runs_end.Refused (refusals.BadContent worse))) bad some new (inr h) e = let other = h.no_memory in absurd cc
 
--- ---- the answer by all of the bytes
+-- ---- the result by all of the bytes
 
 answered_end : (size m : ℕ) (bytes : List ℕ) (front : List Frame) (t : Recutter) (end : Option Refusal) (answer : Result (Unit {0}) StreamError) → end_recutting t ≡ end → answer_to plain m bytes ≡ answer → front ≡ frames_at m bytes → StandsFor size t front → IsAnsweredTo m bytes front (recut_ending (answer_at_end end answer))
 answered_end size m bytes front t None (Ok done) e is whole h = (whole, is, ended_none size t front h e)

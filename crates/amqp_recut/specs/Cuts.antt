@@ -17,7 +17,7 @@ cut_end size n k = min ((k + 1) * size) n
 abbrev pub is_reached : (size n p q k : ℕ) → Bool
 is_reached size n p q k = nat_lt p (cut_end size n k) && nat_le (cut_end size n k) q
 
--- the cuts of a body of n bytes that end there, in rising order
+-- the cuts of a body of n bytes that end there, in ascending order
 abbrev pub cuts_reached : (size n p q : ℕ) → List ℕ
 cuts_reached size n p q = filter (is_reached size n p q) (range_with_len 0 (piece_count size n))
 

@@ -53,7 +53,7 @@ IsAllInTurn all frames write_failed = Unit {0}
 IsAllInTurn all frames out_of_memory = Unit {0}
 IsAllInTurn all frames cause = frames ≡ all
 
--- When each answer comes. `frames` is the longest prefix in turn of the frames at the front of the bytes taken.
+-- When each result comes. `frames` is the longest prefix in turn of the frames at the front of the bytes taken.
 abbrev pub HasCauseRecut : ℕ → ℕ → ℕ → List ℕ → List ℕ → List Frame → Supply → Supply → Store → Store → Result (Unit {0}) RecutError → Type 0
 HasCauseRecut m size turns taken written frames a b k l (Ok done) = IsRow plain m taken × IsEmpty b.left × (frames ≡ frames_at m taken) × NoneIsOpen frames
 HasCauseRecut m size turns taken written frames a b k l (Err (errors.BadContent fault)) = IsNextFault (frames_at m taken) frames fault
@@ -95,7 +95,7 @@ pub record NeverBegan (a b : Supply) (k l : Store) (result : Result (Unit {0}) R
   pub source : b ≡ a
   pub sink : l ≡ k
 
--- What is answered to all the bytes of a source: the fault of the first frame that is not in turn, or else what their place has; and at their end, whether content is open.
+-- What is returned for all the bytes of a source: the fault of the first frame that is not in turn, or else what their place has; and at their end, whether content is open.
 abbrev pub IsAnsweredTo : ℕ → List ℕ → List Frame → Result (Unit {0}) RecutError → Type 0
 IsAnsweredTo m bytes frames (Ok done) = (frames ≡ frames_at m bytes) × (answer_to plain m bytes ≡ Ok tt) × NoneIsOpen frames
 IsAnsweredTo m bytes frames (Err (errors.BadContent fault)) = IsNextFault (frames_at m bytes) frames fault

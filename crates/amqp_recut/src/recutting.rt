@@ -13,7 +13,7 @@ use amqp_stream::{RunError, Sink, Source, StreamError, run_stream};
 use amqp_types::ChunkSize;
 use std::alloc::Global;
 
-/// The answer of a run, as one of recutting.
+/// What a run returns, as recutting returns it.
 fn as_recut(answer: Result<(), RunError<Refusal>>) -> Result<(), RecutError>
     ensures { result ≡ as_recut answer }
 {

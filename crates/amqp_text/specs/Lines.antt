@@ -22,7 +22,7 @@ method_words m = spaced m.class ++ (codes "." ++ (decimal m.id ++ slots_text (un
 unfoldable pub header_words : ContentHeader → List ℕ
 header_words header = spaced header.class_id ++ (spaced header.body_size ++ set_text properties header.options)
 
--- A heartbeat on a channel where none belongs tells that channel; on channel 0 it is a heartbeat.
+-- A heartbeat on a channel where none belongs names that channel; on channel 0 it is a heartbeat.
 abbrev pub beat_words : ℕ → List ℕ
 beat_words channel = if channel == 0 then [] else spaced channel
 

@@ -1,4 +1,4 @@
--- Frames by their outline and canonical payload, and what the fields in a payload are told as.
+-- Frames by their outline and canonical payload, and what the fields in a payload are as text.
 use Rattle.std.specs.Prelude.{◌≡◌, ℕ, List, [], ◌∷◌, ◌++◌, drop, codes, unwrap_or}
 use Rattle.std.specs.Fmt.{decimal}
 use Rattle.amqp_types.specs.Levels.{strict}

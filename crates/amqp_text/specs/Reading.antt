@@ -1,4 +1,4 @@
--- How words are read back, from the left: the bytes that a text stands for, and the text after it. More is read than words: a text that is not how its bytes are told is refused by comparing both.
+-- How words are read back, from the left: the bytes that a text stands for, and the text after it. More is read than words: a text that is not the one of its bytes is refused by comparing both.
 use Rattle.std.specs.Prelude.{◌≡◌, ℕ, zero, suc, ◌+◌, ◌-◌, ◌*◌, ◌%◌, ◌^◌, ◌==◌, nat_lt, nat_le, ◌&&◌, ◌||◌, List, [], ◌∷◌, ◌++◌, length, drop, codes, Bool, false, Option, Some, None, Result, Ok, Err, if◌then◌else◌}
 use Rattle.amqp_types.specs.Numbers.{NumberWidth, bytes1, bytes2, bytes4, bytes8, number_limit, number_bytes}
 use Rattle.amqp_types.specs.Booleans.{boolean_bytes}
@@ -202,7 +202,7 @@ read_form short_string_form = read_short_string
 read_form long_string_form = read_long_string
 read_form table_form = read_table (read_value 63)
 
--- a word after a space, or the constant of a reserved slot, which is not told
+-- a word after a space, or the constant of a reserved field, which is not written
 unfoldable pub read_slot : Slot → Reader (List ℕ)
 read_slot (kept_slot form) text = read_form form (drop 1 text)
 read_slot (reserved_slot form constant) text = Some (form_bytes form constant, text)
@@ -228,7 +228,7 @@ unfoldable pub read_option : Property → Option (List ℕ) → List ℕ → Rea
 read_option p None text = Some ((0, []), text)
 read_option p (Some after) text = read_form p.form after >>= λ x. Some ((2 ^ p.bit % 2 ^ 16, x.0), x.1)
 
--- the mask and the bytes of the properties that are told
+-- the mask and the bytes of the properties that are there
 unfoldable pub read_set : List Property → Reader (ℕ × List ℕ)
 read_set [] text = Some ((0, []), text)
 read_set (p ∷ ps) text = read_option p (strip (named p.bit) text) text >>= λ one. read_set ps one.1 >>= λ others. Some (((one.0.0 + others.0.0) % 2 ^ 16, one.0.1 ++ others.0.1), others.1)

@@ -40,7 +40,7 @@ read_method text = read_id text >>= λ class. read_method_of class.0 class.1
 unfoldable pub read_header : Reader (List ℕ)
 read_header text = read_slots header_slots text >>= λ front. read_properties front.1 >>= λ set. Some (front.0 ++ set.0, set.1)
 
--- the channel of a heartbeat, which is 0 where none is told
+-- the channel of a heartbeat, which is 0 where none is named
 unfoldable pub read_beat : Reader ℕ
 read_beat [] = Some (0, [])
 read_beat (c ∷ cs) = read_id (c ∷ cs)
@@ -60,7 +60,7 @@ abbrev pub by_word : Option (List ℕ) → (List ℕ → Option Raw) → Option 
 by_word None read otherwise = otherwise
 by_word (Some after) read otherwise = read after
 
--- what the words of a line tell of a frame
+-- what the words of a line say of a frame
 unfoldable pub read_words : List ℕ → Option Raw
 read_words text =
     by_word (strip (codes "method") text) (λ after. on_channel kinds.Method read_method (read_id after)) (

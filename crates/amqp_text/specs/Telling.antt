@@ -1,4 +1,4 @@
--- How text is told from canonical bytes, from the left: what the bytes at the front are as text, and how many they are. Entries of tables are told as they stand.
+-- How canonical bytes become text, from the left: what the bytes at the front are as text, and how many they are. Entries of tables become text as they stand.
 use Rattle.std.specs.Prelude.{◌≡◌, ℕ, zero, suc, ◌+◌, List, [], ◌∷◌, ◌++◌, drop, codes, Bool, true, false, Option, Some, None, Result, Ok, Err}
 use Rattle.std.specs.Fmt.{decimal, signed_decimal}
 use Rattle.amqp_canonical.specs.Writes.{IsRead}
@@ -40,7 +40,7 @@ told_signed width = judge_map signed_decimal (judge_signed width)
 abbrev pub told_number : NumberWidth → Judge (List ℕ)
 told_number width = judge_map decimal (judge_number width)
 
--- the value after a tag; `nested` tells a value one level deeper, where there is room for one
+-- the value after a tag; `nested` is the text of a value one level deeper, where there is room for one
 unfoldable pub told_behind : Option (Judge (List ℕ)) → FieldTag → Judge (List ℕ)
 told_behind nested tag.Boolean bytes = judge_map truth_text judge_boolean bytes
 told_behind nested tag.ShortShortInt bytes = told_signed bytes1 bytes
@@ -70,7 +70,7 @@ unfoldable pub told_tagged : Option (Judge (List ℕ)) → Judge (List ℕ)
 told_tagged nested [] = past
 told_tagged nested (byte ∷ bytes) = told_after nested (tag_at byte) bytes
 
--- how a value one level deeper is told, where there is room for so many more levels
+-- the text of a value one level deeper, where there is room for so many more levels
 unfoldable pub told_nested : ℕ → Option (Judge (List ℕ))
 told_nested zero = None
 told_nested (suc room) = Some (told_tagged (told_nested room))
@@ -121,7 +121,7 @@ told_properties bytes = do
 
 -- ---- what a call writes
 
--- What is told is after what stood there, and it is so many bytes. (Where nothing can be told, or memory runs out, nothing is said.)
+-- The text comes after what stood there, and it is so many bytes. (Where there is no text, or memory runs out, nothing is said.)
 abbrev pub Tells : Judged (List ℕ) → List ℕ → List ℕ → Result ℕ NoMemory → Type 0
 Tells (took text used) old new (Ok n) = (n ≡ used) × (new ≡ old ++ text)
 Tells told old new result = Unit {0}

@@ -128,7 +128,7 @@ fn write_body(out: &mut Vec<u8>, channel_id: ChannelId, payload: &[u8]) -> Resul
     write_hex(out, payload)
 }
 
-/// A heartbeat, which tells the channel where none belongs.
+/// A heartbeat, which names the channel where none belongs.
 fn write_beat(out: &mut Vec<u8>, channel_id: ChannelId) -> Result<(), NoMemory>
     ensures { Writes out.old.items out.new.items (codes "beat" ++ beat_words channel_id) result }
 {

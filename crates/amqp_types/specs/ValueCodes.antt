@@ -1,4 +1,4 @@
--- Values as trees of numbers, by which proofs tell two values apart.
+-- Values as trees of numbers, by which proofs distinguish two values.
 use Rattle.std.specs.Prelude.{◌≡◌, ℕ, pos, negsuc, ◌==◌, List, [], ◌∷◌, true, false, if◌then◌else◌, refl}
 use Rattle.std.specs.Coded.{Coded, code_by}
 use base.Stored.{Gv, gnil, gnum, gcons, num}

@@ -39,7 +39,7 @@ impl ShortString {
     pub fn new(alloc: Global, text: &str) -> Result<ShortString, MakeError>
         ensures ok { IfOk result (λ string. string ≡ text.now) }
         ensures fits { OnOk result (length text.now ≤ 255) }
-        ensures too_long { result ≡ Err MakeError.TooLong → 255 < length text.now }
+        ensures too_long { result ≡ Err MakeError.TooLong ↔ 255 < length text.now }
     {
         if text.len() > 255 {
             return Err(MakeError::TooLong);

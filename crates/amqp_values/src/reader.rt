@@ -1,6 +1,6 @@
 //! Decoding the fields of one container, one after another.
 
-ghost use Rattle.std.specs.Prelude.{◌≡◌, ◌≤◌, ◌-◌, [], ◌∷◌, length, map};
+ghost use Rattle.std.specs.Prelude.{◌≡◌, ◌≤◌, ◌-◌, [], ◌∷◌, length, map, OnErr};
 ghost use Rattle.amqp_types.specs.Numbers.{bytes1, bytes2, bytes4, bytes8};
 ghost use Rattle.amqp_types.specs.Flags.{flags_from};
 ghost use Rattle.amqp_types.specs.Slots.{number_item, flag_item, text_item, bytes_item, entries_item, number_form, flags_form, short_string_form, long_string_form, table_form};
@@ -44,6 +44,7 @@ impl<'a> SlotReader<'a> {
     pub fn short_short_uint(&mut self) -> Result<ShortShortUInt, ParserError>
         ensures step { Steps (λ n. number_item n ∷ []) result self.old.rest.now self.new.rest.now (judge_form (number_form bytes1)) }
         ensures left { length self.new.rest.now ≤ length self.old.rest.now }
+        ensures stays { OnErr result (self.new.rest.now ≡ self.old.rest.now) }
         ensures memory { NeedsNoMemory result }
     {
         let (n, value) = parse_short_short_uint(self.rest)?;
@@ -56,6 +57,7 @@ impl<'a> SlotReader<'a> {
     pub fn short_uint(&mut self) -> Result<ShortUInt, ParserError>
         ensures step { Steps (λ n. number_item n ∷ []) result self.old.rest.now self.new.rest.now (judge_form (number_form bytes2)) }
         ensures left { length self.new.rest.now ≤ length self.old.rest.now }
+        ensures stays { OnErr result (self.new.rest.now ≡ self.old.rest.now) }
         ensures memory { NeedsNoMemory result }
     {
         let (n, value) = parse_short_uint(self.rest)?;
@@ -68,6 +70,7 @@ impl<'a> SlotReader<'a> {
     pub fn long_uint(&mut self) -> Result<LongUInt, ParserError>
         ensures step { Steps (λ n. number_item n ∷ []) result self.old.rest.now self.new.rest.now (judge_form (number_form bytes4)) }
         ensures left { length self.new.rest.now ≤ length self.old.rest.now }
+        ensures stays { OnErr result (self.new.rest.now ≡ self.old.rest.now) }
         ensures memory { NeedsNoMemory result }
     {
         let (n, value) = parse_long_uint(self.rest)?;
@@ -80,6 +83,7 @@ impl<'a> SlotReader<'a> {
     pub fn long_long_uint(&mut self) -> Result<LongLongUInt, ParserError>
         ensures step { Steps (λ n. number_item n ∷ []) result self.old.rest.now self.new.rest.now (judge_form (number_form bytes8)) }
         ensures left { length self.new.rest.now ≤ length self.old.rest.now }
+        ensures stays { OnErr result (self.new.rest.now ≡ self.old.rest.now) }
         ensures memory { NeedsNoMemory result }
     {
         let (n, value) = parse_long_long_uint(self.rest)?;
@@ -92,6 +96,7 @@ impl<'a> SlotReader<'a> {
     pub fn flags<const N: usize>(&mut self) -> Result<ShortShortUInt, ParserError>
         ensures step { Steps (λ byte. map flag_item (flags_from N 0 byte)) result self.old.rest.now self.new.rest.now (judge_form (flags_form N)) }
         ensures left { length self.new.rest.now ≤ length self.old.rest.now }
+        ensures stays { OnErr result (self.new.rest.now ≡ self.old.rest.now) }
         ensures memory { NeedsNoMemory result }
     {
         let (n, value) = parse_short_short_uint(self.rest)?;
@@ -104,6 +109,7 @@ impl<'a> SlotReader<'a> {
     pub fn short_string(&mut self, alloc: Global) -> Result<ShortString, ParserError>
         ensures step { Steps (λ text. text_item text ∷ []) result self.old.rest.now self.new.rest.now (judge_form short_string_form) }
         ensures left { length self.new.rest.now ≤ length self.old.rest.now }
+        ensures stays { OnErr result (self.new.rest.now ≡ self.old.rest.now) }
     {
         let (n, value) = parse_short_string(alloc, self.rest)?;
         self.rest = &self.rest[n..];
@@ -115,6 +121,7 @@ impl<'a> SlotReader<'a> {
     pub fn long_string(&mut self, alloc: Global) -> Result<LongString, ParserError>
         ensures step { Steps (λ bytes. bytes_item bytes ∷ []) result self.old.rest.now self.new.rest.now (judge_form long_string_form) }
         ensures left { length self.new.rest.now ≤ length self.old.rest.now }
+        ensures stays { OnErr result (self.new.rest.now ≡ self.old.rest.now) }
     {
         let (n, value) = parse_long_string(alloc, self.rest)?;
         self.rest = &self.rest[n..];
@@ -126,6 +133,7 @@ impl<'a> SlotReader<'a> {
     pub fn table(&mut self, alloc: Global) -> Result<FieldTable, ParserError>
         ensures step { Steps (λ es. entries_item es ∷ []) result self.old.rest.now self.new.rest.now (judge_form table_form) }
         ensures left { length self.new.rest.now ≤ length self.old.rest.now }
+        ensures stays { OnErr result (self.new.rest.now ≡ self.old.rest.now) }
     {
         let (n, value) = parse_field_table(alloc, self.rest)?;
         self.rest = &self.rest[n..];
@@ -137,6 +145,7 @@ impl<'a> SlotReader<'a> {
     pub fn skip_short_uint(&mut self) -> Result<(), ParserError>
         ensures step { Steps (λ _. []) result self.old.rest.now self.new.rest.now (judge_dropped (number_form bytes2)) }
         ensures left { length self.new.rest.now ≤ length self.old.rest.now }
+        ensures stays { OnErr result (self.new.rest.now ≡ self.old.rest.now) }
         ensures memory { NeedsNoMemory result }
     {
         let (n, _) = parse_short_uint(self.rest)?;
@@ -149,6 +158,7 @@ impl<'a> SlotReader<'a> {
     pub fn skip_long_uint(&mut self) -> Result<(), ParserError>
         ensures step { Steps (λ _. []) result self.old.rest.now self.new.rest.now (judge_dropped (number_form bytes4)) }
         ensures left { length self.new.rest.now ≤ length self.old.rest.now }
+        ensures stays { OnErr result (self.new.rest.now ≡ self.old.rest.now) }
         ensures memory { NeedsNoMemory result }
     {
         let (n, _) = parse_long_uint(self.rest)?;
@@ -161,6 +171,7 @@ impl<'a> SlotReader<'a> {
     pub fn skip_short_string(&mut self) -> Result<(), ParserError>
         ensures step { Steps (λ _. []) result self.old.rest.now self.new.rest.now (judge_dropped short_string_form) }
         ensures left { length self.new.rest.now ≤ length self.old.rest.now }
+        ensures stays { OnErr result (self.new.rest.now ≡ self.old.rest.now) }
         ensures memory { NeedsNoMemory result }
     {
         let (n, _) = parse_short_str(self.rest)?;
@@ -173,6 +184,7 @@ impl<'a> SlotReader<'a> {
     pub fn skip_long_string(&mut self) -> Result<(), ParserError>
         ensures step { Steps (λ _. []) result self.old.rest.now self.new.rest.now (judge_dropped long_string_form) }
         ensures left { length self.new.rest.now ≤ length self.old.rest.now }
+        ensures stays { OnErr result (self.new.rest.now ≡ self.old.rest.now) }
         ensures memory { NeedsNoMemory result }
     {
         let (n, _) = parse_long_bytes(self.rest)?;
@@ -185,6 +197,7 @@ impl<'a> SlotReader<'a> {
     pub fn skip_flags<const N: usize>(&mut self) -> Result<(), ParserError>
         ensures step { Steps (λ _. []) result self.old.rest.now self.new.rest.now (judge_dropped (flags_form N)) }
         ensures left { length self.new.rest.now ≤ length self.old.rest.now }
+        ensures stays { OnErr result (self.new.rest.now ≡ self.old.rest.now) }
         ensures memory { NeedsNoMemory result }
     {
         let (n, _) = parse_short_short_uint(self.rest)?;

@@ -28,7 +28,7 @@ fn methods_are_told(rt: HostRuntime) {
     assert_eq!(rt; judge_payload(&[0, 90, 0, 10]), told(4, true, true));
 }
 
-/// The class is told before the method id, the method before its fields.
+/// The class is reported before the method id, the method before its fields.
 #[test]
 fn faults_are_told(rt: HostRuntime) {
     assert_eq!(rt; judge_payload(&[]), Err(ParserError::Incomplete));

@@ -106,7 +106,7 @@ fn faults_behind_falling_keys_are_told(rt: HostRuntime) {
     );
 }
 
-/// A length is told before what stands inside it, a key before its tag, and a tag before the room.
+/// A length is reported before what stands inside it, a key before its tag, and a tag before the room.
 #[test]
 fn faults_are_told_in_order(rt: HostRuntime) {
     assert_eq!(rt;

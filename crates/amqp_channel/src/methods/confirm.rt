@@ -187,7 +187,8 @@ impl AMQPMethod {
 /// Decodes the fields of the method with this id.
 #[tactic(auto, using(amqp_types::proofs::Judged::refuses_next), unfolding(amqp_types::specs::Rows::rows_of, amqp_types::specs::Rows::slots_at, amqp_types::specs::Methods::judge_method))]
 fn parse_method(alloc: Global, id: Identifier, i: &[u8]) -> Result<(usize, AMQPMethod), ParserError>
-    ensures { Parses method_of result i.now (judge_method 85 id) }
+    ensures parsed { Parses method_of result i.now (judge_method 85 id) }
+    ensures memory { NeedsNoMemory result }
 {
     match id {
         10 => {
@@ -205,7 +206,8 @@ fn parse_method(alloc: Global, id: Identifier, i: &[u8]) -> Result<(usize, AMQPM
 /// Decodes a method id and the fields of that method.
 #[tactic(auto, using(amqp_types::proofs::Judged::refuses_next), unfolding(amqp_types::specs::Rows::rows_of, amqp_types::specs::Methods::judge_in_class))]
 pub fn parse_confirm(alloc: Global, i: &[u8]) -> Result<(usize, AMQPMethod), ParserError>
-    ensures { Parses method_of result i.now (judge_in_class 85) }
+    ensures parsed { Parses method_of result i.now (judge_in_class 85) }
+    ensures memory { NeedsNoMemory result }
 {
     let (n, id) = parse_id(i)?;
     let (used, method) = parse_method(alloc, id, &i[n..])?;

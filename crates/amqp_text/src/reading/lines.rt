@@ -107,7 +107,7 @@ fn read_header<'a>(out: &mut Vec<u8>, i: &'a [u8]) -> Result<&'a [u8], TextError
     }
 }
 
-/// The channel of a heartbeat, which is 0 where none is told.
+/// The channel of a heartbeat, which is 0 where none is named.
 fn read_beat(i: &[u8]) -> Option<(u16, &[u8])>
     ensures { Finds (λ n. n) (λ rest. rest.now) (read_beat i.now) result }
 {
@@ -176,7 +176,7 @@ fn read_version_line(out: &mut Vec<u8>, i: &[u8]) -> Result<(AMQPFrameType, Chan
     }
 }
 
-/// Appends the payload of the frame that the words of a line tell, and returns its kind and channel.
+/// Appends the payload of the frame that the words of a line say, and returns its kind and channel.
 pub(crate) fn read_words(
     out: &mut Vec<u8>,
     i: &[u8],

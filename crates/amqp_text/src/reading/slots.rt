@@ -65,7 +65,7 @@ fn write_constant(out: &mut Vec<u8>, shape: Shape) -> Result<(), NoMemory>
     }
 }
 
-/// A word after a space, or the constant of a reserved slot, which is not told.
+/// A word after a space, or the constant of a reserved field, which is not written.
 fn read_slot<'a>(out: &mut Vec<u8>, shape: Shape, i: &'a [u8]) -> Result<&'a [u8], TextError>
     ensures { Reads (λ rest. rest.now) (read_slot (slot_of shape) i.now) out.old.items out.new.items result }
 {
@@ -131,7 +131,7 @@ fn mask_bit(bit: u16) -> u16
     mask_bit(bit - 1).wrapping_mul(2)
 }
 
-/// Appends the bytes of a property, where it is told, and returns its bit in the mask.
+/// Appends the bytes of a property, where it is there, and returns its bit in the mask.
 fn read_option<'a>(
     out: &mut Vec<u8>,
     bit: u16,
@@ -150,7 +150,7 @@ fn read_option<'a>(
     }
 }
 
-/// Appends the bytes of the properties of these bits and shapes that are told, and returns their mask.
+/// Appends the bytes of the properties of these bits and shapes that are there, and returns their mask.
 fn read_set<'a>(
     out: &mut Vec<u8>,
     shapes: &[(u16, Shape)],
@@ -189,7 +189,7 @@ fn set_mask<'a>(
     }
 }
 
-/// Appends the mask and the bytes of the properties that are told.
+/// Appends the mask and the bytes of the properties that are there.
 pub(crate) fn read_properties<'a>(out: &mut Vec<u8>, i: &'a [u8]) -> Result<&'a [u8], TextError>
     ensures { Reads (λ rest. rest.now) (read_properties i.now) out.old.items out.new.items result }
 {

@@ -1,4 +1,4 @@
-//! The words of lines and the payloads that they tell, and text that is none.
+//! The words of lines and the payloads that they say, and text that is none.
 
 use crate::errors::TextError;
 use crate::reading::lines::read_words;
@@ -30,7 +30,7 @@ const PROPERTIES: [u8; 48] = [
 const PROPERTIES_WORDS: &str =
     "header 65535 60 18446744073709551615 content_type=\"a\" content_encoding=\"b\" headers={} delivery_mode=1 priority=9 correlation_id=\"c\" reply_to=\"d\" expiration=\"e\" message_id=\"f\" timestamp=7 kind=\"g\" user_id=\"h\" app_id=\"i\" cluster_id=\"j\"";
 
-/// Words, and the frames that they tell.
+/// Words, and the frames that they say.
 const WORDS: [(&str, AMQPFrameType, u16, &[u8]); 10] = [
     (
         "method 1 60.40 \"\" \"hello\" --",
@@ -81,7 +81,7 @@ fn words_are_read_back(rt: HostRuntime) -> Result<(), Fail> {
     Ok(())
 }
 
-/// Text that tells no frame.
+/// Text of no frame.
 const NONE: [&str; 9] = [
     "",
     "Beat",

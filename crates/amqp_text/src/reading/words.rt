@@ -283,7 +283,7 @@ pub(crate) fn read_hex<'a>(out: &mut Vec<u8>, i: &'a [u8]) -> Result<&'a [u8], T
     Ok(rest)
 }
 
-/// Appends a byte that is told by a backslash and two digits.
+/// Appends a byte that is written as a backslash and two digits.
 #[inline(always)]
 fn read_escape<'a>(out: &mut Vec<u8>, i: &'a [u8]) -> Result<&'a [u8], TextError>
     requires { first_is 92 i.now ≡ true }
