@@ -1,9 +1,9 @@
 //! How far the message of a channel has come.
 
-ghost use Rattle.std.specs.Prelude.{◌≡◌};
+ghost use Rattle.std.specs.Prelude.{◌≡◌, IsTrue};
 ghost use Rattle.amqp_content.specs.Steps.{mark_after, header_mark, body_mark, method_mark, headed_progress, progress_marked, progress_after};
-ghost use Rattle.amqp_content.specs.Marks.{is_begun};
-ghost use Rattle.amqp_content.specs.Units.{is_opening_id, size_in};
+ghost use Rattle.amqp_content.specs.Marks.{Tracks, is_begun};
+ghost use Rattle.amqp_content.specs.Units.{is_content, is_opening_id, size_in};
 
 use crate::fault::ContentFault;
 use crate::mark::Mark;
@@ -149,7 +149,7 @@ pub(crate) fn progress_after_mark(
 }
 
 /// What a frame is to a channel's content, and what is kept of the channel after it, for callers that keep more of a
-/// channel beside it.
+/// channel beside it, as a tracker keeps it.
 pub fn step(
     max_body: u64,
     progress: Option<Progress>,
@@ -157,6 +157,7 @@ pub fn step(
 ) -> (Mark, Option<Progress>)
     ensures mark { result.0 ≡ mark_after max_body progress outline }
     ensures progress { result.1 ≡ progress_after max_body progress outline }
+    ensures tracks { IsTrue (is_content outline) → Tracks max_body progress result.1 outline result.0 }
 {
     let mark = mark(max_body, progress, outline);
     (mark, progress_after_mark(progress, outline, mark))
