@@ -74,6 +74,8 @@ impl LentCodec {
         ensures stream { Canonicalizes plain self.old turns (S.supply source.old) (S.supply source.new)
             (K.store sink.old) (K.store sink.new) (as_stream result) }
         ensures unread { turns ≡ 0 → source.new ≡ source.old }
+        ensures spent { turns ≡ 0 → result ≡ Err LentError.TurnsSpent }
+        ensures unwritten { turns ≡ 0 → sink.new ≡ sink.old }
 
         // Over a source that reports its bytes, the result depends on them alone, however they are cut.
         ensures exact { (bytes : List ℕ) → (S.supply source.old).left ≡ Some bytes
@@ -102,6 +104,8 @@ pub fn canonicalize_lent<S: Source, K: Sink>(
         (K.store sink.old) (K.store sink.new) result
         ⊎ NeverBegan (S.supply source.old) (S.supply source.new) (K.store sink.old) (K.store sink.new) result }
     ensures unread { turns ≡ 0 → source.new ≡ source.old }
+    ensures spent { turns ≡ 0 → (result ≡ Err StreamError.TurnsSpent) ⊎ (result ≡ Err StreamError.NoMemory) }
+    ensures unwritten { turns ≡ 0 → sink.new ≡ sink.old }
     ensures memory { result ≡ Err StreamError.NoMemory
         → NeverBegan (S.supply source.old) (S.supply source.new) (K.store sink.old) (K.store sink.new) result }
     ensures never_untidy { result ≢ Err StreamError.NotTidy }

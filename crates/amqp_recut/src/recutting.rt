@@ -39,6 +39,8 @@ pub fn recut<S: Source, K: Sink>(
     ensures stream { Recuts max_payload size turns (S.supply source.old) (S.supply source.new) (K.store sink.old) (K.store sink.new) result
         ⊎ NeverBegan (S.supply source.old) (S.supply source.new) (K.store sink.old) (K.store sink.new) result }
     ensures unread { turns ≡ 0 → source.new ≡ source.old }
+    ensures spent { turns ≡ 0 → (result ≡ Err (RecutError.Stream StreamError.TurnsSpent)) ⊎ (result ≡ Err (RecutError.Stream StreamError.NoMemory)) }
+    ensures unwritten { turns ≡ 0 → sink.new ≡ sink.old }
     ensures never_untidy { result ≢ Err (RecutError.Stream StreamError.NotTidy) }
     ensures never_too_large { result ≢ Err (RecutError.BadContent ContentFault.BodyTooLarge) }
     ensures never_faulted { result ≢ Err (RecutError.BadContent ContentFault.Faulted) }

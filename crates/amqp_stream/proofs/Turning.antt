@@ -5,6 +5,7 @@ use Rattle.amqp_frame.specs.declared.looking.FrameLayout.{FrameLayout}
 use Rattle.amqp_frame.specs.Frames.{Raw}
 use Rattle.amqp_frame.specs.Outer.{outer}
 use Rattle.amqp_frame.specs.Looks.{laid_out}
+use Rattle.amqp_frame.proofs.OuterLook.{outer-none}
 use Rattle.amqp_stream.specs.declared.errors.ReadError.{ReadError}
 use Rattle.amqp_stream.specs.declared.errors.StreamError.{StreamError}
 use Rattle.amqp_stream.specs.declared.errors.RunError.{RunError}
@@ -115,3 +116,23 @@ turn_after_read turn finds is flushed some read gave few limit empty =
       room_is = ap (λ o. o.room) empty ∙ turn.room_is;
       going = Going-clear (Clear-read 0 at.clear (omega arith) read (omega (arith, read.ok)) (omega (arith, turn.limit))) (ap (λ o. o.bytes) empty);
     }
+
+-- ---- no read budget, so that nothing is held
+
+-- where there is no read budget, none of it was used
+pub all_left : {S E : Type 0} {r : Start S E} {room : ℕ} {x : Loop S} → Turn r room x → r.turns ≡ 0 → x.left ≡ r.turns
+all_left turn zero = omega (arith, turn.going.taken.fall)
+
+-- no frame stands at the front of no bytes
+pub no_frame : (m : ℕ) {held : List ℕ} {found : Option FrameLayout} {layout : FrameLayout} → held ≡ [] → Finds m held (Ok found) → found ≡ Some layout → ⊥
+no_frame m none finds is =
+    let lies = rw (is, none) at finds in
+    let found = sym (outer-none (Some m)) ∙ lies.found in
+    cc found
+
+-- nor a fault
+pub no_fault : (m : ℕ) {held : List ℕ} (error : ReadError) → held ≡ [] → Finds m held (Err error) → ⊥
+no_fault m error none finds =
+    let at = rw none at finds in
+    let found = sym (outer-none (Some m)) ∙ at.2 in
+    cc found

@@ -59,6 +59,8 @@ impl Codec {
         ensures stream { Streams W.manner writer.old writer.new self.old turns (S.supply source.old) (S.supply source.new)
             (K.store sink.old) (K.store sink.new) (ending_of result) }
         ensures unread { turns ≡ 0 → source.new ≡ source.old }
+        ensures spent { turns ≡ 0 → result ≡ Err (RunError.Stream StreamError.TurnsSpent) }
+        ensures unwritten { turns ≡ 0 → sink.new ≡ sink.old }
 
         // Over a source that reports its bytes, the result depends on them alone, however they are cut.
         ensures exact { (bytes : List ℕ) → (S.supply source.old).left ≡ Some bytes
@@ -87,6 +89,8 @@ impl Codec {
         ensures stream { Canonicalizes (level_of profile) self.old turns (S.supply source.old) (S.supply source.new)
             (K.store sink.old) (K.store sink.new) result }
         ensures unread { turns ≡ 0 → source.new ≡ source.old }
+        ensures spent { turns ≡ 0 → result ≡ Err StreamError.TurnsSpent }
+        ensures unwritten { turns ≡ 0 → sink.new ≡ sink.old }
         ensures memory { result ≢ Err StreamError.NoMemory }
 
         // Over a source that reports its bytes, the result depends on them alone, however they are cut.
@@ -118,6 +122,8 @@ impl Codec {
         ensures stream { Canonicalizes (level_of profile) self.old turns (S.supply source.old) (S.supply source.new)
             (K.store sink.old) (K.store sink.new) result }
         ensures unread { turns ≡ 0 → source.new ≡ source.old }
+        ensures spent { turns ≡ 0 → result ≡ Err StreamError.TurnsSpent }
+        ensures unwritten { turns ≡ 0 → sink.new ≡ sink.old }
         ensures memory { result ≢ Err StreamError.NoMemory }
 
         // Over a source that reports its bytes, the result depends on them alone, however they are cut.
@@ -145,6 +151,8 @@ impl Codec {
         ensures stream { Canonicalizes plain self.old turns (S.supply source.old) (S.supply source.new)
             (K.store sink.old) (K.store sink.new) result }
         ensures unread { turns ≡ 0 → source.new ≡ source.old }
+        ensures spent { turns ≡ 0 → result ≡ Err StreamError.TurnsSpent }
+        ensures unwritten { turns ≡ 0 → sink.new ≡ sink.old }
         ensures memory { result ≢ Err StreamError.NoMemory }
         ensures never_untidy { result ≢ Err StreamError.NotTidy }
 
@@ -173,6 +181,8 @@ pub fn run_stream<W: FrameWriter, S: Source, K: Sink>(
         (K.store sink.old) (K.store sink.new) (ending_of result)
         ⊎ RunNeverBegan writer.old writer.new (S.supply source.old) (S.supply source.new) (K.store sink.old) (K.store sink.new) (ending_of result) }
     ensures unread { turns ≡ 0 → source.new ≡ source.old }
+    ensures spent { turns ≡ 0 → (result ≡ Err (RunError.Stream StreamError.TurnsSpent)) ⊎ (result ≡ Err (RunError.Stream StreamError.NoMemory)) }
+    ensures unwritten { turns ≡ 0 → sink.new ≡ sink.old }
 
     // Over a source that reports its bytes, the result depends on them alone, however they are cut.
     ensures exact { (bytes : List ℕ) → (S.supply source.old).left ≡ Some bytes
@@ -205,6 +215,8 @@ pub fn canonicalize_in<S: Source, K: Sink>(
         (K.store sink.old) (K.store sink.new) result
         ⊎ NeverBegan (S.supply source.old) (S.supply source.new) (K.store sink.old) (K.store sink.new) result }
     ensures unread { turns ≡ 0 → source.new ≡ source.old }
+    ensures spent { turns ≡ 0 → (result ≡ Err StreamError.TurnsSpent) ⊎ (result ≡ Err StreamError.NoMemory) }
+    ensures unwritten { turns ≡ 0 → sink.new ≡ sink.old }
     ensures memory { result ≡ Err StreamError.NoMemory
         → NeverBegan (S.supply source.old) (S.supply source.new) (K.store sink.old) (K.store sink.new) result }
 
@@ -237,6 +249,8 @@ pub fn canonicalize<S: Source, K: Sink>(
         (K.store sink.old) (K.store sink.new) result
         ⊎ NeverBegan (S.supply source.old) (S.supply source.new) (K.store sink.old) (K.store sink.new) result }
     ensures unread { turns ≡ 0 → source.new ≡ source.old }
+    ensures spent { turns ≡ 0 → (result ≡ Err StreamError.TurnsSpent) ⊎ (result ≡ Err StreamError.NoMemory) }
+    ensures unwritten { turns ≡ 0 → sink.new ≡ sink.old }
     ensures memory { result ≡ Err StreamError.NoMemory
         → NeverBegan (S.supply source.old) (S.supply source.new) (K.store sink.old) (K.store sink.new) result }
     ensures never_untidy { result ≢ Err StreamError.NotTidy }

@@ -1,6 +1,6 @@
 //! The one loop that reads frames and writes for each.
 
-ghost use Rattle.std.specs.Prelude.{◌≡◌, ◌+◌, ◌≤◌, [], zero};
+ghost use Rattle.std.specs.Prelude.{◌≡◌, ◌+◌, ◌≤◌, [], zero, Err};
 ghost use Rattle.amqp_stream.specs.Streaming.{Streams, ending_of, end_with};
 
 use crate::errors::{RunError, StreamError};
@@ -44,6 +44,8 @@ pub(crate) fn run_with<W: FrameWriter, S: Source, K: Sink>(
     ensures stream { Streams W.manner writer.old writer.new reader.old.limit turns (S.supply source.old) (S.supply source.new)
         (K.store sink.old) (K.store sink.new) (ending_of result) }
     ensures unread { turns ≡ 0 → source.new ≡ source.old }
+    ensures spent { turns ≡ 0 → result ≡ Err (RunError.Stream StreamError.TurnsSpent) }
+    ensures unwritten { turns ≡ 0 → sink.new ≡ sink.old }
 {
     out.clear();
     let mut left = turns;

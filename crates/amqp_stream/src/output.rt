@@ -1,6 +1,6 @@
 //! Writing: all of some bytes, what is pending, and the canonical bytes of a frame.
 
-ghost use Rattle.std.specs.Prelude.{◌≡◌, ◌+◌, ◌++◌, ◌^◌, ◌<◌, ◌≤◌, [], length};
+ghost use Rattle.std.specs.Prelude.{◌≡◌, ◌+◌, ◌++◌, ◌^◌, ◌<◌, ◌≤◌, [], length, Ok};
 ghost use Rattle.amqp_types.specs.Levels.{tidy};
 ghost use Rattle.amqp_frame.specs.Frames.{raw_of, IsTyped};
 ghost use Rattle.amqp_frame.specs.Spelling.{framed};
@@ -40,7 +40,11 @@ pub fn write_all<K: Sink>(sink: &mut K, bytes: &[u8]) -> Result<(), SinkFault>
 pub fn flush<K: Sink>(out: &mut OutputBuffer, sink: &mut K) -> Result<(), SinkFault>
     ensures written { WritesAll (K.store sink.old) (K.store sink.new) out.old.bytes result }
     ensures empty { out.new ≡ record { room = out.old.room; bytes = [] } }
+    ensures nothing { out.old.bytes ≡ [] → (result ≡ Ok tt) × (sink.new ≡ sink.old) }
 {
+    if out.bytes().is_empty() {
+        return Ok(());
+    }
     let written = write_all(sink, out.bytes());
     out.clear();
     written

@@ -69,6 +69,8 @@ pub fn dump<S: Source, K: Sink>(
         (K.store sink.old) (K.store sink.new) result
         ⊎ NeverBegan (S.supply source.old) (S.supply source.new) (K.store sink.old) (K.store sink.new) result }
     ensures unread { turns ≡ 0 → source.new ≡ source.old }
+    ensures spent { turns ≡ 0 → (result ≡ Err StreamError.TurnsSpent) ⊎ (result ≡ Err StreamError.NoMemory) }
+    ensures unwritten { turns ≡ 0 → sink.new ≡ sink.old }
     ensures never_untidy { result ≢ Err StreamError.NotTidy }
 
     // Over a source that reports its bytes, the result depends on all of them, however they are cut.

@@ -1,6 +1,6 @@
 //! Streams of lines, whose frames are written as their canonical bytes.
 
-ghost use Rattle.std.specs.Prelude.{◌≡◌, ◌-◌, ◌<◌, ◌≤◌, ℕ, List, [], Some, drop, length, take, vec_len, IfOk};
+ghost use Rattle.std.specs.Prelude.{◌≡◌, ◌⊎◌, ◌-◌, ◌<◌, ◌≤◌, ℕ, List, [], Some, Err, drop, length, take, vec_len, IfOk};
 ghost use Rattle.amqp_stream.specs.Ends.{Supply};
 ghost use Rattle.amqp_stream.specs.Transcribing.{NoFaults};
 ghost use Rattle.amqp_text.specs.LineReading.{EndsLine, GathersLine, GathersLines, HasNoNewline, ReadsOnce, StopsWith, end_with};
@@ -183,6 +183,8 @@ fn run<S: Source, K: Sink>(
     requires none { lines.old.held.items ≡ [] }
     ensures stream { Undumps max_payload turns (S.supply source.old) (S.supply source.new) (K.store sink.old) (K.store sink.new) result }
     ensures unread { turns ≡ 0 → source.new ≡ source.old }
+    ensures spent { turns ≡ 0 → result ≡ Err UndumpError.TurnsSpent }
+    ensures unwritten { turns ≡ 0 → sink.new ≡ sink.old }
 {
     out.clear();
     let mut left = turns;
@@ -226,6 +228,8 @@ pub fn undump<S: Source, K: Sink>(
 ) -> Result<(), UndumpError>
     ensures stream { Undumps max_payload turns (S.supply source.old) (S.supply source.new) (K.store sink.old) (K.store sink.new) result }
     ensures unread { turns ≡ 0 → source.new ≡ source.old }
+    ensures spent { turns ≡ 0 → (result ≡ Err UndumpError.TurnsSpent) ⊎ (result ≡ Err UndumpError.NoMemory) }
+    ensures unwritten { turns ≡ 0 → sink.new ≡ sink.old }
 
     // Over a source that reports its bytes, the result follows from all of them, however they are cut.
     ensures exact { (bytes : List ℕ) → (S.supply source.old).left ≡ Some bytes

@@ -1,5 +1,5 @@
 //! Tests of streams that cross crates: worked rows, hostile cases, ends that fail, the generated stream, names of
-//! faults, writers of the tests' own, a proxy, and memory that is refused.
+//! faults, writers of the tests' own, a proxy, a loop over frames, and memory that is refused.
 #![tactic(auto)]
 
 #[cfg(test)]
@@ -7,6 +7,7 @@ mod asking;
 pub mod counting;
 #[cfg(test)]
 mod faults;
+pub mod forwarding;
 #[cfg(test)]
 mod hostile;
 #[cfg(test)]

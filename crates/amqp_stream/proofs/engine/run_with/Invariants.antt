@@ -1,4 +1,4 @@
-use Rattle.std.proofs.Common.{◌≡◌, ◌+◌, ◌*◌, length}
+use Rattle.std.proofs.Common.{◌≡◌, ◌+◌, ◌*◌, [], length}
 use Rattle.amqp_stream.proofs.Turning.{Turn}
 use Rattle.amqp_stream.proofs.engine.run_with.Given as goal
 
@@ -12,6 +12,7 @@ invariant-frames g l =
           l.fn.out.room
           (record { writer = l.writer; left = l.left; source = supply l.source; sink = store l.sink; reader = l.reader; out = l.out });
       unread : l.left ≡ l.fn.turns → l.source ≡ l.fn.source;
+      idle : l.left ≡ l.fn.turns → (l.reader.held ≡ []) × (l.out.bytes ≡ []) × (l.sink ≡ l.fn.sink);
     }
 
 abbrev pub decreases-frames : goal.decreases-frames

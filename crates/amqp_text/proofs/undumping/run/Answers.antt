@@ -6,7 +6,7 @@ use Rattle.amqp_text.proofs.Undumps.{begins_with, ends_spent, ends_at_read, ends
 use Rattle.amqp_text.proofs.undumping.run.Goals as goal
 
 pub reads-init : goal.reads-init
-reads-init g c = record { going = begins_with c.args.max_payload c.args.turns _ _ _ c.requires.none; none = ap (λ (out : Buffered). out.bytes) c.clear.ensures; unread = λ e. refl }
+reads-init g c = record { going = begins_with c.args.max_payload c.args.turns _ _ _ c.requires.none; none = ap (λ (out : Buffered). out.bytes) c.clear.ensures; unread = λ e. refl; unwritten = λ e. refl }
 
 pub returns-then-left-eq0-clause-stream : goal.returns-then-left-eq0-clause-stream
 returns-then-left-eq0-clause-stream g c = ends_spent c.reads.invariant.going c.if-left-eq0.true
@@ -32,4 +32,5 @@ reads-preserved g c =
       going = goes_on c.reads.invariant.going (omega (arith, c.if-left-eq0.false)) c.in-Ok.ensures.reads (omega (arith, c.in-Ok.field-0-test)) lines c.in-Ok-flush.ensures.written (c.keep_last.ensures ∙ kept_rest lines);
       none = ap (λ (out : Buffered). out.bytes) c.in-Ok-flush.ensures.empty;
       unread = λ e. absurd (omega (arith, c.reads.invariant.going.few, c.if-left-eq0.false));
+      unwritten = λ e. absurd (omega (arith, c.reads.invariant.going.few, c.if-left-eq0.false));
     }
