@@ -60,41 +60,45 @@ Pulled-more {m = m} {a = a} {s = s} {t = t} {turns_old = turns_old} {turns = tur
 }
 
 -- a call that ends so
-pub pulls_to : {X : Type 0} (P : List ℕ → List ℕ → X → Type 0) {m : ℕ} {old new : Supply} {turns_old turns : ℕ} {before b : List ℕ} (r : Result (Option X) ReadError) → Pulled m old new turns_old turns before b (idle_reads r) → length b ≤ m + 8 → Ends (P b b) m b old new turns b r → PullsTo P m old new turns_old turns before b r
-pulls_to P {b = b} r g room e = record {
+pub pulls_to : {X : Type 0} (P : List ℕ → List ℕ → X → Type 0) {m : ℕ} {old new : Supply} {turns_old turns : ℕ} {before b : List ℕ} (r : Result (Option X) ReadError) → Pulled m old new turns_old turns before b (idle_reads r) → IsBytes b → length b ≤ m + 8 → Ends (P b b) m b old new turns b r → PullsTo P m old new turns_old turns before b r
+pulls_to P {b = b} r g fits room e = record {
   b = b;
-  pulls = record { taken = g.taken; are_bytes = g.are_bytes; takes = g.takes; all = g.all; room = room; turns_fall = g.turns_fall; some = g.some; decided = g.decided };
+  pulls = record { taken = g.taken; are_bytes = g.are_bytes; all_bytes = fits; takes = g.takes; all = g.all; room = room; turns_fall = g.turns_fall; some = g.some; decided = g.decided };
   ends = e;
   few = g.few;
 }
 
 -- a fault that stands at the front of what is held
-pub ends_fault : {X : Type 0} (P : List ℕ → List ℕ → X → Type 0) {m : ℕ} {old new : Supply} {turns_old turns : ℕ} {before b : List ℕ} (error : ReadError) (bad : Fault) → Pulled m old new turns_old turns before b 0 → length b ≤ m + 8 → read_fault error ≡ Some bad → outer (Some m) b ≡ fault bad → PullsTo P m old new turns_old turns before b (Err error)
-ends_fault P errors.UnknownFrameType bad g room same e = pulls_to P (Err errors.UnknownFrameType) g room (e ∙ cc, refl)
-ends_fault P errors.BadProtocolHeader bad g room same e = pulls_to P (Err errors.BadProtocolHeader) g room (e ∙ cc, refl)
-ends_fault P errors.TooLarge bad g room same e = pulls_to P (Err errors.TooLarge) g room (e ∙ cc, refl)
-ends_fault P errors.BadFrameEnd bad g room same e = pulls_to P (Err errors.BadFrameEnd) g room (e ∙ cc, refl)
-ends_fault P error bad g room same e = absurd cc
+pub ends_fault : {X : Type 0} (P : List ℕ → List ℕ → X → Type 0) {m : ℕ} {old new : Supply} {turns_old turns : ℕ} {before b : List ℕ} (error : ReadError) (bad : Fault) → Pulled m old new turns_old turns before b 0 → IsBytes b → length b ≤ m + 8 → read_fault error ≡ Some bad → outer (Some m) b ≡ fault bad → PullsTo P m old new turns_old turns before b (Err error)
+ends_fault P errors.UnknownFrameType bad g fits room same e = pulls_to P (Err errors.UnknownFrameType) g fits room (e ∙ cc, refl)
+ends_fault P errors.BadProtocolHeader bad g fits room same e = pulls_to P (Err errors.BadProtocolHeader) g fits room (e ∙ cc, refl)
+ends_fault P errors.TooLarge bad g fits room same e = pulls_to P (Err errors.TooLarge) g fits room (e ∙ cc, refl)
+ends_fault P errors.BadFrameEnd bad g fits room same e = pulls_to P (Err errors.BadFrameEnd) g fits room (e ∙ cc, refl)
+ends_fault P error bad g fits room same e = absurd cc
 
 -- nothing was read: what is held stays, and is undecided still
 pub still_more : (m : ℕ) {s t : Supply} {b c : List ℕ} {r : Result ℕ SourceFault} (h : ReadsMore s t b c r) → length h.piece ≡ 0 → outer (Some m) b ≡ past → outer (Some m) c ≡ past
 still_more m {b = b} h e more = ap (outer (Some m)) (h.held ∙ ap (λ (xs : List ℕ). b ++ xs) (nil_from_length h.piece e) ∙ append-nil b) ∙ more
 
+-- what is held after a read are bytes
+read_bytes : {s t : Supply} {b c : List ℕ} {r : Result ℕ SourceFault} → ReadsMore s t b c r → IsBytes b → IsBytes c
+read_bytes {b = b} read fits = subst IsBytes (sym read.held) (IsBytes-append b read.piece fits read.are_bytes)
+
 -- a read that failed
-pub ends_unread : {X : Type 0} (P : List ℕ → List ℕ → X → Type 0) {m : ℕ} {a s t : Supply} {turns_old turns : ℕ} {before b c : List ℕ} {f : SourceFault} → Pulled m a s turns_old turns before b 0 → 0 < turns → outer (Some m) b ≡ past → ReadsMore s t b c (Err f) → length c ≤ m + 8 → PullsTo P m a t turns_old (turns - 1) before c (Err errors.ReadFault)
-ends_unread P {m = m} {a = a} {s = s} {t = t} g some more read room =
+pub ends_unread : {X : Type 0} (P : List ℕ → List ℕ → X → Type 0) {m : ℕ} {a s t : Supply} {turns_old turns : ℕ} {before b c : List ℕ} {f : SourceFault} → Pulled m a s turns_old turns before b 0 → IsBytes b → 0 < turns → outer (Some m) b ≡ past → ReadsMore s t b c (Err f) → length c ≤ m + 8 → PullsTo P m a t turns_old (turns - 1) before c (Err errors.ReadFault)
+ends_unread P {m = m} {a = a} {s = s} {t = t} g fits some more read room =
     let rises = Rises-later a.faults s.faults t.faults g.takes.faults read.takes.faults read.err.1 in
-    pulls_to P (Err errors.ReadFault) (Pulled-more 1 g some more read (omega arith)) room ((still_more m read (ap length read.err.0) more, rises), refl)
+    pulls_to P (Err errors.ReadFault) (Pulled-more 1 g some more read (omega arith)) (read_bytes read fits) room ((still_more m read (ap length read.err.0) more, rises), refl)
 
 -- the end of the source after some bytes
-pub ends_short : {X : Type 0} (P : List ℕ → List ℕ → X → Type 0) {m : ℕ} {a s t : Supply} {turns_old turns : ℕ} {before b c : List ℕ} {n : ℕ} → n ≡ 0 → Pulled m a s turns_old turns before b 0 → 0 < turns → outer (Some m) b ≡ past → ReadsMore s t b c (Ok n) → length c ≤ m + 8 → c ≢ [] → PullsTo P m a t turns_old (turns - 1) before c (Err errors.CutShort)
-ends_short P {m = m} zero g some more read room long =
-    pulls_to P (Err errors.CutShort) (Pulled-more 1 g some more read (omega arith)) room ((still_more m read (read.ok ∙ zero) more, long, read.end zero), refl)
+pub ends_short : {X : Type 0} (P : List ℕ → List ℕ → X → Type 0) {m : ℕ} {a s t : Supply} {turns_old turns : ℕ} {before b c : List ℕ} {n : ℕ} → n ≡ 0 → Pulled m a s turns_old turns before b 0 → IsBytes b → 0 < turns → outer (Some m) b ≡ past → ReadsMore s t b c (Ok n) → length c ≤ m + 8 → c ≢ [] → PullsTo P m a t turns_old (turns - 1) before c (Err errors.CutShort)
+ends_short P {m = m} zero g fits some more read room long =
+    pulls_to P (Err errors.CutShort) (Pulled-more 1 g some more read (omega arith)) (read_bytes read fits) room ((still_more m read (read.ok ∙ zero) more, long, read.end zero), refl)
 
 -- the end of the source after no bytes
-pub ends_done : {X : Type 0} (P : List ℕ → List ℕ → X → Type 0) {m : ℕ} {a s t : Supply} {turns_old turns : ℕ} {before b c : List ℕ} {n : ℕ} → n ≡ 0 → Pulled m a s turns_old turns before b 0 → 0 < turns → outer (Some m) b ≡ past → ReadsMore s t b c (Ok n) → c ≡ [] → PullsTo P m a t turns_old (turns - 1) before c (Ok None)
-ends_done P zero g some more read none =
-    pulls_to P (Ok None) (Pulled-more 1 g some more read (omega arith)) (omega (arith, ap length none)) (none, none, read.end zero)
+pub ends_done : {X : Type 0} (P : List ℕ → List ℕ → X → Type 0) {m : ℕ} {a s t : Supply} {turns_old turns : ℕ} {before b c : List ℕ} {n : ℕ} → n ≡ 0 → Pulled m a s turns_old turns before b 0 → IsBytes b → 0 < turns → outer (Some m) b ≡ past → ReadsMore s t b c (Ok n) → c ≡ [] → PullsTo P m a t turns_old (turns - 1) before c (Ok None)
+ends_done P zero g fits some more read none =
+    pulls_to P (Ok None) (Pulled-more 1 g some more read (omega arith)) (read_bytes read fits) (omega (arith, ap length none)) (none, none, read.end zero)
 
 -- an error says the same of every kind of frame
 pub err_as : {X Y : Type 0} (P : List ℕ → List ℕ → X → Type 0) (Q : List ℕ → List ℕ → Y → Type 0) (m : ℕ) (old new : Supply) (turns_old turns : ℕ) (before after : List ℕ) (e : ReadError) → PullsTo P m old new turns_old turns before after (Err e) → PullsTo Q m old new turns_old turns before after (Err e)

@@ -64,6 +64,7 @@ idle_reads (Err error) = idle_reads_at error
 pub record Pulls (m : ℕ) (old new : Supply) (turns_old turns_new : ℕ) (before b : List ℕ) : Type 0 where
   pub taken : List ℕ
   pub are_bytes : IsBytes taken
+  pub all_bytes : IsBytes b
   pub takes : Takes old new taken (turns_old - turns_new)
   pub all : b ≡ before ++ taken
   pub room : length b ≤ m + 8

@@ -1,6 +1,7 @@
 //! The buffer of a reader: where the held bytes lie in it, and reading more after them.
 
 ghost use Rattle.std.specs.Prelude.{◌≡◌, ◌-◌, ◌<◌, length};
+ghost use Rattle.amqp_types.specs.Judging.{IsBytes};
 ghost use Rattle.amqp_stream.specs.Reading.{ReadsMore};
 ghost use Rattle.amqp_stream.specs.Spans.{IsSpan, held_in};
 
@@ -11,6 +12,16 @@ use crate::source::{Source, SourceFault};
 pub(crate) struct Span {
     pub start: usize,
     pub end: usize,
+}
+
+/// The held bytes.
+#[inline(always)]
+pub(crate) fn held_of(buf: &[u8], span: Span) -> &[u8]
+    requires span { IsSpan span (length buf.now) }
+    ensures held { result.now ≡ held_in buf.now span }
+    ensures bytes { IsBytes result.now }
+{
+    &buf[span.start..span.end]
 }
 
 /// Moves the held bytes to the front, where no room is left after them.

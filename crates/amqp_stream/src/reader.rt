@@ -1,6 +1,6 @@
 //! Reading frames: a buffer for the largest of them, filled by reads, out of which they are borrowed.
 
-use crate::buffer::{Span, read_more};
+use crate::buffer::{Span, held_of, read_more};
 use crate::errors::ReadError;
 use crate::source::{Source, SourceFault};
 use amqp_frame::{AMQPRawFrame, FrameLayout, Look, look_at};
@@ -33,7 +33,7 @@ impl FrameReader {
     ghost use Rattle.std.specs.Prelude.{◌≡◌, ◌+◌, ◌^◌, ◌<◌, ◌≤◌, ◌↔◌, [], Some, IsTrue, IfOk, IfSome, length, drop};
     ghost use Rattle.std.specs.Borrow.{sem};
     ghost use Rattle.std.specs.Io.BufRead.{Rests};
-    ghost use Rattle.amqp_types.specs.Judging.{past};
+    ghost use Rattle.amqp_types.specs.Judging.{past, IsBytes};
     ghost use Rattle.amqp_frame.specs.Frames.{raw_of};
     ghost use Rattle.amqp_frame.specs.Outer.{outer};
     ghost use Rattle.amqp_frame.specs.Looks.{laid_out};
@@ -59,6 +59,16 @@ impl FrameReader {
         self.span = Span { start: 0, end: 0 };
     }
 
+    /// The held bytes: those that were read and belong to no frame that was returned or dropped.
+    #[inline(always)]
+    pub fn held(&self) -> &[u8]
+        ensures held { result.now ≡ self.now.held }
+        ensures bytes { IsBytes self.now.held }
+        ensures room { length self.now.held ≤ self.now.limit + 8 }
+    {
+        held_of(&self.buf, self.span)
+    }
+
     /// Whether no bytes are held.
     pub fn is_empty(&self) -> bool
         ensures { IsTrue result ↔ self.now.held ≡ [] }
@@ -71,12 +81,10 @@ impl FrameReader {
     #[inline(always)]
     pub fn buffered(&self) -> Result<Option<FrameLayout>, ReadError>
         ensures finds { Finds self.now.limit self.now.held result }
+        ensures bytes { IsBytes self.now.held }
         ensures room { length self.now.held ≤ self.now.limit + 8 }
     {
-        match look_at(
-            Some(self.max_payload),
-            &self.buf[self.span.start..self.span.end],
-        ) {
+        match look_at(Some(self.max_payload), self.held()) {
             Look::Whole(layout) => Ok(Some(layout)),
             Look::Incomplete => Ok(None),
             Look::UnknownFrameType => Err(ReadError::UnknownFrameType),

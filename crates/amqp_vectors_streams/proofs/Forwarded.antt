@@ -1,7 +1,7 @@
 -- The loop of `forward`: what was read and written so far, one more frame, and how it ends.
 use Rattle.std.proofs.Common.{◌≡◌, ℕ, ◌+◌, ◌-◌, ◌*◌, ◌<◌, ◌≤◌, List, [], ◌∷◌, ◌++◌, length, take, drop, Option, Some, None, Result, Ok, Err, IsErrAnd, inl, inr, refl, sym, ap, subst, ◌∙◌, arith, append_assoc, append-nil}
 use Rattle.std.proofs.lemmas.Bool.{cases_lt}
-use Rattle.std.proofs.lemmas.List.{length-append, length-drop, take-append-drop, take_at}
+use Rattle.std.proofs.lemmas.List.{length-append, length-drop, take-append-drop}
 use Rattle.std.proofs.lemmas.List.Concat.{flat_map-append}
 use Rattle.std.proofs.Math.Nat.{mul-le-mul_right}
 use Rattle.amqp_types.specs.Levels.{plain}
@@ -62,6 +62,7 @@ pub record Forwarded (m : ℕ) (before : List ℕ) (turns_old turns : ℕ) (a b 
   pub few : turns_old ≤ turns + length taken + idle
   pub frames : List Frame
   pub front : List ℕ
+  pub front_fits : IsBytes front
   pub all : before ++ taken ≡ front ++ rest
   pub precedes : Precedes plain (Some m) front frames
   pub gains : Gains k l (canon_row frames)
@@ -75,6 +76,7 @@ Forwarded-none m before turns a k = record {
   few = omega arith;
   frames = [];
   front = [];
+  front_fits = IsBytes-nil;
   all = append-nil before;
   precedes = Precedes-none plain (Some m);
   gains = Gains-none k;
@@ -92,6 +94,7 @@ Forwarded-pulled {before = before} {turns_old = turns_old} {turns = turns} {turn
       few = omega (arith, f.few, few, length-append f.taken piece);
       frames = f.frames;
       front = f.front;
+      front_fits = f.front_fits;
       all = sym (append_assoc before f.taken piece) ∙ ap (λ (xs : List ℕ). xs ++ piece) f.all ∙ append_assoc f.front held piece ∙ ap (λ (xs : List ℕ). f.front ++ xs) (sym p.pulls.all);
       precedes = f.precedes;
       gains = f.gains;
@@ -101,8 +104,8 @@ canon_row-more : (frames : List Frame) (f : Frame) → canon_row (frames ++ f �
 canon_row-more frames f = flat_map-append canon frames (f ∷ []) ∙ ap (λ (xs : List ℕ). canon_row frames ++ xs) (append-nil (canon f))
 
 -- the frame at the front of the rest was written
-Forwarded-frame : {m : ℕ} {before : List ℕ} {turns_old turns : ℕ} {a b : Supply} {k l l' : Store} {rest after : List ℕ} {raw : Raw} {done : Unit {0}} → Forwarded m before turns_old turns a b k l rest 0 → IsPassed m rest after raw → WritesFrame raw l l' [] [] (Ok done) → Forwarded m before turns_old turns a b k l' after 0
-Forwarded-frame {m = m} {k = k} {l = l} {l' = l'} {rest = rest} {raw = raw} f passed writes =
+Forwarded-frame : {m : ℕ} {before : List ℕ} {turns_old turns : ℕ} {a b : Supply} {k l l' : Store} {rest after : List ℕ} {raw : Raw} {done : Unit {0}} → Forwarded m before turns_old turns a b k l rest 0 → IsBytes rest → IsPassed m rest after raw → WritesFrame raw l l' [] [] (Ok done) → Forwarded m before turns_old turns a b k l' after 0
+Forwarded-frame {m = m} {k = k} {l = l} {l' = l'} {rest = rest} {raw = raw} f fits passed writes =
     let n = passed.used in
     let frame = writes.0 in
     let g = writes.2 in
@@ -116,6 +119,7 @@ Forwarded-frame {m = m} {k = k} {l = l} {l' = l'} {rest = rest} {raw = raw} f pa
       few = f.few;
       frames = f.frames ++ frame ∷ [];
       front = f.front ++ first;
+      front_fits = IsBytes-append f.front first f.front_fits (IsBytes-take n rest fits);
       all = f.all ∙ ap (λ (xs : List ℕ). f.front ++ xs) (sym (take-append-drop n rest)) ∙ sym (append_assoc f.front first (drop n rest)) ∙ ap (λ (xs : List ℕ). (f.front ++ first) ++ xs) (sym passed.held);
       precedes = Precedes-more plain (Some m) f.front rest f.frames frame n f.precedes (verdict-whole plain (Some m) rest raw n frame passed.found refl writes.1);
       gains = subst (Gains k l') (ap (λ (xs : List ℕ). canon_row f.frames ++ xs) bytes ∙ sym (canon_row-more f.frames frame)) (Gains-then k l l' (canon_row f.frames) g.written f.gains g.gains);
@@ -154,18 +158,16 @@ next_falls {m = m} {turns = turns} {turns' = turns'} {held = held} {after = afte
 
 -- one more frame was read and written
 pub Forwarded-more : {m : ℕ} {before : List ℕ} {turns_old turns turns' : ℕ} {a b c : Supply} {k l l' : Store} {held after : List ℕ} {raw : AMQPRawFrame} {done : Unit {0}} → Forwarded m before turns_old turns a b k l held 0 → PullsTo (IsBorrowed m) m b c turns turns' held after (Ok (Some raw)) → WritesFrame (raw_of raw) l l' [] [] (Ok done) → Forwarded m before turns_old turns' a c k l' after 0
-Forwarded-more {m = m} {after = after} {raw = raw} f p writes = Forwarded-frame (Forwarded-pulled 0 f p p.few) (passed m p.b after raw p.ends) writes
+Forwarded-more {m = m} {after = after} {raw = raw} f p writes = Forwarded-frame (Forwarded-pulled 0 f p p.few) p.pulls.all_bytes (passed m p.b after raw p.ends) writes
 
 -- ---- how it ends
 
 -- the front is a sequence of frames
-row_of : (m : ℕ) (before taken front_is rest : List ℕ) (frames : List Frame) → IsBytes taken → before ++ taken ≡ front_is ++ rest → Precedes plain (Some m) front_is frames → IsBytes before → SpellsFrames plain (Some m) front_is frames
-row_of m before taken front_is rest frames are_bytes all p fits =
-    let all_fit : IsBytes (front_is ++ rest) = subst IsBytes all (IsBytes-append before taken fits are_bytes) in
-    let front_fits : IsBytes front_is = subst IsBytes (take_at front_is rest (length front_is) refl) (IsBytes-take (length front_is) (front_is ++ rest) all_fit) in
+row_of : (m : ℕ) (front_is : List ℕ) (frames : List Frame) → IsBytes front_is → Precedes plain (Some m) front_is frames → SpellsFrames plain (Some m) front_is frames
+row_of m front_is frames fits p =
     let fronts : front plain (Some m) front_is ≡ frames = ap (front plain (Some m)) (sym (append-nil front_is)) ∙ p.row [] ∙ ap (λ (fs : List Frame). frames ++ fs) (front-none plain (Some m)) ∙ append-nil frames in
     let none : place plain (Some m) front_is ≡ [] = ap (place plain (Some m)) (sym (append-nil front_is)) ∙ p.after [] ∙ place-none plain (Some m) in
-    subst (λ (fs : List Frame). SpellsFrames plain (Some m) front_is fs) fronts (row_of_all plain (Some m) front_is front_fits none)
+    subst (λ (fs : List Frame). SpellsFrames plain (Some m) front_is fs) fronts (row_of_all plain (Some m) front_is fits none)
 
 forwards : {m : ℕ} {before : List ℕ} {turns_old turns : ℕ} {a b : Supply} {k l l' : Store} {rest after written : List ℕ} {r : Result (Unit {0}) StreamError} (f : Forwarded m before turns_old turns a b k l rest 1) → Gains k l' written → HasForwarded m f.frames written rest after r → HasEnded m turns a b k l' rest after r → Forwards m before turns_old turns a b k l' after r
 forwards {m = m} {before = before} {rest = rest} {written = written} f gains wrote ended = record {
@@ -178,7 +180,7 @@ forwards {m = m} {before = before} {rest = rest} {written = written} f gains wro
   front = f.front;
   rest = rest;
   all = f.all;
-  row = row_of m before f.taken f.front rest f.frames f.are_bytes f.all f.precedes;
+  row = row_of m f.front f.frames f.front_fits f.precedes;
   precedes = f.precedes;
   written = written;
   gains = gains;

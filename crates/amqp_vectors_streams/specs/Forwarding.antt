@@ -74,12 +74,12 @@ pub record Forwards (limit : ℕ) (held : List ℕ) (turns_old turns_new : ℕ) 
   pub takes : Takes a b taken (turns_old - turns_new)
   pub turns_fall : turns_new ≤ turns_old
   pub few : turns_old ≤ turns_new + length taken + 1
-  -- the frames that were written in full: all bytes begin with them, whatever follows. What was held before is taken to be bytes only for `row`.
+  -- the frames that were written in full: all bytes begin with them, whatever follows
   pub frames : List Frame
   pub front : List ℕ
   pub rest : List ℕ
   pub all : held ++ taken ≡ front ++ rest
-  pub row : IsBytes held → SpellsFrames plain (Some limit) front frames
+  pub row : SpellsFrames plain (Some limit) front frames
   pub precedes : Precedes plain (Some limit) front frames
   -- what was written for them, and why the call ended
   pub written : List ℕ

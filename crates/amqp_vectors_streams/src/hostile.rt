@@ -244,10 +244,13 @@ fn a_reader_goes_on_after_a_failed_read(rt: HostRuntime) -> Result<(), Fail> {
     let mut reader = FrameReader::open(rt.alloc(), LIMIT)?;
     let mut source = PieceSource::new(&HEARTBEAT, &[3], &[1]);
     let mut turns = 100;
-    for wanted in [Err(ReadError::ReadFault), Ok(Some(BEAT)), Ok(None)] {
+    let failed = reader.next(&mut source, &mut turns);
+    same(failed, Err(ReadError::ReadFault))?;
+    same(reader.held(), &HEARTBEAT[..3])?;
+    for wanted in [Ok(Some(BEAT)), Ok(None)] {
         same(reader.next(&mut source, &mut turns), wanted)?;
     }
-    Ok(())
+    same(reader.held(), &[])
 }
 
 /// A fault is returned again without a read, until it is cleared.
