@@ -60,7 +60,7 @@ enum {
     /* Faults of a whole payload. */
     FEKSROUM_UNKNOWN_CLASS = 14, /* a method of no class */
     FEKSROUM_UNKNOWN_METHOD = 15, /* a method that its class does not have */
-    FEKSROUM_SHORT_PAYLOAD = 16, /* something passes the end of the payload, or of a container in it */
+    FEKSROUM_SHORT_PAYLOAD = 16, /* something passes the end of the payload, or of a table or array in it */
     FEKSROUM_TRAILING_BYTES = 17, /* bytes are left after the last field */
     FEKSROUM_NOT_UTF8 = 18, /* a short string that is not UTF-8 */
     FEKSROUM_UNKNOWN_TAG = 19, /* a field tag that names no type */

@@ -50,7 +50,7 @@ class UnknownMethod(Error):
 
 
 class ShortPayload(Error):
-    """Something passes the end of the payload, or of a container in it."""
+    """Something passes the end of the payload, or of a table or array in it."""
 
     status = 16
 

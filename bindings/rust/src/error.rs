@@ -22,7 +22,7 @@ pub enum Error {
     UnknownClass,
     /// A method that its class does not have.
     UnknownMethod,
-    /// Something passes the end of the payload, or of a container in it.
+    /// Something passes the end of the payload, or of a table or array in it.
     ShortPayload,
     /// Bytes are left after the last field of the payload.
     TrailingBytes,

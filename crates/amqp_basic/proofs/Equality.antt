@@ -53,19 +53,19 @@ consume_to : (a b : Consume) → a ≡ b → SameConsume a b
 unfolding SameConsume
 consume_to a b e = search rules
 
-same_qos : (a b : Qos) → Decides (qos.ghosts.eq a b) (a ≡ b)
+pub same_qos : (a b : Qos) → Decides (qos.ghosts.eq a b) (a ≡ b)
 same_qos a b = search rules
 
-same_consume : (a b : Consume) → Decides (consume.ghosts.eq a b) (a ≡ b)
+pub same_consume : (a b : Consume) → Decides (consume.ghosts.eq a b) (a ≡ b)
 same_consume a b = (λ h. consume_of a b ((consume_fields a b).0 h), λ e. (consume_fields a b).1 (consume_to a b e))
 
-same_consume_ok : (a b : ConsumeOk) → Decides (consume_ok.ghosts.eq a b) (a ≡ b)
+pub same_consume_ok : (a b : ConsumeOk) → Decides (consume_ok.ghosts.eq a b) (a ≡ b)
 same_consume_ok a b = search rules
 
-same_cancel : (a b : Cancel) → Decides (cancel.ghosts.eq a b) (a ≡ b)
+pub same_cancel : (a b : Cancel) → Decides (cancel.ghosts.eq a b) (a ≡ b)
 same_cancel a b = search rules
 
-same_cancel_ok : (a b : CancelOk) → Decides (cancel_ok.ghosts.eq a b) (a ≡ b)
+pub same_cancel_ok : (a b : CancelOk) → Decides (cancel_ok.ghosts.eq a b) (a ≡ b)
 same_cancel_ok a b = search rules
 
 pub same_publish : (a b : Publish) → Decides (publish.ghosts.eq a b) (a ≡ b)
@@ -77,25 +77,25 @@ same_return a b = search rules
 pub same_deliver : (a b : Deliver) → Decides (deliver.ghosts.eq a b) (a ≡ b)
 same_deliver a b = search rules
 
-same_get : (a b : Get) → Decides (get.ghosts.eq a b) (a ≡ b)
+pub same_get : (a b : Get) → Decides (get.ghosts.eq a b) (a ≡ b)
 same_get a b = search rules
 
 pub same_get_ok : (a b : GetOk) → Decides (get_ok.ghosts.eq a b) (a ≡ b)
 same_get_ok a b = search rules
 
-same_ack : (a b : Ack) → Decides (ack.ghosts.eq a b) (a ≡ b)
+pub same_ack : (a b : Ack) → Decides (ack.ghosts.eq a b) (a ≡ b)
 same_ack a b = search rules
 
-same_reject : (a b : Reject) → Decides (reject.ghosts.eq a b) (a ≡ b)
+pub same_reject : (a b : Reject) → Decides (reject.ghosts.eq a b) (a ≡ b)
 same_reject a b = search rules
 
-same_recover_async : (a b : RecoverAsync) → Decides (recover_async.ghosts.eq a b) (a ≡ b)
+pub same_recover_async : (a b : RecoverAsync) → Decides (recover_async.ghosts.eq a b) (a ≡ b)
 same_recover_async a b = search rules
 
-same_recover : (a b : Recover) → Decides (recover.ghosts.eq a b) (a ≡ b)
+pub same_recover : (a b : Recover) → Decides (recover.ghosts.eq a b) (a ≡ b)
 same_recover a b = search rules
 
-same_nack : (a b : Nack) → Decides (nack.ghosts.eq a b) (a ≡ b)
+pub same_nack : (a b : Nack) → Decides (nack.ghosts.eq a b) (a ≡ b)
 same_nack a b = search rules
 
 same : (a b : AMQPMethod) → method.ghosts.eq a b ≡ true → a ≡ b

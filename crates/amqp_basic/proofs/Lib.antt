@@ -1,1 +1,2 @@
+-- The lemmas of amqp_basic.
 pub mod Equality

@@ -80,7 +80,7 @@ pub enum AMQPMethod {
     /// The client rejects a message.
     Reject(Reject),
 
-    /// The client asks for all messages again that it has not acknowledged, and waits for no answer.
+    /// The client asks for all messages again that it has not acknowledged, and expects no reply.
     RecoverAsync(RecoverAsync),
 
     /// The client asks for all messages again that it has not acknowledged.
@@ -272,7 +272,7 @@ macro_rules! with_fields {
     };
 }
 
-/// The size of the class id, the method id and the fields.
+/// The size in bytes of the class id, the method id and the fields.
 #[tactic(auto)]
 pub fn size_basic(method: &AMQPMethod) -> Result<u64, GenError>
     ensures { Measures result (payload_size (method_of method.now)) }

@@ -4,37 +4,38 @@ use Rattle.std.proofs.lemmas.List.Concat.{flat_map-append}
 use Rattle.std.specs.List.{concat}
 use Rattle.amqp_types.specs.Levels.{Level}
 use Rattle.amqp_types.specs.Judging.{Fault, Judged, past, fault, took}
-use Rattle.amqp_frame.specs.Canonical.{canon, canon_row}
+use Rattle.amqp_frame.specs.Canonical.{canon, canon_frames}
 use Rattle.amqp_frame.specs.Frames.{Frame, Raw}
 use Rattle.amqp_frame.specs.Fronts.{front, place}
 use Rattle.amqp_frame.specs.Outer.{outer}
 use Rattle.amqp_frame.specs.Verdicts.{is_at, judged, judged_frame, verdict, whole}
 use Rattle.amqp_frame.proofs.Cuts.{front-stop, verdict-append, verdict-none}
 use Rattle.amqp_frame.proofs.OuterLook.{outer-past_few}
-use Rattle.amqp_frame.proofs.Rows.{splits_of, front_fault}
+use Rattle.amqp_frame.proofs.Sequences.{splits_of, front_fault}
 use Rattle.amqp_stream.specs.Canonicalizing.{canon_of}
 use Rattle.amqp_stream.specs.Transcribing.{answer_at}
-use Rattle.amqp_c.specs.Rewriting.{Call, FaultsStay, LittleIsLeft, PiecesAreWhole, called, end_status, fed_after, then_called}
+use Rattle.amqp_c.specs.Rewriting.{Call, FaultsStay, LittleIsLeft, PiecesAreWhole, called, fed_after, then_called}
 use Rattle.amqp_c.specs.Scans.{fault_status}
+use Rattle.amqp_stream.specs.Errors.{status_of}
 
 -- ---- more bytes after some: only what was left of these is read again
 
 front_more : (level : Level) (m : Option ℕ) (a b : List ℕ) → front level m (a ++ b) ≡ front level m a ++ front level m (place level m a ++ b)
 front_more level m a b =
     let s = splits_of level m a in
-    ap (λ (xs : List ℕ). front level m (xs ++ b)) s.parts ∙ ap (front level m) (append_assoc s.used (place level m a) b) ∙ s.row.row (place level m a ++ b)
+    ap (λ (xs : List ℕ). front level m (xs ++ b)) s.parts ∙ ap (front level m) (append_assoc s.used (place level m a) b) ∙ s.sequence.sequence (place level m a ++ b)
 
 place_more : (level : Level) (m : Option ℕ) (a b : List ℕ) → place level m (a ++ b) ≡ place level m (place level m a ++ b)
 place_more level m a b =
     let s = splits_of level m a in
-    ap (λ (xs : List ℕ). place level m (xs ++ b)) s.parts ∙ ap (place level m) (append_assoc s.used (place level m a) b) ∙ s.row.after (place level m a ++ b)
+    ap (λ (xs : List ℕ). place level m (xs ++ b)) s.parts ∙ ap (place level m) (append_assoc s.used (place level m a) b) ∙ s.sequence.after (place level m a ++ b)
 
 text_more : (level : Level) (m : ℕ) (a b : List ℕ) → canon_of level m (a ++ b) ≡ canon_of level m a ++ canon_of level m (place level (Some m) a ++ b)
-text_more level m a b = ap canon_row (front_more level (Some m) a b) ∙ flat_map-append canon (front level (Some m) a) (front level (Some m) (place level (Some m) a ++ b))
+text_more level m a b = ap canon_frames (front_more level (Some m) a b) ∙ flat_map-append canon (front level (Some m) a) (front level (Some m) (place level (Some m) a ++ b))
 
 -- the status at a place
 abbrev status_at : Level → ℕ → List ℕ → ℕ
-status_at level m bytes = end_status (answer_at bytes (verdict level (Some m) bytes))
+status_at level m bytes = status_of (answer_at bytes (verdict level (Some m) bytes))
 
 same_call : (text other : List ℕ) (left rest : List ℕ) (status end : ℕ) → text ≡ other → left ≡ rest → status ≡ end
     → (let a : Call = record { text = text; left = left; status = status } in let b : Call = record { text = other; left = rest; status = end } in a ≡ b)
@@ -59,14 +60,14 @@ pieces_are_whole level m first pieces = fed_more level m first pieces
 
 pub status_fault : (level : Level) (m : ℕ) (bytes : List ℕ) (bad : Fault) → verdict level (Some m) bytes ≡ fault bad → status_at level m bytes ≡ fault_status bad
 status_fault level m [] bad e = absurd (let none = verdict-none level (Some m) in cc)
-status_fault level m (b ∷ bytes) bad e = ap (λ j. end_status (answer_at (b ∷ bytes) j)) e
+status_fault level m (b ∷ bytes) bad e = ap (λ j. status_of (answer_at (b ∷ bytes) j)) e
 
 pub faults_stay : FaultsStay
 faults_stay level m bytes more bad e =
     let left = place level (Some m) bytes in
     let again : verdict level (Some m) (left ++ more) ≡ fault bad = verdict-append level (Some m) left more (λ h. absurd cc) ∙ e in
     let stays : place level (Some m) (bytes ++ more) ≡ left ++ more = place_more level (Some m) bytes more ∙ (front-stop level (Some m) (left ++ more) (rw again tt)).1 in
-    same_call _ _ _ _ _ _ (ap canon_row (front_fault level (Some m) bytes more bad e)) stays (ap (status_at level m) stays ∙ status_fault level m (left ++ more) bad again)
+    same_call _ _ _ _ _ _ (ap canon_frames (front_fault level (Some m) bytes more bad e)) stays (ap (status_at level m) stays ∙ status_fault level m (left ++ more) bad again)
 
 -- ---- what is left where more bytes are needed
 

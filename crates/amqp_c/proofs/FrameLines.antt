@@ -12,11 +12,11 @@ use Rattle.amqp_frame.specs.Verdicts.{verdict, whole}
 use Rattle.amqp_frame.proofs.Cuts.{verdict-whole}
 use Rattle.amqp_stream.specs.declared.errors.StreamError.{StreamError}
 use Rattle.amqp_stream.specs.declared.errors.StreamError.TheVariants as errors
-use Rattle.amqp_stream.specs.Errors.{cause_of, error_of}
+use Rattle.amqp_stream.specs.Errors.{cause_of, error_for}
 use Rattle.amqp_stream.specs.Reading.{Lies}
 use Rattle.amqp_stream.specs.Writing.{IsFaulty}
 use Rattle.amqp_text.specs.LineReading.{HasNoNewline, IsFirstLine}
-use Rattle.amqp_text.specs.LineTexts.{IsUntold}
+use Rattle.amqp_text.specs.LineTexts.{HasNoLine}
 use Rattle.amqp_text.specs.Lines.{line}
 use Rattle.amqp_text.specs.OneLine.{IsLineOf, IsNoLine, IsStrictWithin}
 use Rattle.amqp_text.proofs.LinesApart.{same_frame}
@@ -37,12 +37,12 @@ pub no_front : (m : ℕ) (bytes old new : List ℕ) (error : StreamError) → er
 no_front m bytes old new errors.NoMemory h = tt
 no_front m bytes old new error h = unscanned plain m bytes error h
 
-at_fault : (m : ℕ) (bytes : List ℕ) (raw : Raw) (layout : FrameLayout) (bad : Fault) → Lies m bytes layout → raw ≡ laid_out layout bytes → IsFaulty plain raw bad → error_at (verdict plain (Some m) bytes) ≡ Some (error_of bad)
+at_fault : (m : ℕ) (bytes : List ℕ) (raw : Raw) (layout : FrameLayout) (bad : Fault) → Lies m bytes layout → raw ≡ laid_out layout bytes → IsFaulty plain raw bad → error_at (verdict plain (Some m) bytes) ≡ Some (error_for bad)
 at_fault m bytes raw layout bad lies is h =
     let found : outer (Some m) bytes ≡ took raw layout.frame_len = lies.found ∙ ap (λ (r : Raw). took r layout.frame_len) (sym is) in
     ap error_at (fault_verdict plain m bytes raw layout.frame_len bad found h)
 
-pub no_line : (m : ℕ) (bytes old new : List ℕ) (raw : Raw) (layout : FrameLayout) (error : StreamError) → Lies m bytes layout → raw ≡ laid_out layout bytes → IsUntold raw (cause_of error) → AppendsFront m bytes old new (Err error)
+pub no_line : (m : ℕ) (bytes old new : List ℕ) (raw : Raw) (layout : FrameLayout) (error : StreamError) → Lies m bytes layout → raw ≡ laid_out layout bytes → HasNoLine raw (cause_of error) → AppendsFront m bytes old new (Err error)
 no_line m bytes old new raw layout errors.NoMemory lies is h = tt
 no_line m bytes old new raw layout errors.CutShort lies is h = absurd h
 no_line m bytes old new raw layout errors.TurnsSpent lies is h = absurd h

@@ -11,7 +11,7 @@ use Rattle.amqp_types.specs.declared.errors.ParserError.TheVariants as parses
 use Rattle.amqp_types.proofs.Puts.{puts_none, puts_then}
 use Rattle.amqp_frame.specs.declared.frame_type.AMQPFrameType.TheVariants as kinds
 use Rattle.amqp_frame.specs.declared.looking.FrameLayout.{FrameLayout}
-use Rattle.amqp_frame.specs.Canonical.{canon, canon_row}
+use Rattle.amqp_frame.specs.Canonical.{canon, canon_frames}
 use Rattle.amqp_frame.specs.Frames.{Frame, Proto, Raw}
 use Rattle.amqp_frame.specs.Fronts.{front, place}
 use Rattle.amqp_frame.specs.Looks.{laid_out}
@@ -22,13 +22,13 @@ use Rattle.amqp_frame.proofs.Cuts.{IsStop, front-got, front-stop, front-none, pl
 use Rattle.amqp_frame.proofs.OuterLook.{outer-in_bounds}
 use Rattle.amqp_stream.specs.declared.errors.StreamError.{StreamError}
 use Rattle.amqp_stream.specs.declared.errors.StreamError.TheVariants as errors
-use Rattle.amqp_stream.specs.Errors.{error_of, stream_error_status}
+use Rattle.amqp_stream.specs.Errors.{error_for, stream_error_status, status_of}
 use Rattle.amqp_stream.specs.Reading.{Lies}
 use Rattle.amqp_stream.specs.Transcribing.{answer_at, answer_to}
 use Rattle.amqp_stream.specs.Writing.{IsFaulty, frame_length, payload_fault}
 use Rattle.amqp_stream.proofs.Going.{frame_fits}
 use Rattle.amqp_stream.proofs.Writes.{is_faulty}
-use Rattle.amqp_c.specs.Rewriting.{Canonicalizes, PutsFrame, PutsFrom, PutsVersion, end_status}
+use Rattle.amqp_c.specs.Rewriting.{CanonicalizesPart, PutsFrame, PutsFrom, PutsVersion}
 use Rattle.amqp_c.specs.Scans.{error_at}
 
 -- ---- one frame
@@ -38,7 +38,7 @@ pub record HasFault (raw : Raw) (error : StreamError) : Type 0 where
   pub bad : Fault
   pub is_whole : whole raw ≡ Err bad
   pub other : bad ≢ not_tidy
-  pub error_is : error ≡ error_of bad
+  pub error_is : error ≡ error_for bad
 
 pub has_fault : (raw : Raw) (error : ParserError) → IsPayloadError error → error ≢ parses.NoMemory → RefusesWhole error (whole raw) → HasFault raw (payload_fault error)
 has_fault raw parses.NoMemory inside some h = absurd (some refl)
@@ -133,17 +133,17 @@ front_unput level m bytes old new at raw layout error lies is puts =
 -- So many bytes are a sequence of frames, whatever follows, whose canonical bytes stand at the front of the buffer.
 pub record Going (level : Level) (m : ℕ) (bytes old now : List ℕ) (used done : ℕ) : Type 0 where
   pub frames : List Frame
-  pub row : front level (Some m) bytes ≡ frames ++ front level (Some m) (drop used bytes)
+  pub sequence : front level (Some m) bytes ≡ frames ++ front level (Some m) (drop used bytes)
   pub after : place level (Some m) bytes ≡ place level (Some m) (drop used bytes)
-  pub put : Puts old now 0 (canon_row frames) done
+  pub put : Puts old now 0 (canon_frames frames) done
   pub within : used ≤ length bytes
   pub shorter : done ≤ used
 
 pub going_start : (level : Level) (m : ℕ) (bytes old : List ℕ) → Going level m bytes old old 0 0
-going_start level m bytes old = record { frames = []; row = refl; after = refl; put = puts_none old 0 [] refl; within = omega arith; shorter = omega arith }
+going_start level m bytes old = record { frames = []; sequence = refl; after = refl; put = puts_none old 0 [] refl; within = omega arith; shorter = omega arith }
 
-canon_row-more : (frames : List Frame) (f : Frame) → canon_row (frames ++ f ∷ []) ≡ canon_row frames ++ canon f
-canon_row-more frames f = flat_map-append canon frames (f ∷ []) ∙ ap (λ (xs : List ℕ). canon_row frames ++ xs) (append-nil (canon f))
+canon_frames-more : (frames : List Frame) (f : Frame) → canon_frames (frames ++ f ∷ []) ≡ canon_frames frames ++ canon f
+canon_frames-more frames f = flat_map-append canon frames (f ∷ []) ∙ ap (λ (xs : List ℕ). canon_frames frames ++ xs) (append-nil (canon f))
 
 pub going_on : {level : Level} {m : ℕ} {bytes old now new : List ℕ} {used done more end : ℕ} → length bytes ≤ length old → Going level m bytes old now used done → PutsFrom level m (drop used bytes) now new done more end → Going level m bytes old new (used + more) end
 going_on {level = level} {m = m} {bytes = bytes} {old = old} {now = now} {new = new} {used = used} {done = done} {more = more} {end = end} room g p =
@@ -151,13 +151,13 @@ going_on {level = level} {m = m} {bytes = bytes} {old = old} {now = now} {new = 
     let at = verdict-got_within level (Some m) rest p.frame more p.found in
     let goes = front-got level (Some m) rest p.frame more p.found in
     let further : drop more rest ≡ drop (used + more) bytes = drop-drop more used bytes in
-    let long : 0 + length (canon_row g.frames ++ canon p.frame) ≤ length old = omega (arith, length-append (canon_row g.frames) (canon p.frame), g.put.behind, p.put.behind, p.no_longer, g.shorter, at.1, length-drop used bytes) in
-    let both : Puts old new 0 (canon_row g.frames ++ canon p.frame) end = puts_then old now new 0 done end (canon_row g.frames) (canon p.frame) long g.put p.put in
+    let long : 0 + length (canon_frames g.frames ++ canon p.frame) ≤ length old = omega (arith, length-append (canon_frames g.frames) (canon p.frame), g.put.behind, p.put.behind, p.no_longer, g.shorter, at.1, length-drop used bytes) in
+    let both : Puts old new 0 (canon_frames g.frames ++ canon p.frame) end = puts_then old now new 0 done end (canon_frames g.frames) (canon p.frame) long g.put p.put in
     record {
       frames = g.frames ++ p.frame ∷ [];
-      row = g.row ∙ ap (λ (fs : List Frame). g.frames ++ fs) (goes.row ∙ ap (λ (xs : List ℕ). p.frame ∷ front level (Some m) xs) further) ∙ sym (append_assoc g.frames (p.frame ∷ []) (front level (Some m) (drop (used + more) bytes)));
+      sequence = g.sequence ∙ ap (λ (fs : List Frame). g.frames ++ fs) (goes.sequence ∙ ap (λ (xs : List ℕ). p.frame ∷ front level (Some m) xs) further) ∙ sym (append_assoc g.frames (p.frame ∷ []) (front level (Some m) (drop (used + more) bytes)));
       after = g.after ∙ goes.after ∙ ap (place level (Some m)) further;
-      put = subst (λ (xs : List ℕ). Puts old new 0 xs end) (sym (canon_row-more g.frames p.frame)) both;
+      put = subst (λ (xs : List ℕ). Puts old new 0 xs end) (sym (canon_frames-more g.frames p.frame)) both;
       within = omega (arith, at.1, length-drop used bytes, g.within);
       shorter = omega (arith, p.no_longer, g.shorter);
     }
@@ -173,38 +173,38 @@ stops (took f n) error e = absurd cc
 stops past error e = tt
 stops (fault bad) error e = tt
 
-status_stop : (bytes : List ℕ) (j : Judged Frame) (error : StreamError) → 0 < length bytes → error_at j ≡ Some error → end_status (answer_at bytes j) ≡ stream_error_status error
+status_stop : (bytes : List ℕ) (j : Judged Frame) (error : StreamError) → 0 < length bytes → error_at j ≡ Some error → status_of (answer_at bytes j) ≡ stream_error_status error
 status_stop [] j error some e = absurd (omega arith)
 status_stop (b ∷ bytes) (took f n) error some e = absurd cc
 status_stop (b ∷ bytes) past error some e = let is : errors.CutShort ≡ error = cc in ap stream_error_status is
-status_stop (b ∷ bytes) (fault bad) error some e = let is : error_of bad ≡ error = cc in ap stream_error_status is
+status_stop (b ∷ bytes) (fault bad) error some e = let is : error_for bad ≡ error = cc in ap stream_error_status is
 
 -- where the front is all that was used
-going_ends : {level : Level} {m : ℕ} {bytes old now : List ℕ} {used done status : ℕ} → Going level m bytes old now used done → front level (Some m) (drop used bytes) ≡ [] → place level (Some m) (drop used bytes) ≡ drop used bytes → status ≡ end_status (answer_to level m bytes) → Canonicalizes level m bytes old now (record { used = used; written = done; status = status })
+going_ends : {level : Level} {m : ℕ} {bytes old now : List ℕ} {used done status : ℕ} → Going level m bytes old now used done → front level (Some m) (drop used bytes) ≡ [] → place level (Some m) (drop used bytes) ≡ drop used bytes → status ≡ status_of (answer_to level m bytes) → CanonicalizesPart level m bytes old now (record { used = used; written = done; status = status })
 going_ends {level = level} {m = m} {bytes = bytes} {old = old} {now = now} {used = used} {done = done} g none stays is =
-    let all : front level (Some m) bytes ≡ g.frames = g.row ∙ ap (λ (fs : List Frame). g.frames ++ fs) none ∙ append-nil g.frames in
+    let all : front level (Some m) bytes ≡ g.frames = g.sequence ∙ ap (λ (fs : List Frame). g.frames ++ fs) none ∙ append-nil g.frames in
     let left : place level (Some m) bytes ≡ drop used bytes = g.after ∙ stays in
     record {
       used = omega (arith, ap length left, length-drop used bytes, g.within);
       left = sym left;
-      put = subst (λ (fs : List Frame). Puts old now 0 (canon_row fs) done) (sym all) g.put;
+      put = subst (λ (fs : List Frame). Puts old now 0 (canon_frames fs) done) (sym all) g.put;
       no_longer = g.shorter;
       status = is;
     }
 
-pub going_stops : {level : Level} {m : ℕ} {bytes old now : List ℕ} {used done : ℕ} (error : StreamError) → used < length bytes → Going level m bytes old now used done → error_at (verdict level (Some m) (drop used bytes)) ≡ Some error → Canonicalizes level m bytes old now (record { used = used; written = done; status = stream_error_status error })
+pub going_stops : {level : Level} {m : ℕ} {bytes old now : List ℕ} {used done : ℕ} (error : StreamError) → used < length bytes → Going level m bytes old now used done → error_at (verdict level (Some m) (drop used bytes)) ≡ Some error → CanonicalizesPart level m bytes old now (record { used = used; written = done; status = stream_error_status error })
 going_stops {level = level} {m = m} {bytes = bytes} {used = used} error some g e =
     let rest = drop used bytes in
     let stop = front-stop level (Some m) rest (stops (verdict level (Some m) rest) error e) in
     let left : place level (Some m) bytes ≡ rest = g.after ∙ stop.1 in
     let there : 0 < length rest = omega (arith, length-drop used bytes) in
-    let status : end_status (answer_to level m bytes) ≡ stream_error_status error = ap (λ (p : List ℕ). end_status (answer_at p (verdict level (Some m) p))) left ∙ status_stop rest (verdict level (Some m) rest) error there e in
+    let status : status_of (answer_to level m bytes) ≡ stream_error_status error = ap (λ (p : List ℕ). status_of (answer_at p (verdict level (Some m) p))) left ∙ status_stop rest (verdict level (Some m) rest) error there e in
     going_ends g stop.0 stop.1 (sym status)
 
-pub going_finishes : {level : Level} {m : ℕ} {bytes old now : List ℕ} {used done : ℕ} → length bytes ≤ used → Going level m bytes old now used done → Canonicalizes level m bytes old now (record { used = used; written = done; status = 0 })
+pub going_finishes : {level : Level} {m : ℕ} {bytes old now : List ℕ} {used done : ℕ} → length bytes ≤ used → Going level m bytes old now used done → CanonicalizesPart level m bytes old now (record { used = used; written = done; status = 0 })
 going_finishes {level = level} {m = m} {bytes = bytes} {used = used} all g =
     let none : drop used bytes ≡ [] = drop_all used bytes all in
     let empty : front level (Some m) (drop used bytes) ≡ [] = ap (front level (Some m)) none ∙ front-none level (Some m) in
     let nothing : place level (Some m) (drop used bytes) ≡ [] = ap (place level (Some m)) none ∙ place-none level (Some m) in
     let left : place level (Some m) bytes ≡ [] = g.after ∙ nothing in
-    going_ends g empty (nothing ∙ sym none) (sym (ap (λ (p : List ℕ). end_status (answer_at p (verdict level (Some m) p))) left))
+    going_ends g empty (nothing ∙ sym none) (sym (ap (λ (p : List ℕ). status_of (answer_at p (verdict level (Some m) p))) left))

@@ -1,5 +1,7 @@
+-- The lemmas of amqp_c.
 pub mod Entries
 pub mod Feeding
 pub mod FrameLines
 pub mod Fronts
 pub mod Summaries
+pub mod EqualResults

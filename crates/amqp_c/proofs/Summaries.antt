@@ -1,4 +1,4 @@
--- What is said of a payload is the same on each channel.
+-- What is reported of a payload is the same on each channel.
 use Rattle.std.proofs.Common.{◌≡◌, ℕ, ◌≤◌, List, [], ◌∷◌, length, if◌then◌else◌, Some, Bool, true, false, Result, Ok, Err, refl, sym, ap, ◌∙◌, eqb}
 use Rattle.std.proofs.lemmas.Bool.{le-ltb}
 use Rattle.amqp_types.specs.Judging.{Fault, too_large}
@@ -12,13 +12,14 @@ use Rattle.amqp_frame.specs.Outer.{type_of}
 use Rattle.amqp_frame.specs.Outlines.{outline_of}
 use Rattle.amqp_frame.specs.Verdicts.{all_of, is_tidy_as, is_written_for, whole, whole_as}
 use Rattle.amqp_c.specs.declared.check.PayloadSummary.{PayloadSummary}
-use Rattle.amqp_c.specs.Checks.{raw_after, raw_typed, refused, summary_at, summary_of, summed}
+use Rattle.amqp_c.specs.Checks.{raw_after, raw_typed, no_summary, summary_at, summary_of, summed}
 use Rattle.amqp_c.specs.Scans.{fault_status}
+use Rattle.amqp_frame.proofs.Spelled.{raw_as}
 
 -- a payload of a type, by what is read of it
 abbrev read_as : AMQPFrameType → List ℕ → Result Frame Fault → PayloadSummary
 read_as kind payload (Ok frame) = summed (is_written_for (Ok frame) payload) (is_tidy_as kind payload) (outline_of frame)
-read_as kind payload (Err bad) = refused (fault_status bad)
+read_as kind payload (Err bad) = no_summary (fault_status bad)
 
 summary-read : (kind : AMQPFrameType) (channel : ℕ) (payload : List ℕ) (read : Result Frame Fault) → whole_as kind channel payload ≡ read
     → (let raw : Raw = record { kind = kind; channel = channel; payload = payload } in summary_at raw (whole raw) ≡ read_as kind payload read)
@@ -67,10 +68,6 @@ read-any kinds.Heartbeat a b payload = rw (beat-if a, beat-if b) (read-beat payl
 abbrev raw_if : Bool → Raw → Result Raw Fault
 raw_if t raw = if t then Err too_large else Ok raw
 
--- a payload as a borrowed frame of this type
-abbrev pub raw_as : AMQPFrameType → ℕ → List ℕ → Raw
-raw_as kind channel payload = record { kind = kind; channel = channel; payload = payload }
-
 pub summary-channel : (kind : AMQPFrameType) (a b : ℕ) (payload : List ℕ) → summary_at (raw_as kind a payload) (whole (raw_as kind a payload)) ≡ summary_at (raw_as kind b payload) (whole (raw_as kind b payload))
 summary-channel kind a b payload =
     summary-read kind a payload (whole_as kind a payload) refl
@@ -80,6 +77,6 @@ summary-channel kind a b payload =
 raw-known : (byte channel : ℕ) (kind : AMQPFrameType) (payload : List ℕ) → type_of byte ≡ Some kind → length payload ≤ 4294967295 → raw_after byte channel payload ≡ Ok (raw_as kind channel payload)
 raw-known byte channel kind payload e few = ap (λ o. raw_typed o channel payload) e ∙ ap (λ t. raw_if t (raw_as kind channel payload)) (le-ltb 4294967295 (length payload) few)
 
--- what is said of a payload after a type byte, on any channel
+-- what is reported of a payload after a type byte, on any channel
 pub summary_known : (byte channel : ℕ) (kind : AMQPFrameType) (payload : List ℕ) (summary : PayloadSummary) → type_of byte ≡ Some kind → length payload ≤ 4294967295 → summary ≡ summary_at (raw_as kind 0 payload) (whole (raw_as kind 0 payload)) → summary ≡ summary_of (raw_after byte channel payload)
 summary_known byte channel kind payload summary e few is = is ∙ summary-channel kind 0 channel payload ∙ ap summary_of (sym (raw-known byte channel kind payload e few))

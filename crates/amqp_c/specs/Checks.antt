@@ -1,4 +1,4 @@
--- What is said of a whole payload.
+-- What is reported of a whole payload: its ids and sizes, and whether it is canonical and tidy; or its fault.
 use Rattle.std.specs.Prelude.{◌≡◌, ℕ, ◌-◌, ◌^◌, nat_lt, Bool, false, if◌then◌else◌, List, length, Option, Some, None, Result, Ok, Err}
 use Rattle.amqp_types.specs.Levels.{tidy, strict}
 use Rattle.amqp_types.specs.Judging.{Fault, unknown_frame_type, too_large}
@@ -24,8 +24,8 @@ abbrev pub raw_after : ℕ → ℕ → List ℕ → Result Raw Fault
 raw_after byte channel payload = raw_typed (type_of byte) channel payload
 
 -- no frame, by this status
-abbrev pub refused : ℕ → PayloadSummary
-refused status = record { body_size = 0; class_id = 0; method_id = 0; canonical = false; tidy = false; status = status }
+abbrev pub no_summary : ℕ → PayloadSummary
+no_summary status = record { body_size = 0; class_id = 0; method_id = 0; canonical = false; tidy = false; status = status }
 
 -- a frame, by whether its payload is canonical and tidy, and by what stands in it
 abbrev pub standing : Bool → Bool → ℕ → ℕ → ℕ → PayloadSummary
@@ -42,16 +42,18 @@ summed canonical is_tidy (outlines.Heartbeat channel) = standing canonical is_ti
 -- a whole payload, by what is read of it
 abbrev pub summary_at : Raw → Result Frame Fault → PayloadSummary
 summary_at raw (Ok frame) = summed (is_at strict raw) (is_at tidy raw) (outline_of frame)
-summary_at raw (Err bad) = refused (fault_status bad)
+summary_at raw (Err bad) = no_summary (fault_status bad)
 
+-- the summary of a payload after a type byte; the fault of a byte that names no type, or of a payload of 2^32 bytes or more, gives its status alone
 abbrev pub summary_of : Result Raw Fault → PayloadSummary
 summary_of (Ok raw) = summary_at raw (whole raw)
-summary_of (Err bad) = refused (fault_status bad)
+summary_of (Err bad) = no_summary (fault_status bad)
 
 -- what a call returns
 abbrev pub summary_or : Result PayloadSummary StreamError → PayloadSummary
 summary_or (Ok summary) = summary
-summary_or (Err error) = refused (stream_error_status error)
+summary_or (Err error) = no_summary (stream_error_status error)
 
+-- what a call returns, with its error as a status, is the summary of a whole payload
 abbrev pub SumsUp : Raw → Result PayloadSummary StreamError → Type 0
 SumsUp raw result = summary_or result ≡ summary_at raw (whole raw)

@@ -17,6 +17,7 @@ use Rattle.amqp_c.specs.Statuses.{buffer_too_small, incomplete}
 abbrev pub nothing_with : ℕ → FrameLine
 nothing_with status = record { used = 0; length = 0; status = status }
 
+-- nothing is read or written, for the reason that the status gives: the buffer stays
 pub record RefusesLine (status : ℕ) (old new : List ℕ) (result : FrameLine) : Type 0 where
   pub is : result ≡ nothing_with status
   pub kept : new ≡ old

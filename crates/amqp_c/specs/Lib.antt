@@ -1,3 +1,4 @@
+-- The definitions of amqp_c.
 pub mod Scans
 pub mod Checks
 pub mod Statuses

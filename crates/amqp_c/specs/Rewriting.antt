@@ -12,7 +12,7 @@ use Rattle.amqp_frame.specs.Canonical.{canon}
 use Rattle.amqp_frame.specs.Verdicts.{is_at, verdict, whole, whole_as}
 use Rattle.amqp_frame.specs.Fronts.{place}
 use Rattle.amqp_stream.specs.declared.errors.StreamError.{StreamError}
-use Rattle.amqp_stream.specs.Errors.{error_of, stream_error_status}
+use Rattle.amqp_stream.specs.Errors.{error_for, stream_error_status, status_of}
 use Rattle.amqp_stream.specs.Writing.{IsFaulty}
 use Rattle.amqp_stream.specs.Canonicalizing.{canon_of}
 use Rattle.amqp_stream.specs.Transcribing.{answer_to, place_verdict}
@@ -23,37 +23,33 @@ use Rattle.amqp_c.specs.Scans.{error_at, fault_status}
 abbrev pub profile_at : ℕ → Option Profile
 profile_at level = if level == 0 then Some profiles.Plain else (if level == 1 then Some profiles.Tidy else None)
 
--- the status that a stream ends with
-abbrev pub end_status : Result (Unit {0}) StreamError → ℕ
-end_status (Ok done) = 0
-end_status (Err error) = stream_error_status error
-
 -- ---- one call
 
 -- nothing is used or written
-pub record Refuses (status : ℕ) (old new : List ℕ) (progress : Progress) : Type 0 where
+pub record RefusesPart (status : ℕ) (old new : List ℕ) (progress : Progress) : Type 0 where
   pub is : progress ≡ record { used = 0; written = 0; status = status }
   pub kept : new ≡ old
 
--- The frames in front are used, and their canonical bytes stand at the front of the buffer, which is kept after them. The status is that of a stream of these bytes.
-pub record Canonicalizes (level : Level) (m : ℕ) (bytes old new : List ℕ) (progress : Progress) : Type 0 where
+-- The frames in front are used, and their canonical bytes stand at the front of the buffer, which is kept after them. The status is that of a stream of
+-- these bytes.
+pub record CanonicalizesPart (level : Level) (m : ℕ) (bytes old new : List ℕ) (progress : Progress) : Type 0 where
   pub used : progress.used + length (place level (Some m) bytes) ≡ length bytes
   pub left : drop progress.used bytes ≡ place level (Some m) bytes
   pub put : Puts old new 0 (canon_of level m bytes) progress.written
   pub no_longer : progress.written ≤ progress.used
-  pub status : progress.status ≡ end_status (answer_to level m bytes)
+  pub status : progress.status ≡ status_of (answer_to level m bytes)
 
 -- ---- one frame
 
--- the canonical bytes of a frame at a level are put at the place, or it is said why they are not, and nothing is put
+-- the canonical bytes of a frame at a level are put at the place, or the error is that of its fault, and nothing is put
 abbrev pub PutsFrame : Level → List ℕ → List ℕ → ℕ → Raw → Result ℕ StreamError → Type 0
 PutsFrame level old new at raw (Ok end) = (frame : Frame) × (whole raw ≡ Ok frame) × (is_at level raw ≡ true) × Puts old new at (canon frame) end
-PutsFrame level old new at raw (Err error) = (bad : Fault) × IsFaulty level raw bad × (error ≡ error_of bad) × (new ≡ old)
+PutsFrame level old new at raw (Err error) = (bad : Fault) × IsFaulty level raw bad × (error ≡ error_for bad) × (new ≡ old)
 
 -- the same of a protocol header, on any channel
 abbrev pub PutsVersion : List ℕ → List ℕ → ℕ → List ℕ → Result ℕ StreamError → Type 0
 PutsVersion old new at payload (Ok end) = (frame : Frame) × ((channel : ℕ) → whole_as kinds.ProtocolHeader channel payload ≡ Ok frame) × Puts old new at (canon frame) end × (length (canon frame) ≡ 8)
-PutsVersion old new at payload (Err error) = (bad : Fault) × ((channel : ℕ) → whole_as kinds.ProtocolHeader channel payload ≡ Err bad) × (bad ≢ not_tidy) × (error ≡ error_of bad) × (new ≡ old)
+PutsVersion old new at payload (Err error) = (bad : Fault) × ((channel : ℕ) → whole_as kinds.ProtocolHeader channel payload ≡ Err bad) × (bad ≢ not_tidy) × (error ≡ error_for bad) × (new ≡ old)
 
 -- the frame in front was used and its canonical bytes put
 pub record PutsFrom (level : Level) (m : ℕ) (bytes old new : List ℕ) (at used end : ℕ) : Type 0 where
@@ -62,7 +58,7 @@ pub record PutsFrom (level : Level) (m : ℕ) (bytes old new : List ℕ) (at use
   pub put : Puts old new at (canon frame) end
   pub no_longer : end ≤ at + used
 
--- the canonical bytes of the frame in front are put at the place, or it is said why none is in front, and nothing is put
+-- the canonical bytes of the frame in front are put at the place, or the error says why none is in front, and nothing is put
 abbrev pub PutsFront : Level → ℕ → List ℕ → List ℕ → List ℕ → ℕ → Result (ℕ × ℕ) StreamError → Type 0
 PutsFront level m bytes old new at (Ok (used, end)) = PutsFrom level m bytes old new at used end
 PutsFront level m bytes old new at (Err error) = (error_at (verdict level (Some m) bytes) ≡ Some error) × (new ≡ old)
@@ -75,8 +71,9 @@ pub record Call : Type 0 where
   pub left : List ℕ
   pub status : ℕ
 
+-- a call on some bytes: it writes the canonical bytes of the frames in front, leaves the bytes after them, and returns the status of a stream of them all
 abbrev pub called : Level → ℕ → List ℕ → Call
-called level m bytes = record { text = canon_of level m bytes; left = place level (Some m) bytes; status = end_status (answer_to level m bytes) }
+called level m bytes = record { text = canon_of level m bytes; left = place level (Some m) bytes; status = status_of (answer_to level m bytes) }
 
 -- one call after others: what they left, in front of the next piece
 abbrev pub then_called : Level → ℕ → Call → List ℕ → Call
@@ -84,6 +81,7 @@ then_called level m done piece =
     let next = called level m (done.left ++ piece) in
     record { text = done.text ++ next.text; left = next.left; status = next.status }
 
+-- what a call and then one for each piece, in order, give together
 abbrev pub fed_after : Level → ℕ → Call → List (List ℕ) → Call
 fed_after level m done [] = done
 fed_after level m done (piece ∷ pieces) = fed_after level m (then_called level m done piece) pieces

@@ -7,13 +7,13 @@ use Rattle.amqp_frame.specs.Outer.{outer}
 use Rattle.amqp_frame.specs.Spelling.{byte_of}
 use Rattle.amqp_stream.specs.declared.errors.StreamError.{StreamError}
 use Rattle.amqp_stream.specs.declared.errors.StreamError.TheVariants as errors
-use Rattle.amqp_stream.specs.Errors.{error_of, stream_error_status}
+use Rattle.amqp_stream.specs.Errors.{error_for, stream_error_status}
 use Rattle.amqp_stream.specs.Reading.{Lies}
 use Rattle.amqp_c.specs.declared.next.FrontFrame.{FrontFrame}
 
 -- the status of a fault of bytes
 abbrev pub fault_status : Fault → ℕ
-fault_status bad = stream_error_status (error_of bad)
+fault_status bad = stream_error_status (error_for bad)
 
 -- the status of what is read from the left; where more bytes are needed, that of input that ends there
 abbrev pub judged_status : {A : Type 0} → Judged A → ℕ
@@ -44,7 +44,7 @@ Locates bytes (fault bad) front = front ≡ nowhere (fault_status bad)
 abbrev pub error_at : {A : Type 0} → Judged A → Option StreamError
 error_at (took x used) = None
 error_at past = Some errors.CutShort
-error_at (fault bad) = Some (error_of bad)
+error_at (fault bad) = Some (error_for bad)
 
 -- where the frame in front lies, or the error of a stream that ends there
 abbrev pub Scans : ℕ → List ℕ → Result FrameLayout StreamError → Type 0

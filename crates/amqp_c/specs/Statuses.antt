@@ -26,12 +26,14 @@ buffer_too_small = 40
 abbrev pub bad_argument : ℕ
 bad_argument = 41
 
+-- the status of an error; a stream's error keeps its own
 abbrev pub call_error_status : CallError → ℕ
 call_error_status (errors.Stream error) = stream_error_status error
 call_error_status errors.BadText = bad_text
 call_error_status errors.BufferTooSmall = buffer_too_small
 call_error_status errors.BadArgument = bad_argument
 
+-- the name of an error; a stream's error keeps its own
 abbrev pub call_error_name : CallError → List ℕ
 call_error_name (errors.Stream error) = stream_error_name error
 call_error_name errors.BadText = codes "BadText"

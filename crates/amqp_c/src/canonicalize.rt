@@ -4,7 +4,7 @@ ghost use Rattle.std.specs.Prelude.{◌≡◌, ◌+◌, ◌^◌, ◌<◌, ◌≤
 ghost use Rattle.amqp_types.specs.Levels.{level_of, plain, tidy};
 ghost use Rattle.amqp_frame.specs.Frames.{raw_of};
 ghost use Rattle.amqp_stream.specs.Writing.{frame_length};
-ghost use Rattle.amqp_c.specs.Rewriting.{Canonicalizes, PutsFrame, PutsFront, PutsVersion, Refuses, profile_at};
+ghost use Rattle.amqp_c.specs.Rewriting.{CanonicalizesPart, PutsFrame, PutsFront, PutsVersion, RefusesPart, profile_at};
 ghost use Rattle.amqp_c.specs.Statuses.{bad_argument, buffer_too_small};
 
 use crate::next::{frame_at, scan};
@@ -15,8 +15,8 @@ use amqp_frame::{
 use amqp_stream::{StreamError, payload_error};
 use amqp_types::{Profile, put_bytes};
 
-/// How many entries of a table in no order are sorted without a scratch of the caller's. A table with more of them takes
-/// quadratic time then.
+/// How many entries of a table in no order are sorted without a scratch of the caller's. A table with more of them
+/// takes quadratic time then.
 const MARKS: usize = 256;
 
 /// How far a call came.
@@ -63,8 +63,8 @@ fn put_version(out: &mut [u8], at: usize, payload: &[u8]) -> Result<usize, Strea
     }
 }
 
-/// Puts the canonical bytes of a borrowed frame that is no protocol header, and returns the place after them. Inlined where
-/// the type is known, it has no test of it.
+/// Puts the canonical bytes of a borrowed frame that is no protocol header, and returns the place after them. Inlined
+/// where the type is known, it has no test of it.
 #[inline(always)]
 fn put_typed(
     out: &mut [u8],
@@ -97,8 +97,8 @@ fn with_type(frame_type: AMQPFrameType, raw: AMQPRawFrame<'_>) -> AMQPRawFrame<'
     }
 }
 
-/// Puts the canonical bytes of a borrowed frame, and returns the place after them. Methods, which come most often, have a
-/// way of their own.
+/// Puts the canonical bytes of a borrowed frame, and returns the place after them. Methods, which come most often, have
+/// a way of their own.
 #[inline(always)]
 fn put_plain(
     out: &mut [u8],
@@ -162,7 +162,8 @@ fn put_at_level(
     }
 }
 
-/// Puts the canonical bytes of the frame in front at a level, and returns how many bytes it has and the place after them.
+/// Puts the canonical bytes of the frame in front at a level, and returns how many bytes it has and the place after
+/// them.
 #[inline(always)]
 fn put_front(
     profile: Profile,
@@ -184,7 +185,8 @@ fn put_front(
     }
 }
 
-/// Writes the canonical bytes of the whole frames in front at a level. Inlined where the level is known, it has no test of it.
+/// Writes the canonical bytes of the whole frames in front at a level. Inlined where the level is known, it has no test
+/// of it.
 #[inline(always)]
 fn canonicalize(
     bytes: &[u8],
@@ -194,7 +196,7 @@ fn canonicalize(
     profile: Profile,
 ) -> Progress
     requires room { length bytes.now ≤ length out.old }
-    ensures { Canonicalizes (level_of profile) max_payload bytes.now out.old out.new result }
+    ensures { CanonicalizesPart (level_of profile) max_payload bytes.now out.old out.new result }
 {
     let mut used = 0;
     let mut written = 0;
@@ -229,7 +231,7 @@ fn canonicalize_plain(
     max_payload: u32,
 ) -> Progress
     requires room { length bytes.now ≤ length out.old }
-    ensures { Canonicalizes plain max_payload bytes.now out.old out.new result }
+    ensures { CanonicalizesPart plain max_payload bytes.now out.old out.new result }
 {
     canonicalize(bytes, out, scratch, max_payload, Profile::Plain)
 }
@@ -243,7 +245,7 @@ fn canonicalize_tidy(
     max_payload: u32,
 ) -> Progress
     requires room { length bytes.now ≤ length out.old }
-    ensures { Canonicalizes tidy max_payload bytes.now out.old out.new result }
+    ensures { CanonicalizesPart tidy max_payload bytes.now out.old out.new result }
 {
     canonicalize(bytes, out, scratch, max_payload, Profile::Tidy)
 }
@@ -257,7 +259,7 @@ fn canonicalize_at(
     profile: Profile,
 ) -> Progress
     requires room { length bytes.now ≤ length out.old }
-    ensures { Canonicalizes (level_of profile) max_payload bytes.now out.old out.new result }
+    ensures { CanonicalizesPart (level_of profile) max_payload bytes.now out.old out.new result }
 {
     match profile {
         Profile::Plain => canonicalize_plain(bytes, out, scratch, max_payload),
@@ -274,15 +276,15 @@ fn canonicalize_on_stack(
     profile: Profile,
 ) -> Progress
     requires room { length bytes.now ≤ length out.old }
-    ensures { Canonicalizes (level_of profile) max_payload bytes.now out.old out.new result }
+    ensures { CanonicalizesPart (level_of profile) max_payload bytes.now out.old out.new result }
 {
     let mut scratch = [Mark::default(); MARKS];
     canonicalize_at(bytes, out, &mut scratch, max_payload, profile)
 }
 
 /// Writes the canonical bytes of the whole frames in front, with payloads of at most `max_payload` bytes, at a level (0
-/// plain, 1 tidy), into a buffer at least as long as the bytes. Entries of tables in no order are sorted in the scratch,
-/// where it is longer than the one on the stack; only the time depends on it.
+/// plain, 1 tidy), into a buffer at least as long as the bytes. Entries of tables in no order are sorted in the
+/// scratch, where it is longer than the one on the stack; only the time depends on it.
 #[unsafe(no_mangle)]
 pub extern "C" fn feksroum_canonicalize(
     bytes: &[u8],
@@ -291,11 +293,11 @@ pub extern "C" fn feksroum_canonicalize(
     max_payload: u32,
     level: u8,
 ) -> Progress
-    ensures argument { profile_at level ≡ None → Refuses bad_argument out.old out.new result }
+    ensures argument { profile_at level ≡ None → RefusesPart bad_argument out.old out.new result }
     ensures small { (profile : Profile) → profile_at level ≡ Some profile → length out.old < length bytes.now
-        → Refuses buffer_too_small out.old out.new result }
+        → RefusesPart buffer_too_small out.old out.new result }
     ensures canonicalizes { (profile : Profile) → profile_at level ≡ Some profile → length bytes.now ≤ length out.old
-        → Canonicalizes (level_of profile) max_payload bytes.now out.old out.new result }
+        → CanonicalizesPart (level_of profile) max_payload bytes.now out.old out.new result }
 {
     let status = match profile_of(level) {
         None => BAD_ARGUMENT,

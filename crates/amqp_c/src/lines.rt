@@ -78,8 +78,8 @@ fn append_line(
     }
 }
 
-/// Writes the line of the frame in front, with a payload of at most `max_payload` bytes, at the front of a buffer where it
-/// fits.
+/// Writes the line of the frame in front, with a payload of at most `max_payload` bytes, at the front of a buffer where
+/// it fits.
 #[unsafe(no_mangle)]
 pub extern "C" fn feksroum_dump(
     alloc: Global,
@@ -97,8 +97,8 @@ pub extern "C" fn feksroum_dump(
     }
 }
 
-/// Writes the canonical bytes of the frame whose line is in front, with a payload of at most `max_payload` bytes, at the
-/// front of a buffer where they fit.
+/// Writes the canonical bytes of the frame whose line is in front, with a payload of at most `max_payload` bytes, at
+/// the front of a buffer where they fit.
 #[unsafe(no_mangle)]
 pub extern "C" fn feksroum_undump(
     alloc: Global,

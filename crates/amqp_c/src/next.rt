@@ -33,7 +33,8 @@ pub struct FrontFrame {
     pub status: u8,
 }
 
-/// Where the frame in front lies, with payloads of at most `max_payload` bytes, or the error of a stream that ends there.
+/// Where the frame in front lies, with payloads of at most `max_payload` bytes, or the error of a stream that ends
+/// there.
 #[inline(always)]
 pub(crate) fn scan(max_payload: u32, bytes: &[u8]) -> Result<FrameLayout, StreamError>
     ensures { Scans max_payload bytes.now result }

@@ -4,8 +4,8 @@ ghost use Rattle.std.specs.Prelude.{◌≡◌, ◌≤◌, ◌/◌, ℕ, List, le
 ghost use Rattle.amqp_types.specs.Judging.{IsBytes};
 ghost use Rattle.amqp_canonical.specs.Marks.{AreEntries, entries_in};
 
-/// How many marks are enough for each table in so many bytes, with the tables inside it: an entry has the length of its key
-/// and a tag, so two bytes at least.
+/// How many marks are enough for each table in so many bytes, with the tables inside it: an entry has the length of its
+/// key and a tag, so two bytes at least.
 #[unsafe(no_mangle)]
 pub extern "C" fn feksroum_scratch(bytes: usize) -> usize
     ensures half { result ≡ bytes / 2 }

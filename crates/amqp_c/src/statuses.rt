@@ -73,8 +73,8 @@ fn error_with(status: u8) -> Option<CallError>
     Some(CallError::Stream(error))
 }
 
-/// Writes the name of a status at the front of a buffer where it fits, and returns its length, which is at most 17; 0 where
-/// the status is no error's.
+/// Writes the name of a status at the front of a buffer where it fits, and returns its length, which is at most 17; 0
+/// where the status is no error's.
 #[unsafe(no_mangle)]
 pub extern "C" fn feksroum_name(status: u8, out: &mut [u8]) -> usize
     ensures named { (error : CallError) → call_error_status error ≡ status → WritesName (call_error_name error) out.old out.new result }

@@ -27,38 +27,12 @@ use Rattle.amqp_types.proofs.Took.{bind_took, value_took}
 use Rattle.amqp_values.proofs.Filling.{nested_none, nested_more}
 use Rattle.amqp_canonical.specs.declared.values.Layout.TheVariants as layout
 use Rattle.amqp_canonical.specs.declared.values.ValueJudgement.{ValueJudgement}
-use Rattle.amqp_canonical.specs.Judgements.{layout_at, IsCanonicalBoolean, IsCanonicalAfterTag, IsCanonicalValue, IsCanonicalArray, IsCanonicalTable, Takes, TakesEntry, Judges}
+use Rattle.amqp_canonical.specs.Judgements.{layout_at, IsCanonicalBoolean, IsCanonicalAfterTag, IsCanonicalValue, IsCanonicalArray, IsCanonicalTable, DecodesAs, DecodesAsEntry, Judges}
 use Rattle.amqp_canonical.proofs.Refusing.{Fails, fully, fails_next}
-use Rattle.amqp_canonical.proofs.Children.{told_as, both_told, split_two, value_few}
+use Rattle.amqp_canonical.proofs.Children.{decided_as, both_decided, split_two, value_few}
+use Rattle.amqp_values.proofs.Exactly.{mapped_tag, tag_behind}
 
 -- ---- which tag a value has that was read after a tag
-
-mapped_tag : {A : Type 0} (make : A → FieldValue) (judge : Judge A) (t : FieldTag) → ((x : A) → tag_of (make x) ≡ t) → (bytes : List ℕ) (v : FieldValue) (n : ℕ) → judge_map make judge bytes ≡ took v n → tag_of v ≡ t
-mapped_tag make judge t same bytes v n h =
-    let found = bind_took (judge bytes) _ v n h in
-    ap tag_of (sym (value_took (make found.0) v _ n found.3)) ∙ same found.0
-
-pub tag_behind : (nest : Option (Judge FieldValue)) (t : FieldTag) (bytes : List ℕ) (v : FieldValue) (n : ℕ) → judge_behind nest t bytes ≡ took v n → tag_of v ≡ t
-unfolding judge_behind
-tag_behind nest tag.Boolean bytes v n h = mapped_tag boolean_value judge_boolean _ (λ x. refl) bytes v n h
-tag_behind nest tag.ShortShortInt bytes v n h = mapped_tag (signed_value short_short_int) (judge_signed bytes1) _ (λ x. refl) bytes v n h
-tag_behind nest tag.ShortShortUInt bytes v n h = mapped_tag (unsigned_value short_short_uint) (judge_number bytes1) _ (λ x. refl) bytes v n h
-tag_behind nest tag.ShortInt bytes v n h = mapped_tag (signed_value short_int) (judge_signed (signed_width short_int)) _ (λ x. refl) bytes v n h
-tag_behind nest tag.ShortUInt bytes v n h = mapped_tag (unsigned_value short_uint) (judge_number (unsigned_width short_uint)) _ (λ x. refl) bytes v n h
-tag_behind nest tag.LongInt bytes v n h = mapped_tag (signed_value long_int) (judge_signed (signed_width long_int)) _ (λ x. refl) bytes v n h
-tag_behind nest tag.LongUInt bytes v n h = mapped_tag (unsigned_value long_uint) (judge_number bytes4) _ (λ x. refl) bytes v n h
-tag_behind nest tag.LongLongInt bytes v n h = mapped_tag (signed_value long_long_int) (judge_signed (signed_width long_long_int)) _ (λ x. refl) bytes v n h
-tag_behind nest tag.Float bytes v n h = mapped_tag (unsigned_value float) (judge_number bytes4) _ (λ x. refl) bytes v n h
-tag_behind nest tag.Double bytes v n h = mapped_tag (unsigned_value double) (judge_number (unsigned_width double)) _ (λ x. refl) bytes v n h
-tag_behind nest tag.DecimalValue bytes v n h = mapped_tag (λ d. decimal_value d.0 d.1) judge_decimal _ (λ x. refl) bytes v n h
-tag_behind nest tag.LongString bytes v n h = mapped_tag (bytes_value long_string) judge_long_string _ (λ x. refl) bytes v n h
-tag_behind None tag.FieldArray bytes v n h = cc
-tag_behind (Some value) tag.FieldArray bytes v n h = mapped_tag (λ vs. array_value (values_of vs)) (judge_array value) _ (λ x. refl) bytes v n h
-tag_behind nest tag.Timestamp bytes v n h = mapped_tag (unsigned_value timestamp) (judge_number (unsigned_width timestamp)) _ (λ x. refl) bytes v n h
-tag_behind None tag.FieldTable bytes v n h = cc
-tag_behind (Some value) tag.FieldTable bytes v n h = mapped_tag (λ es. table_value (entries_of es)) (judge_table value) _ (λ x. refl) bytes v n h
-tag_behind nest tag.ByteArray bytes v n h = mapped_tag (bytes_value byte_array) judge_long_string _ (λ x. refl) bytes v n h
-tag_behind nest tag.Void bytes v n h = ap tag_of (sym (value_took void_value v 0 n h))
 
 -- ---- what the tag alone measures
 
@@ -170,8 +144,8 @@ fixed_took nest tag.Timestamp bytes n fits is long = unsigned_took timestamp byt
 fixed_took nest tag.Void bytes n fits is long = let P : ℕ → Type 0 = λ k. IsTaken bytes k (took void_value 0) in subst P (counted 0 n is) (void_value, refl, refl)
 fixed_took nest t bytes n fits is long = absurd cc
 
-pub taken : (bytes : List ℕ) (n : ℕ) (j : Judged FieldValue) → IsTaken bytes n j → Takes IsCanonicalAfterTag (record { used = n; canonical = true }) bytes j
-taken bytes n j h = record { thing = h.0; is = h.1; told = (λ t. h.2, λ e. refl) }
+pub taken : (bytes : List ℕ) (n : ℕ) (j : Judged FieldValue) → IsTaken bytes n j → DecodesAs IsCanonicalAfterTag (record { used = n; canonical = true }) bytes j
+taken bytes n j h = record { thing = h.0; is = h.1; decides = (λ t. h.2, λ e. refl) }
 
 -- ---- strings
 
@@ -195,7 +169,7 @@ counted_fails nest t bytes view e is h = absurd cc
 -- ---- arrays and tables, made of what fills them
 
 pub judges_made : {A : Type 0} (make : A → FieldValue) (bytes : List ℕ) (r : Result ValueJudgement ParserError) (j : Judged A) → Judges (λ bs x. IsCanonicalAfterTag bs (make x)) bytes r j → Judges IsCanonicalAfterTag bytes r (j >>= λ x. took (make x.0) x.1)
-judges_made make bytes (Ok w) j h = record { thing = make h.thing; is = ap (λ k. k >>= λ x. took (make x.0) x.1) h.is; told = h.told }
+judges_made make bytes (Ok w) j h = record { thing = make h.thing; is = ap (λ k. k >>= λ x. took (make x.0) x.1) h.is; decides = h.decides }
 judges_made make bytes (Err e) j h = fails_next e j _ h
 
 pub boolean_behind : (nest : Option (Judge FieldValue)) (t : FieldTag) (bytes : List ℕ) (r : Result ValueJudgement ParserError) → layout_at t ≡ layout.OneBoolean → Judges IsCanonicalBoolean bytes r (judge_boolean bytes) → Judges IsCanonicalAfterTag bytes r (judge_behind nest t bytes)
@@ -241,8 +215,8 @@ table_deep room t bytes is none = ap (λ o. judge_behind o t bytes) (nested_none
 
 -- ---- with the tag
 
-pub same_told : (a b : ℕ) → IsTrue (nat_eq a b) ↔ (a ≡ b)
-same_told a b = (λ t. grind (arith, nat_tests), λ e. grind (arith, nat_tests))
+pub same_decided : (a b : ℕ) → IsTrue (nat_eq a b) ↔ (a ≡ b)
+same_decided a b = (λ t. grind (arith, nat_tests), λ e. grind (arith, nat_tests))
 
 pub value_empty : (room : ℕ) (bytes : List ℕ) → length bytes < 1 → judge_value room bytes ≡ past
 unfolding judge_value judge_tagged
@@ -262,9 +236,9 @@ value_fails room bytes t e some is h =
     let P : Judged FieldValue → Type 0 = λ j. Fails e j in
     subst P (sym (judged_tag room bytes (Some t) some is)) (fails_next e (judge_behind (nested room) t (drop 1 bytes)) _ h)
 
-tagged_told : (bytes : List ℕ) (v : FieldValue) (t : FieldTag) (n : ℕ) → 0 < length bytes → tag_of v ≡ t → ((take n (drop 1 bytes) ≡ value_bytes v) × (tag_byte t ≡ get_or bytes 0 0)) ↔ (take (suc n) bytes ≡ tagged_bytes v)
-tagged_told [] v t n some kind = absurd (omega (arith, some))
-tagged_told (b ∷ bytes) v t n some kind =
+tagged_decided : (bytes : List ℕ) (v : FieldValue) (t : FieldTag) (n : ℕ) → 0 < length bytes → tag_of v ≡ t → ((take n (drop 1 bytes) ≡ value_bytes v) × (tag_byte t ≡ get_or bytes 0 0)) ↔ (take (suc n) bytes ≡ tagged_bytes v)
+tagged_decided [] v t n some kind = absurd (omega (arith, some))
+tagged_decided (b ∷ bytes) v t n some kind =
     let same : tag_byte (tag_of v) ≡ tag_byte t = ap tag_byte kind in (
       λ p. ap₂ (λ x xs. x ∷ xs) (sym (same ∙ p.1)) p.0,
       λ q.
@@ -274,16 +248,16 @@ tagged_told (b ∷ bytes) v t n some kind =
     )
 
 pub value_took_at : (room : ℕ) (bytes : List ℕ) (t : FieldTag) (w : ValueJudgement) (d : Bool) → 0 < length bytes → tag_at (get_or bytes 0 0) ≡ Some t → IsTrue d ↔ (tag_byte t ≡ get_or bytes 0 0)
-    → Takes IsCanonicalAfterTag w (drop 1 bytes) (judge_behind (nested room) t (drop 1 bytes)) → Takes IsCanonicalValue (record { used = 1 + w.used; canonical = w.canonical && d }) bytes (judge_value room bytes)
+    → DecodesAs IsCanonicalAfterTag w (drop 1 bytes) (judge_behind (nested room) t (drop 1 bytes)) → DecodesAs IsCanonicalValue (record { used = 1 + w.used; canonical = w.canonical && d }) bytes (judge_value room bytes)
 value_took_at room bytes t w d some is same h =
     let kind = tag_behind (nested room) t (drop 1 bytes) h.thing w.used h.is in
     let more : suc w.used ≡ 1 + w.used = omega arith in
-    let both = tagged_told bytes h.thing t w.used some kind in
+    let both = tagged_decided bytes h.thing t w.used some kind in
     let P : ℕ → Type 0 = λ k. IsTrue (w.canonical && d) ↔ IsCanonicalValue (take k bytes) h.thing in
     record {
       thing = h.thing;
       is = judged_tag room bytes (Some t) some is ∙ ap (λ j. j >>= λ v. took v.0 (1 + v.1)) h.is;
-      told = subst P more (told_as (w.canonical && d) _ _ (both_told w.canonical d _ _ h.told same) both.0 both.1);
+      decides = subst P more (decided_as (w.canonical && d) _ _ (both_decided w.canonical d _ _ h.decides same) both.0 both.1);
     }
 
 -- ---- a key and a value
@@ -298,8 +272,8 @@ entry_fails room bytes key n e is h =
     let P : Judged (List ℕ) → Type 0 = λ j. Fails e (j >>= λ x. judge_value room (drop x.1 bytes) >>= λ y. let d : Entry = (x.0, y.0) in took d (x.1 + y.1)) in
     subst P (sym is) (fails_next e (judge_value room (drop n bytes)) _ h)
 
-pub entry_took : (room : ℕ) (bytes text key : List ℕ) (n : ℕ) (w : ValueJudgement) → IsBytes bytes → judge_short_string bytes ≡ took text n → key ≡ text → Takes IsCanonicalValue w (drop n bytes) (judge_value room (drop n bytes)) → w.used ≤ length (drop n bytes)
-    → TakesEntry (record { used = n + w.used; canonical = w.canonical }) key bytes (judge_entry (judge_value room) bytes)
+pub entry_took : (room : ℕ) (bytes text key : List ℕ) (n : ℕ) (w : ValueJudgement) → IsBytes bytes → judge_short_string bytes ≡ took text n → key ≡ text → DecodesAs IsCanonicalValue w (drop n bytes) (judge_value room (drop n bytes)) → w.used ≤ length (drop n bytes)
+    → DecodesAsEntry (record { used = n + w.used; canonical = w.canonical }) key bytes (judge_entry (judge_value room) bytes)
 unfolding judge_entry
 entry_took room bytes text key n w fits is same h long =
     let one = short_string_exact.spelled bytes text n fits is in
@@ -309,7 +283,7 @@ entry_took room bytes text key n w fits is same h long =
     record {
       value = h.thing;
       is = ap (λ j. j >>= λ x. judge_value room (drop x.1 bytes) >>= λ y. took (x.0, y.0) (x.1 + y.1)) is ∙ ap (λ j. j >>= λ y. took (text, y.0) (n + y.1)) h.is ∙ ap (λ k. took (k, h.thing) (n + w.used)) (sym same);
-      told = told_as w.canonical _ _ h.told (λ e. take-add n w.used bytes ∙ ap₂ (λ a b. a ++ b) front e) (λ q.
+      decides = decided_as w.canonical _ _ h.decides (λ e. take-add n w.used bytes ∙ ap₂ (λ a b. a ++ b) front e) (λ q.
           let two = split_two (take n bytes) (take w.used behind) (short_string_bytes key) (tagged_bytes h.thing) (sym (take-add n w.used bytes) ∙ q) (omega (arith, ap length front)) (omega (arith, few, length-take-le w.used behind long)) in
           two.1);
     }

@@ -17,19 +17,21 @@ use Rattle.amqp_types.specs.ValueBytes.{values_bytes, entries_bytes, tagged_byte
 use Rattle.amqp_types.specs.ValueJudging.{filled, judge_entry, judge_value}
 use Rattle.amqp_types.specs.ValueSpelling.{SpellsValue}
 use Rattle.amqp_types.proofs.Bytes.{IsBytes-drop}
-use Rattle.amqp_values.proofs.Filling.{after, goes_on, ends}
+use Rattle.amqp_values.proofs.Filling.{after, goes_on, ends, after_none}
 use Rattle.amqp_values.proofs.Filled.{entry_exact}
 use Rattle.amqp_values.proofs.Exactly.{value_exact}
 use Rattle.amqp_values.proofs.Bounded.{value_bounded}
 use Rattle.std.specs.declared.cmp.Ordering.{Ordering}
 use Rattle.std.specs.declared.cmp.Ordering.TheVariants.{Less, Equal, Greater}
 use Rattle.amqp_canonical.specs.Judgements.{IsAbove, IsBelow, AreCanonicalValues, AreCanonicalEntries, Fills}
+use Rattle.amqp_canonical.specs.Writes.{entry_bytes}
+use Rattle.amqp_canonical.proofs.Placed.{all_at_last}
 
 -- ---- the values up to a place, and what is said of them
 pub record ValuesTo (room : ℕ) (content : List ℕ) (at : ℕ) (canonical : Bool) : Type 0 where
   pub things : List FieldValue
   pub rest : after things (filled (judge_value room) 0 (drop at content)) ≡ filled (judge_value room) 0 content
-  pub told : IsTrue canonical ↔ AreCanonicalValues (take at content) things
+  pub decides : IsTrue canonical ↔ AreCanonicalValues (take at content) things
   pub shorter : length (values_bytes (values_of things)) ≤ at
 
 -- the key of the last entry, where there is one
@@ -40,18 +42,18 @@ IsLast at previous things = ((at ≡ 0) × (things ≡ [])) ⊎ ((0 < at) × (es
 pub record EntriesTo (room : ℕ) (content : List ℕ) (at : ℕ) (previous : List ℕ) (canonical : Bool) : Type 0 where
   pub things : List Entry
   pub rest : after things (filled (judge_entry (judge_value room)) 0 (drop at content)) ≡ filled (judge_entry (judge_value room)) 0 content
-  pub told : IsTrue canonical ↔ AreCanonicalEntries (take at content) things
+  pub decides : IsTrue canonical ↔ AreCanonicalEntries (take at content) things
   pub shorter : length (entries_bytes (entries_of things)) ≤ at
   pub last : IsLast at previous things
 
 -- ---- tests
 
-pub both_told : (b c : Bool) (P Q : Type 0) → IsTrue b ↔ P → IsTrue c ↔ Q → IsTrue (b && c) ↔ (P × Q)
-both_told true c P Q h k = (λ t. (h.0 refl, k.0 t), λ p. k.1 p.1)
-both_told false c P Q h k = (λ t. absurd (true≢false (sym t)), λ p. h.1 p.0)
+pub both_decided : (b c : Bool) (P Q : Type 0) → IsTrue b ↔ P → IsTrue c ↔ Q → IsTrue (b && c) ↔ (P × Q)
+both_decided true c P Q h k = (λ t. (h.0 refl, k.0 t), λ p. k.1 p.1)
+both_decided false c P Q h k = (λ t. absurd (true≢false (sym t)), λ p. h.1 p.0)
 
-pub told_as : (b : Bool) (P Q : Type 0) → IsTrue b ↔ P → (P → Q) → (Q → P) → IsTrue b ↔ Q
-told_as b P Q h f g = (λ t. f (h.0 t), λ q. h.1 (g q))
+pub decided_as : (b : Bool) (P Q : Type 0) → IsTrue b ↔ P → (P → Q) → (Q → P) → IsTrue b ↔ Q
+decided_as b P Q h f g = (λ t. f (h.0 t), λ q. h.1 (g q))
 
 -- ---- two lists of bytes, one after the other
 
@@ -92,16 +94,12 @@ value_few room bytes v n fits h =
     let b = value_bounded room (take n bytes) v one.0 in
     omega (arith, b.shorter, length-take-le n bytes one.1)
 
-after_none : {A : Type 0} (read : Result (List A) Fault) → after [] read ≡ read
-after_none (Ok xs) = refl
-after_none (Err f) = refl
-
 pub values_none : (room : ℕ) (content : List ℕ) → ValuesTo room content 0 true
-values_none room content = record { things = []; rest = after_none (filled (judge_value room) 0 content); told = (λ t. refl, λ h. refl); shorter = omega arith }
+values_none room content = record { things = []; rest = after_none (filled (judge_value room) 0 content); decides = (λ t. refl, λ h. refl); shorter = omega arith }
 
 pub values_next : (room : ℕ) (content : List ℕ) (at n : ℕ) (v : FieldValue) (canonical d : Bool) → IsBytes content → at < length content → judge_value room (drop at content) ≡ took v n → 0 < n → n ≤ length (drop at content)
     → IsTrue d ↔ (take n (drop at content) ≡ tagged_bytes v) → ValuesTo room content at canonical → ValuesTo room content (at + n) (canonical && d)
-values_next room content at n v canonical d bytes more is up fits told h =
+values_next room content at n v canonical d bytes more is up fits decides h =
     let some : 0 < length (drop at content) = omega (arith, length-drop at content) in
     let next = goes_on (judge_value room) h.things v n (drop at content) _ some is up fits h.rest in
     let few = value_few room (drop at content) v n (IsBytes-drop at content bytes) is in
@@ -111,7 +109,7 @@ values_next room content at n v canonical d bytes more is up fits told h =
     record {
       things = h.things ++ v ∷ [];
       rest = ap (λ bs. after (h.things ++ v ∷ []) (filled (judge_value room) 0 bs)) (sym (drop-drop n at content)) ∙ next;
-      told = told_as (canonical && d) _ _ (both_told canonical d _ _ h.told told)
+      decides = decided_as (canonical && d) _ _ (both_decided canonical d _ _ h.decides decides)
           (λ p. stands_both content at n old (tagged_bytes v) within fits h.shorter few p ∙ sym last)
           (λ q. stands_each content at n old (tagged_bytes v) within fits h.shorter few (q ∙ last));
       shorter = omega (arith, ap length last, length-append old (tagged_bytes v), h.shorter, few);
@@ -120,14 +118,14 @@ values_next room content at n v canonical d bytes more is up fits told h =
 pub values_end : (room : ℕ) (content : List ℕ) (at : ℕ) (canonical : Bool) → length content ≤ at → ValuesTo room content at canonical → Fills AreCanonicalValues canonical content (filled (judge_value room) 0 content)
 values_end room content at canonical long h =
     let P : List ℕ → Type 0 = λ bs. IsTrue canonical ↔ AreCanonicalValues bs h.things in
-    record { thing = h.things; is = ends (judge_value room) (λ xs. h.things ++ xs) at content _ long h.rest ∙ ap Ok (append-nil h.things); told = subst P (take_all content at long) h.told }
+    record { thing = h.things; is = ends (judge_value room) (λ xs. h.things ++ xs) at content _ long h.rest ∙ ap Ok (append-nil h.things); decides = subst P (take_all content at long) h.decides }
 
--- ---- keys that rise
+-- ---- keys in ascending order
 
 abbrev AllBelow : List ℕ → List Entry → Type 0
 AllBelow next es = AllByRecursion (λ k. IsBelow k next) (keys_of es)
 
-all_last : (P : List ℕ → Type 0) (es : List Entry) (e : Entry) → AllByRecursion P (keys_of es) → P e.0 → AllByRecursion P (keys_of (es ++ e ∷ []))
+pub all_last : (P : List ℕ → Type 0) (es : List Entry) (e : Entry) → AllByRecursion P (keys_of es) → P e.0 → AllByRecursion P (keys_of (es ++ e ∷ []))
 all_last P [] e h p = (p, tt)
 all_last P (x ∷ es) e h p = (h.0, all_last P es e h.1 p)
 
@@ -135,14 +133,10 @@ all_before : (P : List ℕ → Type 0) (es : List Entry) (e : Entry) → AllByRe
 all_before P [] e h = tt
 all_before P (x ∷ es) e h = (h.0, all_before P es e h.1)
 
-of_last : (P : List ℕ → Type 0) (es : List Entry) (e : Entry) → AllByRecursion P (keys_of (es ++ e ∷ [])) → P e.0
-of_last P [] e h = h.0
-of_last P (x ∷ es) e h = of_last P es e h.1
-
 all_below : (es : List Entry) (p : Entry) (next : List ℕ) → IsRising (es ++ p ∷ []) → IsBelow p.0 next → AllBelow next (es ++ p ∷ [])
 unfolding IsStrictlySortedBy
 all_below [] p next s less = (less, tt)
-all_below (x ∷ es) p next s less = (nat_list_cmp_total.trans x.0 p.0 next (of_last (λ k. IsBelow x.0 k) es p s.0) less, all_below es p next s.1 less)
+all_below (x ∷ es) p next s less = (nat_list_cmp_total.trans x.0 p.0 next (all_at_last (λ k. IsBelow x.0 k) es p s.0) less, all_below es p next s.1 less)
 
 rising_last : (es : List Entry) (e : Entry) → IsRising es → AllBelow e.0 es → IsRising (es ++ e ∷ [])
 unfolding IsStrictlySortedBy
@@ -190,9 +184,6 @@ module _ (at : ℕ) (previous key : List ℕ) (v : FieldValue) (above : Bool) wh
 
 -- ---- entries
 
-abbrev entry_bytes : Entry → List ℕ
-entry_bytes e = short_string_bytes e.0 ++ tagged_bytes e.1
-
 entries_last : (es : List Entry) (e : Entry) → entries_bytes (entries_of (es ++ e ∷ [])) ≡ entries_bytes (entries_of es) ++ entry_bytes e
 entries_last [] e = append-nil (entry_bytes e)
 entries_last (x ∷ es) e = ap (λ bs. entry_bytes x ++ bs) (entries_last es e) ∙ sym (append_assoc (entry_bytes x) (entries_bytes (entries_of es)) (entry_bytes e))
@@ -207,11 +198,11 @@ entry_few room bytes e n fits h =
     omega (arith, joined, length-append (short_string_bytes s.one) (tagged_bytes s.two), b.shorter, ap length s.first_is.bytes_are, ap length s.bytes_are, length-append s.front s.behind, length-take-le n bytes one.1)
 
 pub entries_none : (room : ℕ) (content : List ℕ) → EntriesTo room content 0 [] true
-entries_none room content = record { things = []; rest = after_none (filled (judge_entry (judge_value room)) 0 content); told = (λ t. (refl, rising_none), λ h. refl); shorter = omega arith; last = inl (refl, refl) }
+entries_none room content = record { things = []; rest = after_none (filled (judge_entry (judge_value room)) 0 content); decides = (λ t. (refl, rising_none), λ h. refl); shorter = omega arith; last = inl (refl, refl) }
 
 pub entries_next : (room : ℕ) (content : List ℕ) (at n : ℕ) (previous key : List ℕ) (v : FieldValue) (canonical d above : Bool) → IsBytes content → at < length content → judge_entry (judge_value room) (drop at content) ≡ took (key, v) n
     → 0 < n → n ≤ length (drop at content) → IsTrue d ↔ (take n (drop at content) ≡ short_string_bytes key ++ tagged_bytes v) → IsAbove at previous key above → EntriesTo room content at previous canonical → EntriesTo room content (at + n) key ((canonical && d) && above)
-entries_next room content at n previous key v canonical d above bytes more is up fits told over h =
+entries_next room content at n previous key v canonical d above bytes more is up fits decides over h =
     let e : Entry = (key, v) in
     let some : 0 < length (drop at content) = omega (arith, length-drop at content) in
     let next = goes_on (judge_entry (judge_value room)) h.things e n (drop at content) _ some is up fits h.rest in
@@ -219,11 +210,11 @@ entries_next room content at n previous key v canonical d above bytes more is up
     let within : at ≤ length content = omega (arith, more) in
     let old = entries_bytes (entries_of h.things) in
     let last = entries_last h.things e in
-    let three = both_told (canonical && d) above _ (IsTrue above) (both_told canonical d _ _ h.told told) (λ t. t, λ t. t) in
+    let three = both_decided (canonical && d) above _ (IsTrue above) (both_decided canonical d _ _ h.decides decides) (λ t. t, λ t. t) in
     record {
       things = h.things ++ e ∷ [];
       rest = ap (λ bs. after (h.things ++ e ∷ []) (filled (judge_entry (judge_value room)) 0 bs)) (sym (drop-drop n at content)) ∙ next;
-      told = told_as ((canonical && d) && above) _ _ three
+      decides = decided_as ((canonical && d) && above) _ _ three
           (λ p. (stands_both content at n old (entry_bytes e) within fits h.shorter few (p.0.0.0, p.0.1) ∙ sym last, rises_more at previous key v above h.things h.last over p.0.0.1 p.1))
           (λ q.
           let two = stands_each content at n old (entry_bytes e) within fits h.shorter few (q.0 ∙ last) in
@@ -236,7 +227,7 @@ entries_next room content at n previous key v canonical d above bytes more is up
 pub entries_end : (room : ℕ) (content : List ℕ) (at : ℕ) (previous : List ℕ) (canonical : Bool) → length content ≤ at → EntriesTo room content at previous canonical → Fills AreCanonicalEntries canonical content (filled (judge_entry (judge_value room)) 0 content)
 entries_end room content at previous canonical long h =
     let P : List ℕ → Type 0 = λ bs. IsTrue canonical ↔ AreCanonicalEntries bs h.things in
-    record { thing = h.things; is = ends (judge_entry (judge_value room)) (λ xs. h.things ++ xs) at content _ long h.rest ∙ ap Ok (append-nil h.things); told = subst P (take_all content at long) h.told }
+    record { thing = h.things; is = ends (judge_entry (judge_value room)) (λ xs. h.things ++ xs) at content _ long h.rest ∙ ap Ok (append-nil h.things); decides = subst P (take_all content at long) h.decides }
 
 -- where the entries before are not canonical, it is not said whether the key comes after
 is_less : Ordering → Bool
@@ -244,18 +235,18 @@ is_less Less = true
 is_less Equal = false
 is_less Greater = false
 
-less_told : (o : Ordering) → IsTrue (is_less o) ↔ (o ≡ Less)
+less_decided : (o : Ordering) → IsTrue (is_less o) ↔ (o ≡ Less)
 unfolding is_less
-less_told Less = (λ t. refl, λ e. refl)
-less_told Equal = (λ t. absurd cc, λ e. absurd cc)
-less_told Greater = (λ t. absurd cc, λ e. absurd cc)
+less_decided Less = (λ t. refl, λ e. refl)
+less_decided Equal = (λ t. absurd cc, λ e. absurd cc)
+less_decided Greater = (λ t. absurd cc, λ e. absurd cc)
 
 tested : (at : ℕ) (previous key : List ℕ) → (above : Bool) × IsAbove at previous key above
 tested zero previous key = (true, inl (refl, refl))
-tested (suc at) previous key = (is_less (slice_cmp nat_cmp previous key), inr (omega arith, less_told (slice_cmp nat_cmp previous key)))
+tested (suc at) previous key = (is_less (slice_cmp nat_cmp previous key), inr (omega arith, less_decided (slice_cmp nat_cmp previous key)))
 
 -- where those before are not canonical, the next one is only read
 pub entries_read : (room : ℕ) (content : List ℕ) (at n : ℕ) (previous key : List ℕ) (v : FieldValue) (canonical d : Bool) → IsBytes content → at < length content → judge_entry (judge_value room) (drop at content) ≡ took (key, v) n
     → 0 < n → n ≤ length (drop at content) → IsTrue d ↔ (take n (drop at content) ≡ short_string_bytes key ++ tagged_bytes v) → (canonical ≡ true → length content ≤ at) → EntriesTo room content at previous canonical → EntriesTo room content (at + n) key canonical
-entries_read room content at n previous key v true d bytes more is up fits told ended h = absurd (omega (arith, ended refl, more))
-entries_read room content at n previous key v false d bytes more is up fits told ended h = let test = tested at previous key in entries_next room content at n previous key v false d test.0 bytes more is up fits told test.1 h
+entries_read room content at n previous key v true d bytes more is up fits decides ended h = absurd (omega (arith, ended refl, more))
+entries_read room content at n previous key v false d bytes more is up fits decides ended h = let test = tested at previous key in entries_next room content at n previous key v false d test.0 bytes more is up fits decides test.1 h

@@ -13,13 +13,13 @@ use Rattle.amqp_types.specs.declared.errors.ParserError.{ParserError}
 use Rattle.amqp_types.proofs.Sequences.{map_taken}
 use Rattle.amqp_types.proofs.FormLaws.{is_plain}
 use Rattle.amqp_values.proofs.SlotForms.{forms_lawful}
-use Rattle.amqp_values.proofs.SlotLaws.{both_true, slots_lawful}
+use Rattle.amqp_values.proofs.SlotLaws.{both_true, slots_lawful, form_is_plain}
 use Rattle.amqp_canonical.specs.declared.shapes.Shape.{Shape}
 use Rattle.amqp_canonical.specs.declared.slots.Judgement.{Judgement}
 use Rattle.amqp_canonical.specs.Shapes.{slot_of, slots_of}
 use Rattle.amqp_canonical.specs.SlotJudgements.{TakesTidily, JudgesTidily, JudgesLevels, after_others, AreCanonicalSlots}
 use Rattle.amqp_canonical.proofs.Refusing.{Fails, fails_next}
-use Rattle.amqp_canonical.proofs.Children.{told_as}
+use Rattle.amqp_canonical.proofs.Children.{decided_as}
 use Rattle.amqp_canonical.proofs.Strict.{lawful_strict}
 use Rattle.amqp_canonical.proofs.Joining.{IsRead, law_read, both_read, both_judged, judgement, IsReached, reached_none, reached_more, reached_fails, reached_all}
 
@@ -27,9 +27,6 @@ use Rattle.amqp_canonical.proofs.Joining.{IsRead, law_read, both_read, both_judg
 
 pub form_read : (form : Form) → IsRead (judge_form form) (λ level. SpellsForm level form)
 form_read form = law_read (judge_form form) (λ level. SpellsForm level form) (form_bytes form) (forms_lawful form)
-
-pub form_is_plain : (level : Level) (form : Form) (bytes : List ℕ) (items : List Item) → SpellsForm level form bytes items → SpellsForm plain form bytes items
-form_is_plain level form = is_plain (λ l. SpellsForm l form) (forms_lawful form).strict_is_tidy (forms_lawful form).tidy_is_plain level
 
 reserved_read : (form : Form) (constant : List Item) → IsRead (judge_dropped form) (λ level. SpellsReserved level form constant)
 unfolding judge_dropped
@@ -115,13 +112,13 @@ module _ {A : Type 0} (judge : Judge A) (Spells : Level → List ℕ → A → T
   pub canonical_of_levels : (bytes : List ℕ) (r : Result Judgement ParserError) → IsBytes bytes → JudgesLevels Spells bytes r (judge bytes) → JudgesTidily (λ bs x. bs ≡ canonical x) (Spells tidy) bytes r (judge bytes)
   canonical_of_levels bytes (Ok j) fits h =
       let same = lawful_strict judge Spells canonical law bytes h.thing j.used fits h.is in
-      record { thing = h.thing; is = h.is; canonical = told_as j.canonical _ _ h.canonical same.1 same.0; tidy = h.tidy }
+      record { thing = h.thing; is = h.is; canonical = decided_as j.canonical _ _ h.canonical same.1 same.0; tidy = h.tidy }
   canonical_of_levels bytes (Err e) fits h = h
 
   pub levels_of_canonical : (bytes : List ℕ) (r : Result Judgement ParserError) → IsBytes bytes → JudgesTidily (λ bs x. bs ≡ canonical x) (Spells tidy) bytes r (judge bytes) → JudgesLevels Spells bytes r (judge bytes)
   levels_of_canonical bytes (Ok j) fits h =
       let same = lawful_strict judge Spells canonical law bytes h.thing j.used fits h.is in
-      record { thing = h.thing; is = h.is; canonical = told_as j.canonical _ _ h.canonical same.0 same.1; tidy = h.tidy }
+      record { thing = h.thing; is = h.is; canonical = decided_as j.canonical _ _ h.canonical same.0 same.1; tidy = h.tidy }
   levels_of_canonical bytes (Err e) fits h = h
 
 pub canonical_slots : (shapes : List Shape) (bytes : List ℕ) (r : Result Judgement ParserError) → IsBytes bytes → are_least (slots_of shapes) ≡ true → JudgesLevels (AllSlots shapes) bytes r (all_slots shapes bytes)

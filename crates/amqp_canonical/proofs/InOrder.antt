@@ -22,11 +22,8 @@ use Rattle.amqp_canonical.specs.Leads.{key_at}
 use Rattle.amqp_canonical.specs.Marks.{entry_at, marked_entry, entries_in, AreRead, AreMarks, AreInOrder, AreOfTable, Follows, blank, ties, last_of_ties}
 use Rattle.amqp_canonical.specs.Places.{Precedes, ArePlaced}
 use Rattle.amqp_canonical.specs.declared.marks.Mark.{Mark}
-use Rattle.amqp_canonical.proofs.Placed.{settled_in_order}
+use Rattle.amqp_canonical.proofs.Placed.{settled_in_order, cmp}
 use Rattle.amqp_canonical.proofs.ReadParts.{entry_key}
-
-abbrev pub cmp : List ℕ → List ℕ → Ordering
-cmp = slice_cmp nat_cmp
 
 -- what holds of each holds of each in a weaker form
 pub each_weaker : {A : Type 0} (P Q : A → Type 0) → ((x : A) → P x → Q x) → (xs : List A) → AllByRecursion P xs → AllByRecursion Q xs
@@ -87,7 +84,7 @@ earlier true (Some u) v w = refl
 earlier false None v w = refl
 earlier false (Some u) v w = refl
 
-later-None : (found : Option FieldValue) → later found None ≡ found
+pub later-None : (found : Option FieldValue) → later found None ≡ found
 later-None None = refl
 later-None (Some v) = refl
 

@@ -5,7 +5,8 @@ use Rattle.amqp_types.specs.Judging.{Judge, IsBytes}
 use Rattle.amqp_types.specs.Writing.{Puts}
 use Rattle.amqp_types.proofs.Bytes.{IsBytes-drop}
 use Rattle.amqp_types.proofs.Puts.{puts_then, puts_none, puts-length}
-use Rattle.amqp_canonical.specs.Writes.{IsRead, used_of, canonical_of}
+use Rattle.amqp_canonical.specs.Writes.{IsRead, canonical_of}
+use Rattle.amqp_types.specs.Tidiness.{used_by}
 
 module _ {P X Y : Type 0} (one : P → Judge X) (all : List P → Judge Y) (one_bytes : P → X → List ℕ) (all_bytes : List P → Y → List ℕ) where
   -- the first one, and those after it
@@ -31,8 +32,8 @@ module _ {P X Y : Type 0} (one : P → Judge X) (all : List P → Judge Y) (one_
     pub room : end + length (canonical_of (one_bytes p) (one p left)) ≤ length mid
     pub next : (new : List ℕ) (place : ℕ) → Puts mid new end (canonical_of (one_bytes p) (one p left)) place → PutInTurn ps bytes (drop n left) (k + 1) old new at place
 
-  module _ (first_of : (p : P) (ps : List P) (bytes : List ℕ) (n : ℕ) → IsBytes bytes → IsRead (all (p ∷ ps) bytes) → (IsRead (one p bytes) → n ≡ used_of (one p bytes)) → FirstOf p ps bytes n) where
-    pub turn_here : (ps : List P) (p : P) (bytes left : List ℕ) (k n : ℕ) (old mid : List ℕ) (at end : ℕ) → drop k ps ≡ p ∷ drop (k + 1) ps → (IsRead (one p left) → n ≡ used_of (one p left)) → at + length (canonical_of (all_bytes ps) (all ps bytes)) ≤ length old
+  module _ (first_of : (p : P) (ps : List P) (bytes : List ℕ) (n : ℕ) → IsBytes bytes → IsRead (all (p ∷ ps) bytes) → (IsRead (one p bytes) → n ≡ used_by (one p bytes)) → FirstOf p ps bytes n) where
+    pub turn_here : (ps : List P) (p : P) (bytes left : List ℕ) (k n : ℕ) (old mid : List ℕ) (at end : ℕ) → drop k ps ≡ p ∷ drop (k + 1) ps → (IsRead (one p left) → n ≡ used_by (one p left)) → at + length (canonical_of (all_bytes ps) (all ps bytes)) ≤ length old
         → PutInTurn ps bytes left k old mid at end → HereInTurn ps p bytes left k n old mid at end
     turn_here ps p bytes left k n old mid at end is sized room h =
         let others = drop (k + 1) ps in

@@ -12,7 +12,7 @@ use Rattle.amqp_types.proofs.Took.{value_took, count_took}
 use Rattle.amqp_canonical.specs.declared.slots.Judgement.{Judgement}
 use Rattle.amqp_canonical.specs.SlotJudgements.{TakesTidily, JudgesLevels, after_others}
 use Rattle.amqp_canonical.proofs.Refusing.{Fails, fails_next}
-use Rattle.amqp_canonical.proofs.Children.{both_told, told_as}
+use Rattle.amqp_canonical.proofs.Children.{both_decided, decided_as}
 
 -- what is encoded at any level is decoded, whatever follows
 pub record IsRead {A : Type 0} (judge : Judge A) (Spells : Level → List ℕ → A → Type 0) : Type 0 where
@@ -66,9 +66,9 @@ module _ {A B C : Type 0} (first : Judge A) (second : Judge B) (join : A → B �
       record {
         thing = join one.thing two.thing;
         is = is;
-        canonical = told_as (j.canonical && k.canonical) _ _ (both_told j.canonical k.canonical _ _ one.canonical two.canonical)
+        canonical = decided_as (j.canonical && k.canonical) _ _ (both_decided j.canonical k.canonical _ _ one.canonical two.canonical)
             (joined_at strict bytes one.thing two.thing j.used k.used) (split_at strict bytes one.thing two.thing j.used k.used one.is two.is);
-        tidy = told_as (j.tidy && k.tidy) _ _ (both_told j.tidy k.tidy _ _ one.tidy two.tidy) (joined_at tidy bytes one.thing two.thing j.used k.used) (split_at tidy bytes one.thing two.thing j.used k.used one.is two.is);
+        tidy = decided_as (j.tidy && k.tidy) _ _ (both_decided j.tidy k.tidy _ _ one.tidy two.tidy) (joined_at tidy bytes one.thing two.thing j.used k.used) (split_at tidy bytes one.thing two.thing j.used k.used one.is two.is);
       }
   both_judged bytes j (Err e) one two =
       let P : Judged A → Type 0 = λ a. Fails e (a >>= λ x. second (drop x.1 bytes) >>= λ y. took (join x.0 y.0) (x.1 + y.1)) in

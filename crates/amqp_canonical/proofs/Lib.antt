@@ -1,3 +1,4 @@
+-- The lemmas of amqp_canonical.
 pub mod Refusing
 pub mod Children
 pub mod TagBytes
@@ -23,3 +24,4 @@ pub mod SlotParts
 pub mod InTurn
 pub mod PayloadParts
 pub mod NoLonger
+pub mod EqualJudgements

@@ -7,13 +7,14 @@ use Rattle.amqp_types.specs.Judging.{IsBytes}
 use Rattle.amqp_types.specs.Values.{Entry}
 use Rattle.amqp_types.specs.ValueJudging.{filled, judge_entry, judge_value}
 use Rattle.amqp_types.proofs.Bytes.{IsBytes-drop}
-use Rattle.amqp_canonical.specs.Writes.{IsRead, IsFilled, items_of, used_of}
-use Rattle.amqp_canonical.specs.Marks.{entry_at, entry_of, marked_entry, entries_in, AreEntries, AreRead, AreMarks}
+use Rattle.amqp_canonical.specs.Writes.{IsRead, IsFilled, items_of}
+use Rattle.amqp_canonical.specs.Marks.{entry_at, judged_entry, marked_entry, entries_in, AreEntries, AreRead, AreMarks}
 use Rattle.amqp_canonical.specs.Places.{Precedes, ArePlaced}
 use Rattle.amqp_canonical.specs.declared.marks.Mark.{Mark}
 use Rattle.amqp_canonical.proofs.Placed.{all_push, placed_last}
 use Rattle.amqp_canonical.proofs.InOrder.{each_weaker}
 use Rattle.amqp_canonical.proofs.ReadParts.{is_read, first_entry, none_filled}
+use Rattle.amqp_types.specs.Tidiness.{used_by}
 
 -- ---- entries that are read up to a place
 
@@ -28,17 +29,17 @@ entries_none room content h = record { left = h; all = refl }
 -- the entry at the place
 pub record EntryHere (room : ℕ) (content : List ℕ) (at size : ℕ) (front : List Entry) : Type 0 where
   pub read : IsRead (entry_at room content at)
-  pub used : size ≡ used_of (entry_at room content at)
+  pub used : size ≡ used_by (entry_at room content at)
   pub some : 0 < size
   pub within : at + size ≤ length content
-  pub next : EntriesTo room content (at + size) (front ++ entry_of (entry_at room content at) ∷ [])
+  pub next : EntriesTo room content (at + size) (front ++ judged_entry (entry_at room content at) ∷ [])
 
-pub entries_next : (room : ℕ) (content : List ℕ) (at size : ℕ) (front : List Entry) → IsBytes content → at < length content → (IsRead (entry_at room content at) → size ≡ used_of (entry_at room content at)) → EntriesTo room content at front → EntryHere room content at size front
+pub entries_next : (room : ℕ) (content : List ℕ) (at size : ℕ) (front : List Entry) → IsBytes content → at < length content → (IsRead (entry_at room content at) → size ≡ used_by (entry_at room content at)) → EntriesTo room content at front → EntryHere room content at size front
 entries_next room content at size front fits more sized h =
     let one = first_entry room (drop at content) (IsBytes-drop at content fits) (omega (arith, length-drop at content)) h.left in
     let read = is_read (entry_at room content at) one.thing one.size one.is in
-    let count : one.size ≡ size = sym (sized read ∙ ap (λ j. used_of j) one.is) in
-    let entry : entry_of (entry_at room content at) ≡ one.thing = ap (λ j. entry_of j) one.is in
+    let count : one.size ≡ size = sym (sized read ∙ ap (λ j. used_by j) one.is) in
+    let entry : judged_entry (entry_at room content at) ≡ one.thing = ap (λ j. judged_entry j) one.is in
     let place : drop one.size (drop at content) ≡ drop (at + size) content = drop-drop one.size at content ∙ ap (λ m. drop (at + m) content) count in
     let P : List ℕ → Type 0 = λ bs. IsFilled (filled (judge_entry (judge_value room)) 0 bs) in
     let rest : List ℕ → List Entry = λ bs. items_of (filled (judge_entry (judge_value room)) 0 bs) in
@@ -69,13 +70,13 @@ pub record MarkedTo (room : ℕ) (content : List ℕ) (at : ℕ) (marks : List M
 pub marked_none : (room : ℕ) (content : List ℕ) → AreEntries room content → MarkedTo room content 0 []
 marked_none room content h = record { read = All-nil _; entries = entries_none room content h; placed = tt; below = tt }
 
-pub marked_next : (room : ℕ) (content : List ℕ) (at size : ℕ) (marks : List Mark) (mark : Mark) → IsBytes content → at < length content → (IsRead (entry_at room content at) → size ≡ used_of (entry_at room content at)) → mark.place ≡ at → MarkedTo room content at marks
+pub marked_next : (room : ℕ) (content : List ℕ) (at size : ℕ) (marks : List Mark) (mark : Mark) → IsBytes content → at < length content → (IsRead (entry_at room content at) → size ≡ used_by (entry_at room content at)) → mark.place ≡ at → MarkedTo room content at marks
     → MarkedTo room content (at + size) (marks ++ mark ∷ [])
 marked_next room content at size marks mark fits more sized is h =
     let f = marked_entry room content in
     let here = entries_next room content at size (map f marks) fits more sized h.entries in
     let P : ℕ → Type 0 = λ k. IsRead (entry_at room content k) in
-    let Q : ℕ → Type 0 = λ k. EntriesTo room content (at + size) (map f marks ++ entry_of (entry_at room content k) ∷ []) in
+    let Q : ℕ → Type 0 = λ k. EntriesTo room content (at + size) (map f marks ++ judged_entry (entry_at room content k) ∷ []) in
     let R : List Entry → Type 0 = λ es. EntriesTo room content (at + size) es in
     let read : IsRead (entry_at room content mark.place) = subst P (sym is) here.read in
     record {

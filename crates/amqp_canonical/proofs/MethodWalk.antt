@@ -21,7 +21,7 @@ use Rattle.amqp_values.proofs.MethodLaws.{in_table, rows_lawful, payloads_lawful
 use Rattle.amqp_canonical.specs.declared.slots.Judgement.{Judgement}
 use Rattle.amqp_canonical.specs.SlotJudgements.{TakesTidily, AreCanonicalSlots, IsCanonicalPayload}
 use Rattle.amqp_canonical.proofs.Refusing.{Fails, fully, fails_next}
-use Rattle.amqp_canonical.proofs.Children.{told_as}
+use Rattle.amqp_canonical.proofs.Children.{decided_as}
 use Rattle.amqp_canonical.proofs.Joining.{judgement}
 use Rattle.amqp_canonical.proofs.Forms.{canonical_of_levels, levels_of_canonical}
 
@@ -155,6 +155,6 @@ payload_took payload class n id m slots j fits is next some h =
     canonical_of_levels judge_payload SpellsPayload payload_bytes payloads_lawful payload (judgement (n + (m + j.used)) j.canonical j.tidy) fits (record {
       thing = method class id items;
       is = payload_of_slots payload class n id m slots is next some ∙ ap (λ j. ((j >>= λ items. took (method class id items.0) items.1) >>= λ x. took x.0 (m + x.1)) >>= λ x. took x.0 (n + x.1)) levels.is;
-      canonical = told_as j.canonical _ _ levels.canonical (up strict) (down strict);
-      tidy = told_as j.tidy _ _ levels.tidy (up tidy) (down tidy);
+      canonical = decided_as j.canonical _ _ levels.canonical (up strict) (down strict);
+      tidy = decided_as j.tidy _ _ levels.tidy (up tidy) (down tidy);
     })

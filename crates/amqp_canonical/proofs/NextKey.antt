@@ -13,16 +13,14 @@ use Rattle.amqp_types.specs.Values.{FieldValue, Entry}
 use Rattle.amqp_values.proofs.Settling.{settles}
 use Rattle.amqp_canonical.specs.Judgements.{IsBelow}
 use Rattle.amqp_canonical.specs.Writes.{IsRead, key_in}
-use Rattle.amqp_canonical.specs.Marks.{entry_at, entry_of, entries_in, AreEntries, IsAfter, IsNext, HasNoNext, ComesFirst, FindsNext}
-use Rattle.amqp_canonical.proofs.InOrder.{cmp, each_weaker, absent}
+use Rattle.amqp_canonical.specs.Marks.{entry_at, judged_entry, entries_in, AreEntries, IsAfter, IsNext, HasNoNext, ComesFirst, FindsNext}
+use Rattle.amqp_canonical.proofs.InOrder.{each_weaker, absent, later-None}
 use Rattle.amqp_canonical.proofs.Marking.{EntriesTo, EntryHere, entries_none, entries_end}
 use Rattle.amqp_canonical.proofs.ReadParts.{entry_key}
+use Rattle.amqp_canonical.proofs.Children.{all_last}
+use Rattle.amqp_canonical.proofs.Placed.{cmp}
 
 -- ---- one more entry at the end
-
-later-None : (found : Option FieldValue) → later found None ≡ found
-later-None None = refl
-later-None (Some v) = refl
 
 later_later : (a b c : Option FieldValue) → later (later a b) c ≡ later a (later b c)
 later_later None b c = refl
@@ -136,7 +134,7 @@ module _ (last : Option (List ℕ)) (es : List Entry) (e : Entry) where
 
 -- ---- the entries up to a place are looked at
 
-abbrev view : Bor (List ℕ) → List ℕ
+abbrev pub view : Bor (List ℕ) → List ℕ
 view k = k.now
 
 pub record LookedTo (room : ℕ) (content : List ℕ) (last : Option (List ℕ)) (at : ℕ) (found : Option (ℕ × Bor (List ℕ))) : Type 0 where
@@ -148,18 +146,18 @@ pub looked_none : (room : ℕ) (content : List ℕ) (last : Option (List ℕ)) �
 looked_none room content last h = record { front = []; entries = entries_none room content h; finds = λ other w later value. let e : None ≡ Some w = value in cc }
 
 -- the key at the place is that of the entry
-pub key_here : (room : ℕ) (content : List ℕ) (at : ℕ) (key : List ℕ) → IsRead (entry_at room content at) → key ≡ key_in (drop at content) → key ≡ (entry_of (entry_at room content at)).0
+pub key_here : (room : ℕ) (content : List ℕ) (at : ℕ) (key : List ℕ) → IsRead (entry_at room content at) → key ≡ key_in (drop at content) → key ≡ (judged_entry (entry_at room content at)).0
 key_here room content at key read is = is ∙ entry_key room (drop at content) read
 
-finds_taken : (room : ℕ) (content : List ℕ) (last : Option (List ℕ)) (at : ℕ) (key : Bor (List ℕ)) (front : List Entry) (found : Option (ℕ × Bor (List ℕ))) → IsRead (entry_at room content at) → key.now ≡ (entry_of (entry_at room content at)).0
-    → IsAfter last key.now → ComesFirst view key.now found → FindsNext view room content last front found → FindsNext view room content last (front ++ entry_of (entry_at room content at) ∷ []) (Some (at, key))
+finds_taken : (room : ℕ) (content : List ℕ) (last : Option (List ℕ)) (at : ℕ) (key : Bor (List ℕ)) (front : List Entry) (found : Option (ℕ × Bor (List ℕ))) → IsRead (entry_at room content at) → key.now ≡ (judged_entry (entry_at room content at)).0
+    → IsAfter last key.now → ComesFirst view key.now found → FindsNext view room content last front found → FindsNext view room content last (front ++ judged_entry (entry_at room content at) ∷ []) (Some (at, key))
 finds_taken room content last at key front None read is after first h =
-    let e = entry_of (entry_at room content at) in
+    let e = judged_entry (entry_at room content at) in
     let P : List ℕ → Type 0 = λ k. IsAfter last k in
     let Q : List ℕ → Type 0 = λ k. IsNext last (front ++ e ∷ []) k e.1 in
     record { read = read; key_is = sym is; next = subst Q (sym is) (next_first last front e (subst P is after) h) }
 finds_taken room content last at key front (Some found) read is after first h =
-    let e = entry_of (entry_at room content at) in
+    let e = judged_entry (entry_at room content at) in
     let P : List ℕ → Type 0 = λ k. IsAfter last k in
     let Q : List ℕ → Type 0 = λ k. IsNext last (front ++ e ∷ []) k e.1 in
     let R : List ℕ → Type 0 = λ k. cmp k found.1.now ≢ Greater in
@@ -249,10 +247,6 @@ pub record NextLeft (es : List Entry) (k : List ℕ) (v : FieldValue) (done left
   pub is : left ≡ (k, v) ∷ rest
   pub left_is : IsLeft es (Some k) (done ++ (k, v) ∷ []) rest
 
-all_last : (P : List ℕ → Type 0) (es : List Entry) (e : Entry) → AllByRecursion P (keys_of es) → P e.0 → AllByRecursion P (keys_of (es ++ e ∷ []))
-all_last P [] e h p = (p, tt)
-all_last P (x ∷ es) e h p = (h.0, all_last P es e h.1 p)
-
 pub next_left : (es : List Entry) (last : Option (List ℕ)) (done left : List Entry) (k : List ℕ) (v : FieldValue) → IsLeft es last done left → IsNext last es k v → NextLeft es k v done left
 unfolding IsStrictlySortedBy
 next_left es last done [] k v h n = let e : None ≡ Some v = value_left es last done [] k h n.after ∙ n.value in absurd cc
@@ -279,7 +273,7 @@ none_left es last done (e ∷ rest) h none = absurd (none e.0 e.1 h.ahead.0 (sym
 -- ---- steps of the search
 
 module _ (room : ℕ) (content : List ℕ) (last : Option (List ℕ)) (at size : ℕ) (key : Bor (List ℕ)) (found : Option (ℕ × Bor (List ℕ))) (h : LookedTo room content last at found) (here : EntryHere room content at size h.front) (is : key.now ≡ key_in (drop at content)) where
-  key_is_here : key.now ≡ (entry_of (entry_at room content at)).0
+  key_is_here : key.now ≡ (judged_entry (entry_at room content at)).0
   key_is_here = key_here room content at key.now here.read is
 
   pub looked_taken : IsAfter last key.now → ComesFirst view key.now found → LookedTo room content last (at + size) (Some (at, key))

@@ -19,16 +19,17 @@ use Rattle.amqp_values.proofs.Bounded.{value_bounded, array_bounded, table_bound
 use Rattle.amqp_values.proofs.SlotLaws.{slots_lawful}
 use Rattle.amqp_values.proofs.MethodLaws.{payloads_lawful}
 use Rattle.amqp_properties.proofs.HeaderLaws.{content_headers_lawful}
-use Rattle.amqp_canonical.specs.Writes.{canonical_of, used_of}
-use Rattle.amqp_canonical.specs.WritingLaws.{IsNoLonger, ValuesAreNoLonger, ArraysAreNoLonger, TablesAreNoLonger, SlotsAreNoLonger, PayloadsAreNoLonger, ContentHeadersAreNoLonger}
+use Rattle.amqp_canonical.specs.Writes.{canonical_of}
+use Rattle.amqp_canonical.specs.WritingLaws.{WritesNoLonger, ValuesAreNoLonger, ArraysAreNoLonger, TablesAreNoLonger, SlotsAreNoLonger, PayloadsAreNoLonger, ContentHeadersAreNoLonger}
 use Rattle.amqp_canonical.proofs.ReadParts.{took_of}
+use Rattle.amqp_types.specs.Tidiness.{used_by}
 
-lawful_no_longer : {A : Type 0} (judge : Judge A) (Spells : Level → List ℕ → A → Type 0) (canonical : A → List ℕ) → IsLawful judge Spells canonical → IsNoLonger judge canonical
+lawful_no_longer : {A : Type 0} (judge : Judge A) (Spells : Level → List ℕ → A → Type 0) (canonical : A → List ℕ) → IsLawful judge Spells canonical → WritesNoLonger judge canonical
 lawful_no_longer judge Spells canonical laws bytes fits h =
     let one = took_of (judge bytes) h in
     let spelled = laws.exact.spelled bytes one.0 one.1 fits one.2 in
     let shorter = laws.shortest (take one.1 bytes) one.0 spelled.0 in
-    omega (arith, shorter, length-take-le one.1 bytes spelled.1, ap (λ j. length (canonical_of canonical j)) one.2, ap (λ j. used_of j) one.2)
+    omega (arith, shorter, length-take-le one.1 bytes spelled.1, ap (λ j. length (canonical_of canonical j)) one.2, ap (λ j. used_by j) one.2)
 
 pub values_no_longer : ValuesAreNoLonger
 values_no_longer room bytes fits h =
@@ -36,7 +37,7 @@ values_no_longer room bytes fits h =
     let exact = value_exact room in
     let spelled = exact.spelled bytes one.0 one.1 fits one.2 in
     let b = value_bounded room (take one.1 bytes) one.0 spelled.0 in
-    omega (arith, b.shorter, length-take-le one.1 bytes spelled.1, ap (λ j. length (canonical_of tagged_bytes j)) one.2, ap (λ j. used_of j) one.2)
+    omega (arith, b.shorter, length-take-le one.1 bytes spelled.1, ap (λ j. length (canonical_of tagged_bytes j)) one.2, ap (λ j. used_by j) one.2)
 
 pub arrays_no_longer : ArraysAreNoLonger
 arrays_no_longer room bytes fits h =
@@ -45,7 +46,7 @@ arrays_no_longer room bytes fits h =
     let exact = array_exact (judge_value room) Plain (value_exact room) (value_some plain room) in
     let spelled = exact.spelled bytes one.0 one.1 fits one.2 in
     let b = array_bounded room Plain (value_bounded room) (take one.1 bytes) one.0 spelled.0 in
-    omega (arith, b.shorter, length-take-le one.1 bytes spelled.1, ap (λ j. length (canonical_of array_bytes j)) one.2, ap (λ j. used_of j) one.2)
+    omega (arith, b.shorter, length-take-le one.1 bytes spelled.1, ap (λ j. length (canonical_of array_bytes j)) one.2, ap (λ j. used_by j) one.2)
 
 pub tables_no_longer : TablesAreNoLonger
 unfolding table_bytes
@@ -55,7 +56,7 @@ tables_no_longer room bytes fits h =
     let exact = table_exact (judge_value room) Plain (value_exact room) (value_some plain room) in
     let spelled = exact.spelled bytes one.0 one.1 fits one.2 in
     let b = table_bounded room Plain (value_bounded room) (take one.1 bytes) one.0 spelled.0 in
-    omega (arith, b.shorter, length-take-le one.1 bytes spelled.1, ap (λ j. length (canonical_of table_bytes j)) one.2, ap (λ j. used_of j) one.2)
+    omega (arith, b.shorter, length-take-le one.1 bytes spelled.1, ap (λ j. length (canonical_of table_bytes j)) one.2, ap (λ j. used_by j) one.2)
 
 pub slots_no_longer : SlotsAreNoLonger
 slots_no_longer slots least = lawful_no_longer (judge_slots slots) (λ level. SpellsSlots level slots) (slots_bytes slots) (slots_lawful slots least)

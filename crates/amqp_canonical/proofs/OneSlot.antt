@@ -30,11 +30,11 @@ use Rattle.amqp_values.proofs.SlotLaws.{reserved_lawful}
 use Rattle.amqp_canonical.specs.declared.shapes.Shape.{Shape}
 use Rattle.amqp_canonical.specs.declared.slots.Judgement.{Judgement}
 use Rattle.amqp_canonical.specs.declared.values.ValueJudgement.{ValueJudgement}
-use Rattle.amqp_canonical.specs.Judgements.{IsCanonicalTable, Takes}
+use Rattle.amqp_canonical.specs.Judgements.{IsCanonicalTable, DecodesAs}
 use Rattle.amqp_canonical.specs.Shapes.{form_of, slot_of}
 use Rattle.amqp_canonical.specs.SlotJudgements.{TakesTidily, JudgesTidily, JudgesLevels}
 use Rattle.amqp_canonical.proofs.Refusing.{Fails, fully, fails_next}
-use Rattle.amqp_canonical.proofs.Children.{told_as}
+use Rattle.amqp_canonical.proofs.Children.{decided_as}
 use Rattle.amqp_canonical.proofs.AfterTag.{number_past, number_took}
 use Rattle.amqp_canonical.proofs.Strict.{table_strict}
 
@@ -102,17 +102,17 @@ same_byte : (b c : ℕ) → b ∷ [] ≡ c ∷ [] → b ≡ c
 same_byte b c h = cc
 
 pub flags_form_took : (count : ℕ) (bytes : List ℕ) (fits : Bool) → IsBytes bytes → 1 ≤ length bytes → IsTrue fits ↔ (get_or bytes 0 0 < 2 ^ count) → Taken (flags_form count) 1 fits fits bytes
-flags_form_took count [] fits all some told = absurd (omega (arith, some))
-flags_form_took count (b ∷ bytes) fits all some told =
+flags_form_took count [] fits all some decides = absurd (omega (arith, some))
+flags_form_took count (b ∷ bytes) fits all some decides =
     let flags = flags_from count 0 b in
     let low : b < 256 = omega (arith, all 0) in
     let Low : ℕ → Type 0 = λ x. x < 2 ^ count in
     record {
       thing = map flag_item flags;
       is = (forms_lawful (flags_form count)).exact.taken (b ∷ []) bytes (map flag_item flags) (record { thing = flags; spelled = record { byte = b; fits = low; bytes_are = refl; flags_are = refl; unused = tt }; made = refl });
-      canonical = told_as fits _ _ told (λ small. record { thing = flags; spelled = record { byte = b; fits = low; bytes_are = refl; flags_are = refl; unused = small }; made = refl })
+      canonical = decided_as fits _ _ decides (λ small. record { thing = flags; spelled = record { byte = b; fits = low; bytes_are = refl; flags_are = refl; unused = small }; made = refl })
           (λ s. subst Low (sym (same_byte b s.spelled.byte s.spelled.bytes_are)) s.spelled.unused);
-      tidy = told_as fits _ _ told (λ small. record { thing = flags; spelled = record { byte = b; fits = low; bytes_are = refl; flags_are = refl; unused = small }; made = refl })
+      tidy = decided_as fits _ _ decides (λ small. record { thing = flags; spelled = record { byte = b; fits = low; bytes_are = refl; flags_are = refl; unused = small }; made = refl })
           (λ s. subst Low (sym (same_byte b s.spelled.byte s.spelled.bytes_are)) s.spelled.unused);
     }
 
@@ -120,8 +120,8 @@ flags_form_took count (b ∷ bytes) fits all some told =
 pub fits_where : (count byte : ℕ) → byte < 256 → 8 ≤ count → byte < 2 ^ count
 fits_where count byte fits most = let up : 2 ^ 8 ≤ 2 ^ count = pow-le-pow_right {n = 2} (omega arith) {i = 8} {j = count} most in omega (arith, fits, up)
 
-pub fits_told : (count byte : ℕ) → IsTrue (nat_eq (byte / 2 ^ count) 0) ↔ (byte < 2 ^ count)
-fits_told count byte =
+pub fits_decided : (count byte : ℕ) → IsTrue (nat_eq (byte / 2 ^ count) 0) ↔ (byte < 2 ^ count)
+fits_decided count byte =
     let below = div-lt_iff_lt-mul {k = 2 ^ count} {x = byte} {y = 1} (pow_pos count) in
     (λ t. let none : byte / 2 ^ count ≡ 0 = grind (arith, nat_tests) in omega (arith, below.0 (omega (arith, none))), λ h. let none : byte / 2 ^ count < 1 = below.1 (omega (arith, h)) in grind (arith, nat_tests))
 
@@ -134,17 +134,17 @@ table_form_fails bytes e h = fails_next e (judge_table (judge_value 63) bytes) _
 same_entries : (es fs : List Entry) → entries_item es ∷ [] ≡ entries_item fs ∷ [] → es ≡ fs
 same_entries es fs h = cc
 
-pub table_form_took : (bytes : List ℕ) (w : ValueJudgement) → IsBytes bytes → Takes IsCanonicalTable w bytes (judge_table (judge_value 63) bytes) → Taken table_form w.used w.canonical true bytes
+pub table_form_took : (bytes : List ℕ) (w : ValueJudgement) → IsBytes bytes → DecodesAs IsCanonicalTable w bytes (judge_table (judge_value 63) bytes) → Taken table_form w.used w.canonical true bytes
 unfolding judge_form
 table_form_took bytes w fits h =
     let is = ap (λ j. j >>= λ x. took (entries_item x.0 ∷ []) x.1) h.is in
-    let told = table_strict 63 bytes h.thing w.used fits h.is in
+    let decides = table_strict 63 bytes h.thing w.used fits h.is in
     let Q : List Entry → Type 0 = λ es. SpellsTable strict (SpellsValue strict 63) (take w.used bytes) es in
     let one = (forms_lawful table_form).exact.spelled bytes (entries_item h.thing ∷ []) w.used fits is in
     record {
       thing = entries_item h.thing ∷ [];
       is = is;
-      canonical = told_as w.canonical _ _ h.told (λ e. record { thing = h.thing; spelled = told.0 e; made = refl }) (λ s. told.1 (subst Q (sym (same_entries h.thing s.thing s.made)) s.spelled));
+      canonical = decided_as w.canonical _ _ h.decides (λ e. record { thing = h.thing; spelled = decides.0 e; made = refl }) (λ s. decides.1 (subst Q (sym (same_entries h.thing s.thing s.made)) s.spelled));
       tidy = (λ t. record { thing = one.0.thing; spelled = field_table_plain_is_tidy (take w.used bytes) one.0.thing one.0.spelled; made = one.0.made }, λ s. refl);
     }
 
@@ -170,7 +170,7 @@ pub reserved_took : (form : Form) (constant : List Item) (bytes : List ℕ) (j :
     → IsTrue as_written ↔ (take j.used bytes ≡ form_bytes form constant)
     → TakesTidily (SpellsReserved strict form constant) (SpellsReserved tidy form constant) (record { used = j.used; canonical = as_written; tidy = as_written }) bytes (judge_dropped form bytes)
 unfolding judge_dropped
-reserved_took form constant bytes j as_written fits least h told =
+reserved_took form constant bytes j as_written fits least h decides =
     let law = reserved_lawful form constant least in
     let is : judge_dropped form bytes ≡ took [] j.used = ap (λ j. j >>= λ x. took [] x.1) h.is in
     let one = law.exact.spelled bytes [] j.used fits is in
@@ -180,24 +180,24 @@ reserved_took form constant bytes j as_written fits least h told =
     record {
       thing = [];
       is = is;
-      canonical = told_as as_written _ _ told up (λ s. law.strict_is_canonical front [] s);
-      tidy = told_as as_written _ _ told (λ e. law.strict_is_tidy front [] (up e)) (λ s. law.strict_is_canonical front [] (reserved_tidy_is_strict form constant front [] least s));
+      canonical = decided_as as_written _ _ decides up (λ s. law.strict_is_canonical front [] s);
+      tidy = decided_as as_written _ _ decides (λ e. law.strict_is_tidy front [] (up e)) (λ s. law.strict_is_canonical front [] (reserved_tidy_is_strict form constant front [] least s));
     }
 
-pub bytes_told : (xs ys : List ℕ) (r : Bool) → r ≡ pointwise nat_eq xs ys → IsTrue r ↔ (xs ≡ ys)
-bytes_told xs ys true h = (λ t. told_text xs ys true h, λ e. refl)
-bytes_told xs ys false h = (λ t. absurd (true≢false (sym t)), λ e. absurd (told_text xs ys false h e))
+pub bytes_decided : (xs ys : List ℕ) (r : Bool) → r ≡ pointwise nat_eq xs ys → IsTrue r ↔ (xs ≡ ys)
+bytes_decided xs ys true h = (λ t. told_text xs ys true h, λ e. refl)
+bytes_decided xs ys false h = (λ t. absurd (true≢false (sym t)), λ e. absurd (told_text xs ys false h e))
 
 -- a number is its constant
 pub reserved_number_took : (width : NumberWidth) (bytes : List ℕ) (n constant used : ℕ) (as_written : Bool) → IsBytes bytes → constant < number_limit width → judge_number width bytes ≡ took n used → IsTrue as_written ↔ (n ≡ constant)
     → TakesTidily (SpellsReserved strict (number_form width) (number_item constant ∷ [])) (SpellsReserved tidy (number_form width) (number_item constant ∷ [])) (record { used = used; canonical = as_written; tidy = as_written }) bytes (judge_dropped (number_form width) bytes)
 unfolding judge_form form_bytes
-reserved_number_took width bytes n constant used as_written fits low is told =
+reserved_number_took width bytes n constant used as_written fits low is decides =
     let exact = number_exact width in
     let one = exact.spelled bytes n used fits is in
     let found = one_spelling (number_form width) bytes (number_item n ∷ []) used (ap (λ j. j >>= λ x. took (number_item x.0 ∷ []) x.1) is) (λ level. record { thing = n; spelled = one.0; made = refl }) in
     reserved_took (number_form width) (number_item constant ∷ []) bytes (record { used = used; canonical = true; tidy = true }) as_written fits (grind (arith, nat_tests)) found
-    (told_as as_written _ _ told (λ e. one.0.bytes_are ∙ ap (number_bytes width) e) (λ e. (numbers_lawful width).one_meaning plain (take used bytes) n constant one.0 (record { fits = low; bytes_are = e })))
+    (decided_as as_written _ _ decides (λ e. one.0.bytes_are ∙ ap (number_bytes width) e) (λ e. (numbers_lawful width).one_meaning plain (take used bytes) n constant one.0 (record { fits = low; bytes_are = e })))
 
 pub reserved_number_fails : {A : Type 0} (width : NumberWidth) (bytes : List ℕ) (view : A → ℕ) (e : ParserError) → AnswersFully view (Err e) (judge_number width bytes) → Fails e (judge_dropped (number_form width) bytes)
 unfolding judge_dropped judge_form

@@ -26,13 +26,16 @@ use Rattle.amqp_values.proofs.SlotForms.{forms_lawful, form_gives}
 use Rattle.amqp_values.proofs.SlotLaws.{both_true}
 use Rattle.amqp_types.proofs.FormLaws.{numbers_lawful}
 use Rattle.amqp_properties.proofs.Masks.{set_flags, mask_is, mask_of-flags}
-use Rattle.amqp_properties.proofs.Options.{sets_lawful, set_gives}
+use Rattle.amqp_properties.proofs.Options.{sets_lawful, set_gives, counted_one}
 use Rattle.amqp_properties.proofs.PropertyLaws.{one_each}
 use Rattle.amqp_canonical.specs.declared.shapes.Shape.{Shape}
 use Rattle.amqp_canonical.specs.Shapes.{property_of}
-use Rattle.amqp_canonical.specs.Writes.{IsRead, used_of, canonical_of}
+use Rattle.amqp_canonical.specs.Writes.{IsRead, canonical_of}
 use Rattle.amqp_canonical.proofs.InTurn.{FirstOf, PutInTurn, HereInTurn, turn_none, turn_here, turn_end}
 use Rattle.amqp_canonical.proofs.ReadParts.{took_of, is_read}
+use Rattle.amqp_canonical.proofs.SlotParts.{map_read, map_used}
+use Rattle.amqp_values.proofs.MethodLaws.{known_took}
+use Rattle.amqp_types.specs.Tidiness.{used_by}
 
 -- ---- numbers
 
@@ -46,16 +49,12 @@ IsShortAt bytes x = IsRead (judge_number bytes2 bytes) → judge_number bytes2 b
 pub short_is : (bytes : List ℕ) (x n : ℕ) → judge_number bytes2 bytes ≡ took x n → judge_number bytes2 bytes ≡ took x 2
 short_is bytes x n h = h ∙ ap (λ m. took x m) (number_count bytes2 bytes x n h)
 
-told_number : (bytes : List ℕ) (x y n : ℕ) → judge_number bytes2 bytes ≡ took x n → IsShortAt bytes y → (x ≡ y) × (n ≡ 2)
-told_number bytes x y n h told =
-    let same : took x n ≡ took y 2 = sym h ∙ told (is_read (judge_number bytes2 bytes) x n h) in
+decided_number : (bytes : List ℕ) (x y n : ℕ) → judge_number bytes2 bytes ≡ took x n → IsShortAt bytes y → (x ≡ y) × (n ≡ 2)
+decided_number bytes x y n h decides =
+    let same : took x n ≡ took y 2 = sym h ∙ decides (is_read (judge_number bytes2 bytes) x n h) in
     (value_took x y n 2 same, count_took x y n 2 same)
 
 -- ---- methods
-
-known_is : {A : Type 0} (unknown : Fault) (o : Option A) (x : A) (n : ℕ) → known unknown o ≡ took x n → o ≡ Some x
-known_is unknown None x n h = absurd cc
-known_is unknown (Some y) x n h = ap Some (value_took y x 0 n h)
 
 -- the fields of a method, and its bytes
 pub record PayloadPut (bytes : List ℕ) (class id : ℕ) : Type 0 where
@@ -105,7 +104,7 @@ method_read bytes h =
       total = all.1;
       class_is = short_is bytes class.0 class.1 class.2;
       id_is = ap (λ n. judge_number bytes2 (drop n bytes)) (sym two) ∙ short_is (drop class.1 bytes) id.0 id.1 id.2;
-      known_slots = known_is unknown_method (slots_at class.0 id.0) slots.0 slots.1 slots.2;
+      known_slots = known_took unknown_method (slots_at class.0 id.0) slots.0 slots.1 slots.2;
       items_are = ap₂ (λ m n. judge_slots slots.0 (drop m (drop n bytes))) (sym four) (sym two) ∙ items.2;
       is = all.2 ∙ ap (λ m. took m all.1) (sym found);
     }
@@ -113,8 +112,8 @@ method_read bytes h =
 pub payload_put : (bytes : List ℕ) (class id : ℕ) → IsRead (judge_payload bytes) → IsShortAt bytes class → IsShortAt (drop 2 bytes) id → PayloadPut bytes class id
 payload_put bytes class id h one two =
     let r = method_read bytes h in
-    let same_class = told_number bytes r.class class 2 r.class_is one in
-    let same_id = told_number (drop 2 bytes) r.id id 2 r.id_is two in
+    let same_class = decided_number bytes r.class class 2 r.class_is one in
+    let same_id = decided_number (drop 2 bytes) r.id id 2 r.id_is two in
     let four : drop 2 (drop 2 bytes) ≡ drop 4 bytes = drop-drop 2 2 bytes in
     let items : judge_slots r.slots (drop 4 bytes) ≡ took r.items r.count = ap (judge_slots r.slots) (sym four) ∙ r.items_are in
     record {
@@ -131,14 +130,6 @@ same_some x y h = cc
 
 -- ---- properties
 
--- a form of one item
-one_item : (form : Form) → gives_one form ≡ true → item_count form ≡ 1
-one_item (number_form width) h = refl
-one_item (flags_form count) h = absurd cc
-one_item short_string_form h = refl
-one_item long_string_form h = refl
-one_item table_form h = refl
-
 first_is : (form : Form) (items : List Item) → length items ≡ 1 → optional_bytes form (first_item items) ≡ form_bytes form items
 unfolding optional_bytes
 first_is form [] h = absurd (omega (arith, h))
@@ -152,7 +143,7 @@ option_bytes form bytes items n one fits is =
     let laws = forms_lawful form in
     let spelled = laws.exact.spelled bytes items n fits is in
     let gives = form_gives form (take n bytes) items spelled.0 in
-    first_is form items (gives.count ∙ one_item form one)
+    first_is form items (gives.count ∙ counted_one form one)
 
 abbrev pub one_property : ℕ → Property → Judge (Option Item)
 one_property mask p = judge_optional (flag_at mask p.bit) p.form
@@ -160,14 +151,14 @@ one_property mask p = judge_optional (flag_at mask p.bit) p.form
 abbrev pub property_bytes : Property → Option Item → List ℕ
 property_bytes p option = optional_bytes p.form option
 
-first_property : (mask : ℕ) (p : Property) (ps : List Property) (bytes : List ℕ) (n : ℕ) → IsBytes bytes → IsRead (judge_set mask (p ∷ ps) bytes) → (IsRead (one_property mask p bytes) → n ≡ used_of (one_property mask p bytes)) → FirstOf (one_property mask) (judge_set mask) property_bytes set_bytes p ps bytes n
+first_property : (mask : ℕ) (p : Property) (ps : List Property) (bytes : List ℕ) (n : ℕ) → IsBytes bytes → IsRead (judge_set mask (p ∷ ps) bytes) → (IsRead (one_property mask p bytes) → n ≡ used_by (one_property mask p bytes)) → FirstOf (one_property mask) (judge_set mask) property_bytes set_bytes p ps bytes n
 unfolding judge_set set_bytes
 first_property mask p ps bytes n fits h sized =
     let all = took_of (judge_set mask (p ∷ ps) bytes) h in
     let one = bind_took (one_property mask p bytes) _ all.0 all.1 all.2 in
     let two = bind_took (judge_set mask ps (drop one.1 bytes)) _ all.0 all.1 one.3 in
     let read = is_read (one_property mask p bytes) one.0 one.1 one.2 in
-    let count : n ≡ one.1 = sized read ∙ ap (λ j. used_of j) one.2 in
+    let count : n ≡ one.1 = sized read ∙ ap (λ j. used_by j) one.2 in
     let options : one.0 ∷ two.0 ≡ all.0 = value_took (one.0 ∷ two.0) all.0 (one.1 + two.1) all.1 two.3 in
     let rest : judge_set mask ps (drop n bytes) ≡ took two.0 two.1 = ap (λ m. judge_set mask ps (drop m bytes)) count ∙ two.2 in
     record {
@@ -187,7 +178,7 @@ SetPut mask = PutInTurn (one_property mask) (judge_set mask) property_bytes set_
 pub set_none : (mask : ℕ) (ps : List Property) (bytes buf : List ℕ) (at : ℕ) → IsBytes bytes → IsRead (judge_set mask ps bytes) → SetPut mask ps bytes bytes 0 buf buf at at
 set_none mask = turn_none (one_property mask) (judge_set mask) property_bytes set_bytes
 
-set_here : (mask : ℕ) (ps : List Property) (p : Property) (bytes left : List ℕ) (k n : ℕ) (old mid : List ℕ) (at end : ℕ) → drop k ps ≡ p ∷ drop (k + 1) ps → (IsRead (one_property mask p left) → n ≡ used_of (one_property mask p left))
+set_here : (mask : ℕ) (ps : List Property) (p : Property) (bytes left : List ℕ) (k n : ℕ) (old mid : List ℕ) (at end : ℕ) → drop k ps ≡ p ∷ drop (k + 1) ps → (IsRead (one_property mask p left) → n ≡ used_by (one_property mask p left))
     → at + length (canonical_of (set_bytes ps) (judge_set mask ps bytes)) ≤ length old → SetPut mask ps bytes left k old mid at end → HereInTurn (one_property mask) (judge_set mask) property_bytes set_bytes ps p bytes left k n old mid at end
 set_here mask = turn_here (one_property mask) (judge_set mask) property_bytes set_bytes (first_property mask)
 
@@ -199,16 +190,6 @@ pub record PropertyHere (mask : ℕ) (ps : List Property) (form : Form) (bytes l
   pub read : IsRead (judge_form form left)
   pub room : end + length (canonical_of (form_bytes form) (judge_form form left)) ≤ length mid
   pub next : (new : List ℕ) (place : ℕ) → Puts mid new end (canonical_of (form_bytes form) (judge_form form left)) place → SetPut mask ps bytes (drop n left) (k + 1) old new at place
-
-map_read : {A B : Type 0} (f : A → B) (j : Judged A) → IsRead (j >>= λ x. took (f x.0) x.1) → IsRead j
-map_read f (took x n) h = tt
-map_read f past h = h
-map_read f (fault bad) h = h
-
-map_used : {A B : Type 0} (f : A → B) (j : Judged A) → used_of (j >>= λ x. took (f x.0) x.1) ≡ used_of j
-map_used f (took x n) = refl
-map_used f past = refl
-map_used f (fault bad) = refl
 
 optional_there : (flag : Bool) (form : Form) (bytes : List ℕ) → flag ≡ true → judge_optional flag form bytes ≡ judge_map first_item (judge_form form) bytes
 unfolding judge_optional
@@ -226,11 +207,11 @@ option_put form bytes one fits h =
     ap (λ j. canonical_of (optional_bytes form) (j >>= λ x. took (first_item x.0) x.1)) r.2 ∙ option_bytes form bytes r.0 r.1 one fits r.2 ∙ sym (ap (λ j. canonical_of (form_bytes form) j) r.2)
 
 pub property_here : (mask : ℕ) (ps : List Property) (p : Property) (bytes left : List ℕ) (k n : ℕ) (old mid : List ℕ) (at end : ℕ) → drop k ps ≡ p ∷ drop (k + 1) ps → gives_one p.form ≡ true → flag_at mask p.bit ≡ true
-    → (IsRead (judge_form p.form left) → n ≡ used_of (judge_form p.form left)) → at + length (canonical_of (set_bytes ps) (judge_set mask ps bytes)) ≤ length old → SetPut mask ps bytes left k old mid at end → PropertyHere mask ps p.form bytes left k n old mid at end
+    → (IsRead (judge_form p.form left) → n ≡ used_by (judge_form p.form left)) → at + length (canonical_of (set_bytes ps) (judge_set mask ps bytes)) ≤ length old → SetPut mask ps bytes left k old mid at end → PropertyHere mask ps p.form bytes left k n old mid at end
 property_here mask ps p bytes left k n old mid at end is one there sized room h =
     let same : one_property mask p left ≡ judge_map first_item (judge_form p.form) left = optional_there (flag_at mask p.bit) p.form left there in
-    let P : Judged (Option Item) → Type 0 = λ j. IsRead j → n ≡ used_of j in
-    let sized_map : IsRead (judge_map first_item (judge_form p.form) left) → n ≡ used_of (judge_map first_item (judge_form p.form) left) = λ r. sized (map_read first_item (judge_form p.form left) r) ∙ sym (map_used first_item (judge_form p.form left)) in
+    let P : Judged (Option Item) → Type 0 = λ j. IsRead j → n ≡ used_by j in
+    let sized_map : IsRead (judge_map first_item (judge_form p.form) left) → n ≡ used_by (judge_map first_item (judge_form p.form) left) = λ r. sized (map_read first_item (judge_form p.form left) r) ∙ sym (map_used first_item (judge_form p.form left)) in
     let here = set_here mask ps p bytes left k n old mid at end is (subst P (sym same) sized_map) room h in
     let Q : Judged (Option Item) → Type 0 = λ j. IsRead j in
     let read = map_read first_item (judge_form p.form left) (subst Q same here.read) in
@@ -247,7 +228,7 @@ pub property_past : (mask : ℕ) (ps : List Property) (p : Property) (bytes left
 unfolding optional_bytes
 property_past mask ps p bytes left k old mid at end is none room h =
     let same : one_property mask p left ≡ took None 0 = optional_none (flag_at mask p.bit) p.form left none in
-    let here = set_here mask ps p bytes left k 0 old mid at end is (λ read. sym (ap (λ j. used_of j) same)) room h in
+    let here = set_here mask ps p bytes left k 0 old mid at end is (λ read. sym (ap (λ j. used_by j) same)) room h in
     let put : canonical_of (property_bytes p) (one_property mask p left) ≡ [] = ap (λ j. canonical_of (property_bytes p) j) same in
     here.next mid end (puts_none mid end _ put)
 
@@ -352,14 +333,14 @@ set_read bytes h =
     }
 
 pub properties_put : (bytes : List ℕ) (mask : ℕ) → IsBytes bytes → IsRead (judge_properties bytes) → IsShortAt bytes mask → PropertiesPut bytes mask
-properties_put bytes mask fits h told =
+properties_put bytes mask fits h decides =
     let r = set_read bytes h in
-    let same = told_number bytes r.mask mask 2 r.mask_is told in
+    let same = decided_number bytes r.mask mask 2 r.mask_is decides in
     let set : judge_set mask properties (drop 2 bytes) ≡ took r.options r.count = ap (λ m. judge_set m properties (drop 2 bytes)) (sym same.0) ∙ r.set_is in
     let laws = sets_lawful mask properties one_each in
     let spelled = laws.exact.spelled (drop 2 bytes) r.options r.count (IsBytes-drop 2 bytes fits) set in
     let gives = set_gives plain mask properties (take r.count (drop 2 bytes)) r.options one_each spelled.0 in
-    let number = (numbers_lawful bytes2).exact.spelled bytes mask 2 fits (told (is_read (judge_number bytes2 bytes) r.mask 2 r.mask_is)) in
+    let number = (numbers_lawful bytes2).exact.spelled bytes mask 2 fits (decides (is_read (judge_number bytes2 bytes) r.mask 2 r.mask_is)) in
     let low = mask_cleared mask r.options number.0.fits gives.there in
     record {
       read = is_read (judge_set mask properties (drop 2 bytes)) r.options r.count set;

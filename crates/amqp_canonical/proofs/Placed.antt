@@ -17,7 +17,7 @@ use Rattle.amqp_values.proofs.Settling.{settles, settled_is}
 use Rattle.amqp_canonical.specs.Places.{Precedes, ArePlaced}
 
 -- the order of keys
-abbrev cmp : List ℕ → List ℕ → Ordering
+abbrev pub cmp : List ℕ → List ℕ → Ordering
 cmp = slice_cmp nat_cmp
 
 -- ---- one more thing at the end
@@ -61,7 +61,7 @@ pub settled_above : (table entries : List Entry) (e : Entry) → IsSettled table
 settled_above table entries e h above = subst (λ t. IsSettled t (entries ++ e ∷ [])) (put_last table e above) (settled_push table entries e h)
 
 -- what holds of all keys holds of the last one
-all_at_last : (P : List ℕ → Type 0) (es : List Entry) (e : Entry) → AllByRecursion P (keys_of (es ++ e ∷ [])) → P e.0
+pub all_at_last : (P : List ℕ → Type 0) (es : List Entry) (e : Entry) → AllByRecursion P (keys_of (es ++ e ∷ [])) → P e.0
 all_at_last P [] e h = h.0
 all_at_last P (x ∷ es) e h = all_at_last P es e h.1
 

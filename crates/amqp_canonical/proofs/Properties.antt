@@ -7,7 +7,7 @@ use Rattle.std.proofs.Math.Seq.{take-add}
 use Rattle.std.specs.Int.{bit_at}
 use Rattle.amqp_types.specs.Levels.{Level, plain, tidy, strict}
 use Rattle.amqp_types.specs.Judging.{Judged, Judge, took, IsBytes, ◌>>=◌}
-use Rattle.amqp_types.specs.Sequences.{SpellsBoth, SpellsMade}
+use Rattle.amqp_types.specs.Sequences.{SpellsBoth, SpellsMapped}
 use Rattle.amqp_types.specs.Answers.{AnswersFully}
 use Rattle.amqp_types.specs.Numbers.{bytes2, number_bytes, judge_number, SpellsNumber}
 use Rattle.amqp_types.specs.Flags.{flag_at, FromTidy}
@@ -25,7 +25,7 @@ use Rattle.amqp_types.proofs.FormLaws.{numbers_lawful}
 use Rattle.amqp_types.proofs.Sequences.{map_taken}
 use Rattle.amqp_types.proofs.Took.{value_took}
 use Rattle.amqp_values.proofs.SlotForms.{forms_lawful}
-use Rattle.amqp_values.proofs.SlotLaws.{slots_lawful}
+use Rattle.amqp_values.proofs.SlotLaws.{slots_lawful, form_is_plain}
 use Rattle.amqp_properties.proofs.PropertyLaws.{properties_lawful}
 use Rattle.amqp_properties.proofs.HeaderLaws.{least, content_headers_lawful}
 use Rattle.amqp_canonical.specs.declared.shapes.Shape.{Shape}
@@ -33,9 +33,9 @@ use Rattle.amqp_canonical.specs.declared.slots.Judgement.{Judgement}
 use Rattle.amqp_canonical.specs.Shapes.{form_of, property_of}
 use Rattle.amqp_canonical.specs.SlotJudgements.{TakesTidily, JudgesTidily, JudgesLevels, after_others, AreCanonicalSlots, IsCanonicalContentHeader}
 use Rattle.amqp_canonical.proofs.Refusing.{Fails, fully, fails_next}
-use Rattle.amqp_canonical.proofs.Children.{told_as, both_told}
+use Rattle.amqp_canonical.proofs.Children.{decided_as, both_decided}
 use Rattle.amqp_canonical.proofs.Joining.{IsRead, law_read, both_read, both_judged, split_at, judgement, IsReached, reached_none, reached_more, reached_fails, reached_all}
-use Rattle.amqp_canonical.proofs.Forms.{form_is_plain, slots_read, levels_of_canonical, canonical_of_levels}
+use Rattle.amqp_canonical.proofs.Forms.{slots_read, levels_of_canonical, canonical_of_levels}
 
 -- ---- one property
 
@@ -46,8 +46,8 @@ optional_read true form = record {
 }
 optional_read false form = record { read = λ level bytes rest option h. ap₂ (λ o n. took o n) (sym h.1) (sym (ap length h.0)) }
 
-made_at : (level : Level) (form : Form) (bytes : List ℕ) (items : List Item) → SpellsForm plain form bytes items → SpellsForm level form bytes items ↔ SpellsMade (SpellsForm level form) first_item bytes (first_item items)
-made_at level form bytes items h = (
+mapped_at : (level : Level) (form : Form) (bytes : List ℕ) (items : List Item) → SpellsForm plain form bytes items → SpellsForm level form bytes items ↔ SpellsMapped (SpellsForm level form) first_item bytes (first_item items)
+mapped_at level form bytes items h = (
   λ s. record { thing = items; spelled = s; made = refl },
   λ s. subst (SpellsForm level form bytes) ((forms_lawful form).one_meaning plain bytes s.thing items (form_is_plain level form bytes s.thing s.spelled) h) s.spelled,
 )
@@ -58,13 +58,13 @@ unfolding judge_optional
 optional_there true form bytes (Ok j) fits there h =
     let one = (forms_lawful form).exact.spelled bytes h.thing j.used fits h.is in
     let front = take j.used bytes in
-    let up = made_at strict form front h.thing one.0 in
-    let neat = made_at tidy form front h.thing one.0 in
+    let up = mapped_at strict form front h.thing one.0 in
+    let neat = mapped_at tidy form front h.thing one.0 in
     record {
       thing = first_item h.thing;
       is = ap (λ j. j >>= λ x. took (first_item x.0) x.1) h.is;
-      canonical = told_as j.canonical _ _ h.canonical up.0 up.1;
-      tidy = told_as j.tidy _ _ h.tidy neat.0 neat.1;
+      canonical = decided_as j.canonical _ _ h.canonical up.0 up.1;
+      tidy = decided_as j.tidy _ _ h.tidy neat.0 neat.1;
     }
 optional_there true form bytes (Err e) fits there h = fails_next e (judge_form form bytes) _ h
 optional_there false form bytes r fits there h = absurd (true≢false (sym there))
@@ -190,8 +190,8 @@ properties_took bytes mask n unused j fits is none h =
     record {
       thing = h.thing;
       is = mask_read bytes mask n is ∙ ap (λ k. k >>= λ set. took set.0 (n + set.1)) h.is;
-      canonical = told_as (j.canonical && unused) _ _ (both_told j.canonical unused _ _ h.canonical none) (up strict (λ x. x)) (down strict (λ s. s.unused));
-      tidy = told_as (j.tidy && unused) _ _ (both_told j.tidy unused _ _ h.tidy none) (up tidy (λ x. x)) (down tidy (λ s. s.unused));
+      canonical = decided_as (j.canonical && unused) _ _ (both_decided j.canonical unused _ _ h.canonical none) (up strict (λ x. x)) (down strict (λ s. s.unused));
+      tidy = decided_as (j.tidy && unused) _ _ (both_decided j.tidy unused _ _ h.tidy none) (up tidy (λ x. x)) (down tidy (λ s. s.unused));
     }
 
 -- a bit beyond the mask

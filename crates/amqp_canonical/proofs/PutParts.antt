@@ -28,26 +28,27 @@ use Rattle.amqp_values.proofs.Strictly.{fits_four}
 use Rattle.amqp_canonical.specs.declared.values.Layout.{Layout}
 use Rattle.amqp_canonical.specs.declared.values.Layout.TheVariants as layout
 use Rattle.amqp_canonical.specs.Judgements.{layout_at}
-use Rattle.amqp_canonical.specs.Writes.{IsRead, IsCopied, used_of, canonical_of, IsFilled, items_of, entry_bytes, array_content, table_content, key_in, after_key}
+use Rattle.amqp_canonical.specs.Writes.{IsRead, IsCopied, canonical_of, IsFilled, items_of, entry_bytes, array_content, table_content, key_in, after_key}
 use Rattle.amqp_canonical.specs.Marks.{AreEntries, entries_in}
 use Rattle.amqp_canonical.proofs.AfterTag.{IsTaken, counted_took, array_deep, table_deep}
 use Rattle.amqp_canonical.proofs.ReadParts.{TagParts, took_of, is_read, entry_parts}
 use Rattle.amqp_canonical.proofs.Sizes.{fixed_taken, counted_length, is_boolean, is_array, is_table}
+use Rattle.amqp_types.specs.Tidiness.{used_by}
 
 -- ---- what is copied
 
 pub copied_as : {A : Type 0} (canonical : A → List ℕ) (bytes : List ℕ) (m n : ℕ) (j : Judged A) → m ≡ n → IsCopied canonical bytes m j → IsCopied canonical bytes n j
 copied_as canonical bytes m n j is h = let P : ℕ → Type 0 = λ k. IsCopied canonical bytes k j in subst P is h
 
-copied_of : (bytes : List ℕ) (m n : ℕ) (j : Judged FieldValue) → m ≤ length bytes → IsTaken bytes m j → n ≡ used_of j → IsCopied value_bytes bytes n j
+copied_of : (bytes : List ℕ) (m n : ℕ) (j : Judged FieldValue) → m ≤ length bytes → IsTaken bytes m j → n ≡ used_by j → IsCopied value_bytes bytes n j
 copied_of bytes m n j within h used =
-    let same : n ≡ m = used ∙ ap (λ k. used_of k) h.1 in
+    let same : n ≡ m = used ∙ ap (λ k. used_by k) h.1 in
     record { within = omega (arith, same, within); bytes_are = ap (λ k. take k bytes) same ∙ h.2 ∙ sym (ap (λ k. canonical_of value_bytes k) h.1) }
 
-pub fixed_copied : (nest : Option (Judge FieldValue)) (t : FieldTag) (bytes : List ℕ) (m n : ℕ) → IsBytes bytes → layout_at t ≡ layout.Fixed m → IsRead (judge_behind nest t bytes) → n ≡ used_of (judge_behind nest t bytes) → IsCopied value_bytes bytes n (judge_behind nest t bytes)
+pub fixed_copied : (nest : Option (Judge FieldValue)) (t : FieldTag) (bytes : List ℕ) (m n : ℕ) → IsBytes bytes → layout_at t ≡ layout.Fixed m → IsRead (judge_behind nest t bytes) → n ≡ used_by (judge_behind nest t bytes) → IsCopied value_bytes bytes n (judge_behind nest t bytes)
 fixed_copied nest t bytes m n fits is read used = let one = fixed_taken nest t bytes m fits is read in copied_of bytes m n (judge_behind nest t bytes) one.0 one.1 used
 
-pub counted_copied : (nest : Option (Judge FieldValue)) (t : FieldTag) (bytes : List ℕ) (n : ℕ) → IsBytes bytes → layout_at t ≡ layout.Counted → IsRead (judge_behind nest t bytes) → n ≡ used_of (judge_behind nest t bytes) → IsCopied value_bytes bytes n (judge_behind nest t bytes)
+pub counted_copied : (nest : Option (Judge FieldValue)) (t : FieldTag) (bytes : List ℕ) (n : ℕ) → IsBytes bytes → layout_at t ≡ layout.Counted → IsRead (judge_behind nest t bytes) → n ≡ used_by (judge_behind nest t bytes) → IsCopied value_bytes bytes n (judge_behind nest t bytes)
 counted_copied nest t bytes n fits is read used =
     let long = counted_length nest t bytes is read in
     let one = took_of (judge_long_string bytes) long.read in
@@ -264,7 +265,7 @@ fits_both old all first second at is room =
 
 -- what is copied, by either layout
 pub copied_at : (nest : Option (Judge FieldValue)) (t : FieldTag) (bytes : List ℕ) (n : ℕ) (l : Layout) → IsBytes bytes → l ≡ layout_at t → ((m : ℕ) × (l ≡ layout.Fixed m)) ⊎ (l ≡ layout.Counted) → IsRead (judge_behind nest t bytes)
-    → (IsRead (judge_behind nest t bytes) → n ≡ used_of (judge_behind nest t bytes)) → IsCopied value_bytes bytes n (judge_behind nest t bytes)
+    → (IsRead (judge_behind nest t bytes) → n ≡ used_by (judge_behind nest t bytes)) → IsCopied value_bytes bytes n (judge_behind nest t bytes)
 copied_at nest t bytes n l fits is (inl one) read used = fixed_copied nest t bytes one.0 n fits (sym is ∙ one.1) read (used read)
 copied_at nest t bytes n l fits is (inr one) read used = counted_copied nest t bytes n fits (sym is ∙ one) read (used read)
 

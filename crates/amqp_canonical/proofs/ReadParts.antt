@@ -15,14 +15,14 @@ use Rattle.amqp_types.specs.declared.tag.FieldTag.{FieldTag}
 use Rattle.amqp_types.specs.declared.errors.ParserError.{ParserError}
 use Rattle.amqp_types.specs.declared.errors.ParserError.TheVariants as errors
 use Rattle.amqp_types.proofs.Took.{bind_took, guard_took, test_took, value_took, count_took}
-use Rattle.amqp_values.proofs.Filling.{filled_next}
-use Rattle.amqp_values.proofs.Filled.{HasBytes, entry_exact}
-use Rattle.amqp_values.proofs.Exactly.{value_exact, value_some}
-use Rattle.amqp_canonical.specs.Writes.{IsRead, used_of, canonical_of, IsFilled, items_of, key_in, after_key}
-use Rattle.amqp_canonical.specs.Marks.{entry_of}
+use Rattle.amqp_values.proofs.Filling.{filled_next, none_left}
+use Rattle.amqp_values.proofs.Filled.{HasBytes, entry_exact, entry_some}
+use Rattle.amqp_values.proofs.Exactly.{value_exact, value_some, tag_behind}
+use Rattle.amqp_canonical.specs.Writes.{IsRead, canonical_of, IsFilled, items_of, key_in, after_key}
+use Rattle.amqp_canonical.specs.Marks.{judged_entry}
 use Rattle.amqp_canonical.proofs.Refusing.{Fails}
-use Rattle.amqp_canonical.proofs.AfterTag.{tag_behind, judged_tag, value_empty, value_unknown}
-use Rattle.amqp_canonical.proofs.Whole.{entry_some}
+use Rattle.amqp_canonical.proofs.AfterTag.{judged_tag, value_empty, value_unknown}
+use Rattle.amqp_types.specs.Tidiness.{used_by}
 
 pub took_of : {A : Type 0} (j : Judged A) → IsRead j → (x : A) × (n : ℕ) × (j ≡ took x n)
 took_of (took x n) h = (x, n, refl)
@@ -57,7 +57,7 @@ unread e (fault bad) h r = r
 -- what is taken after a tag, and with it
 pub record TagParts (room : ℕ) (bytes : List ℕ) (t : FieldTag) : Type 0 where
   pub read : IsRead (judge_behind (nested room) t (drop 1 bytes))
-  pub used : used_of (judge_value room bytes) ≡ 1 + used_of (judge_behind (nested room) t (drop 1 bytes))
+  pub used : used_by (judge_value room bytes) ≡ 1 + used_by (judge_behind (nested room) t (drop 1 bytes))
   pub bytes_are : canonical_of tagged_bytes (judge_value room bytes) ≡ tag_byte t ∷ canonical_of value_bytes (judge_behind (nested room) t (drop 1 bytes))
 
 abbrev with_tag : Judged FieldValue → Judged FieldValue
@@ -68,7 +68,7 @@ with_tag_read (took v n) h = tt
 with_tag_read past h = h
 with_tag_read (fault bad) h = h
 
-with_tag_used : (j : Judged FieldValue) → IsRead (with_tag j) → used_of (with_tag j) ≡ 1 + used_of j
+with_tag_used : (j : Judged FieldValue) → IsRead (with_tag j) → used_by (with_tag j) ≡ 1 + used_by j
 with_tag_used (took v n) h = refl
 with_tag_used past h = absurd h
 with_tag_used (fault bad) h = absurd h
@@ -86,7 +86,7 @@ tag_parts room bytes t some is h =
     let read : IsRead (with_tag j) = subst P same h in
     record {
       read = with_tag_read j read;
-      used = ap (λ k. used_of k) same ∙ with_tag_used j read;
+      used = ap (λ k. used_by k) same ∙ with_tag_used j read;
       bytes_are = ap (λ k. canonical_of tagged_bytes k) same ∙ with_tag_bytes j t (λ v n is. tag_behind (nested room) t (drop 1 bytes) v n is) read;
     }
 
@@ -191,12 +191,6 @@ first_value room = first_of_filled (judge_value room) (SpellsValue plain room) (
 pub first_entry : (room : ℕ) (bytes : List ℕ) → IsBytes bytes → 0 < length bytes → IsFilled (filled (judge_entry (judge_value room)) 0 bytes) → First (judge_entry (judge_value room)) bytes
 first_entry room = first_of_filled (judge_entry (judge_value room)) (SpellsEntry (SpellsValue plain room)) (entry_exact (judge_value room) (SpellsValue plain room) (value_exact room)) (entry_some (SpellsValue plain room))
 
-none_left : (at : ℕ) (bytes : List ℕ) → length bytes ≤ at → drop at bytes ≡ []
-none_left zero [] h = refl
-none_left zero (b ∷ bytes) h = absurd (omega arith)
-none_left (suc at) [] h = refl
-none_left (suc at) (b ∷ bytes) h = none_left at bytes (omega arith)
-
 -- nothing fills what stands after the end
 pub none_filled : {A : Type 0} (item : Judge A) (bytes : List ℕ) (at : ℕ) → length bytes ≤ at → items_of (filled item 0 (drop at bytes)) ≡ []
 unfolding filled
@@ -205,15 +199,15 @@ none_filled item bytes at long = ap (λ bs. items_of (filled item 0 bs)) (none_l
 -- ---- sizes and keys of entries
 
 -- the size of an entry is that of its key and its value
-pub entry_used : (room : ℕ) (bytes : List ℕ) (k n : ℕ) → k ≡ length (key_in bytes) → (IsRead (judge_value room (after_key bytes)) → n ≡ used_of (judge_value room (after_key bytes))) → IsRead (judge_entry (judge_value room) bytes)
-    → 1 + k + n ≡ used_of (judge_entry (judge_value room) bytes)
+pub entry_used : (room : ℕ) (bytes : List ℕ) (k n : ℕ) → k ≡ length (key_in bytes) → (IsRead (judge_value room (after_key bytes)) → n ≡ used_by (judge_value room (after_key bytes))) → IsRead (judge_entry (judge_value room) bytes)
+    → 1 + k + n ≡ used_by (judge_entry (judge_value room) bytes)
 entry_used room bytes k n key value h =
     let p = entry_parts room bytes h in
-    let all = ap (λ j. used_of j) p.is in
-    let count = ap (λ j. used_of j) p.value_is in
+    let all = ap (λ j. used_by j) p.is in
+    let count = ap (λ j. used_by j) p.value_is in
     let n_is = value (is_read (judge_value room (after_key bytes)) p.value p.count p.value_is) in
     omega (arith, all, count, n_is, key)
 
 -- the key of an entry stands in front
-pub entry_key : (room : ℕ) (bytes : List ℕ) → IsRead (judge_entry (judge_value room) bytes) → key_in bytes ≡ (entry_of (judge_entry (judge_value room) bytes)).0
-entry_key room bytes h = let p = entry_parts room bytes h in sym (ap (λ j. (entry_of j).0) p.is)
+pub entry_key : (room : ℕ) (bytes : List ℕ) → IsRead (judge_entry (judge_value room) bytes) → key_in bytes ≡ (judged_entry (judge_entry (judge_value room) bytes)).0
+entry_key room bytes h = let p = entry_parts room bytes h in sym (ap (λ j. (judged_entry j).0) p.is)

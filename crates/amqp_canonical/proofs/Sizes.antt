@@ -13,8 +13,9 @@ use Rattle.amqp_types.specs.declared.tag.FieldTag.TheVariants as tag
 use Rattle.amqp_canonical.specs.declared.values.Layout.{Layout}
 use Rattle.amqp_canonical.specs.declared.values.Layout.TheVariants as layout
 use Rattle.amqp_canonical.specs.Judgements.{layout_at}
-use Rattle.amqp_canonical.specs.Writes.{IsRead, used_of}
+use Rattle.amqp_canonical.specs.Writes.{IsRead}
 use Rattle.amqp_canonical.proofs.AfterTag.{IsTaken, fixed_past, fixed_took}
+use Rattle.amqp_types.specs.Tidiness.{used_by}
 
 -- ---- what has one size
 
@@ -31,12 +32,12 @@ fixed_by false nest t bytes n is fits size h =
 pub fixed_taken : (nest : Option (Judge FieldValue)) (t : FieldTag) (bytes : List ℕ) (n : ℕ) → IsBytes bytes → layout_at t ≡ layout.Fixed n → IsRead (judge_behind nest t bytes) → (n ≤ length bytes) × IsTaken bytes n (judge_behind nest t bytes)
 fixed_taken nest t bytes n = fixed_by (nat_lt (length bytes) n) nest t bytes n refl
 
-pub used_taken : (bytes : List ℕ) (n : ℕ) (j : Judged FieldValue) → IsTaken bytes n j → n ≡ used_of j
-used_taken bytes n j h = sym (ap (λ k. used_of k) h.1)
+pub used_taken : (bytes : List ℕ) (n : ℕ) (j : Judged FieldValue) → IsTaken bytes n j → n ≡ used_by j
+used_taken bytes n j h = sym (ap (λ k. used_by k) h.1)
 
 -- ---- truth values
 
-boolean_read : (make : Bool → FieldValue) (bytes : List ℕ) → IsRead (judge_map make judge_boolean bytes) → 1 ≡ used_of (judge_map make judge_boolean bytes)
+boolean_read : (make : Bool → FieldValue) (bytes : List ℕ) → IsRead (judge_map make judge_boolean bytes) → 1 ≡ used_by (judge_map make judge_boolean bytes)
 boolean_read make [] h = absurd h
 boolean_read make (b ∷ bytes) h = refl
 
@@ -45,18 +46,18 @@ boolean_read make (b ∷ bytes) h = refl
 -- the size is that of what the length covers
 pub record HasLength (bytes : List ℕ) (j : Judged FieldValue) : Type 0 where
   pub read : IsRead (judge_long_string bytes)
-  pub used : used_of (judge_long_string bytes) ≡ used_of j
+  pub used : used_by (judge_long_string bytes) ≡ used_by j
 
-made_length : {A : Type 0} (make : A → FieldValue) (bytes : List ℕ) (j : Judged A) → (IsRead j → IsRead (judge_long_string bytes) × (used_of (judge_long_string bytes) ≡ used_of j)) → IsRead (j >>= λ x. took (make x.0) x.1) → HasLength bytes (j >>= λ x. took (make x.0) x.1)
+made_length : {A : Type 0} (make : A → FieldValue) (bytes : List ℕ) (j : Judged A) → (IsRead j → IsRead (judge_long_string bytes) × (used_by (judge_long_string bytes) ≡ used_by j)) → IsRead (j >>= λ x. took (make x.0) x.1) → HasLength bytes (j >>= λ x. took (make x.0) x.1)
 made_length make bytes (took x n) h r = let k = h tt in record { read = k.0; used = k.1 }
 made_length make bytes past h r = absurd r
 made_length make bytes (fault bad) h r = absurd r
 
-whole_used : {A : Type 0} (n : ℕ) (r : Result A Fault) → IsRead (whole n r) → n ≡ used_of (whole n r)
+whole_used : {A : Type 0} (n : ℕ) (r : Result A Fault) → IsRead (whole n r) → n ≡ used_by (whole n r)
 whole_used n (Ok x) h = refl
 whole_used n (Err bad) h = absurd h
 
-whole_length : {A : Type 0} (f : List ℕ → Result A Fault) (j : Judged (List ℕ)) → IsRead (j >>= λ c. whole c.1 (f c.0)) → IsRead j × (used_of j ≡ used_of (j >>= λ c. whole c.1 (f c.0)))
+whole_length : {A : Type 0} (f : List ℕ → Result A Fault) (j : Judged (List ℕ)) → IsRead (j >>= λ c. whole c.1 (f c.0)) → IsRead j × (used_by j ≡ used_by (j >>= λ c. whole c.1 (f c.0)))
 whole_length f (took content n) r = (tt, whole_used n (f content) r)
 whole_length f past r = absurd r
 whole_length f (fault bad) r = absurd r
@@ -64,11 +65,11 @@ whole_length f (fault bad) r = absurd r
 bytes_length : (kind : BytesKind) (bytes : List ℕ) → IsRead (judge_map (bytes_value kind) judge_long_string bytes) → HasLength bytes (judge_map (bytes_value kind) judge_long_string bytes)
 bytes_length kind bytes h = made_length (bytes_value kind) bytes (judge_long_string bytes) (λ r. (r, refl)) h
 
-array_length : (value : Judge FieldValue) (bytes : List ℕ) → IsRead (judge_array value bytes) → IsRead (judge_long_string bytes) × (used_of (judge_long_string bytes) ≡ used_of (judge_array value bytes))
+array_length : (value : Judge FieldValue) (bytes : List ℕ) → IsRead (judge_array value bytes) → IsRead (judge_long_string bytes) × (used_by (judge_long_string bytes) ≡ used_by (judge_array value bytes))
 unfolding judge_array
 array_length value bytes h = whole_length (λ c. filled value 0 c) (judge_long_string bytes) h
 
-pub table_length : (value : Judge FieldValue) (bytes : List ℕ) → IsRead (judge_table value bytes) → IsRead (judge_long_string bytes) × (used_of (judge_long_string bytes) ≡ used_of (judge_table value bytes))
+pub table_length : (value : Judge FieldValue) (bytes : List ℕ) → IsRead (judge_table value bytes) → IsRead (judge_long_string bytes) × (used_by (judge_long_string bytes) ≡ used_by (judge_table value bytes))
 unfolding judge_table
 table_length value bytes h = whole_length (λ c. read_map settled (filled (judge_entry value) 0 c)) (judge_long_string bytes) h
 
@@ -141,7 +142,7 @@ is_table tag.FieldTable is = refl
 is_table tag.ByteArray is = absurd cc
 is_table tag.Void is = absurd cc
 
-pub boolean_used : (nest : Option (Judge FieldValue)) (t : FieldTag) (bytes : List ℕ) → layout_at t ≡ layout.OneBoolean → IsRead (judge_behind nest t bytes) → 1 ≡ used_of (judge_behind nest t bytes)
+pub boolean_used : (nest : Option (Judge FieldValue)) (t : FieldTag) (bytes : List ℕ) → layout_at t ≡ layout.OneBoolean → IsRead (judge_behind nest t bytes) → 1 ≡ used_by (judge_behind nest t bytes)
 unfolding judge_behind
 boolean_used nest tag.Boolean bytes is h = boolean_read boolean_value bytes h
 boolean_used nest tag.ShortShortInt bytes is h = absurd cc
@@ -197,5 +198,5 @@ long_at nest t bytes l is (inl one) h = counted_length nest t bytes (sym is ∙ 
 long_at nest t bytes l is (inr (inl one)) h = values_length nest t bytes (sym is ∙ one) h
 long_at nest t bytes l is (inr (inr one)) h = entries_length nest t bytes (sym is ∙ one) h
 
-pub long_used : (j : Judged (List ℕ)) (k : Judged FieldValue) (content : List ℕ) (n : ℕ) → j ≡ took content n → used_of j ≡ used_of k → n ≡ used_of k
-long_used j k content n is used = sym (ap (λ x. used_of x) is) ∙ used
+pub long_used : (j : Judged (List ℕ)) (k : Judged FieldValue) (content : List ℕ) (n : ℕ) → j ≡ took content n → used_by j ≡ used_by k → n ≡ used_by k
+long_used j k content n is used = sym (ap (λ x. used_by x) is) ∙ used

@@ -23,19 +23,20 @@ use Rattle.amqp_values.proofs.SlotForms.{flags_of-map, forms_lawful, form_gives}
 use Rattle.amqp_canonical.specs.declared.shapes.Shape.{Shape}
 use Rattle.amqp_canonical.specs.declared.shapes.Shape.TheVariants as shapes
 use Rattle.amqp_canonical.specs.Shapes.{form_of, slot_of, slots_of}
-use Rattle.amqp_canonical.specs.Writes.{IsRead, used_of, canonical_of, slot_bytes, key_in}
+use Rattle.amqp_canonical.specs.Writes.{IsRead, canonical_of, slot_bytes, key_in}
 use Rattle.amqp_canonical.proofs.ReadParts.{took_of, is_read, text_parts}
 use Rattle.amqp_canonical.proofs.InTurn.{FirstOf, PutInTurn, HereInTurn, turn_none, turn_here, turn_end}
 use Rattle.amqp_canonical.proofs.Sizes.{table_length}
+use Rattle.amqp_types.specs.Tidiness.{used_by}
 
 -- ---- what is made of what was read
 
-map_read : {A B : Type 0} (f : A → B) (j : Judged A) → IsRead (j >>= λ x. took (f x.0) x.1) → IsRead j
+pub map_read : {A B : Type 0} (f : A → B) (j : Judged A) → IsRead (j >>= λ x. took (f x.0) x.1) → IsRead j
 map_read f (took x n) h = tt
 map_read f past h = h
 map_read f (fault bad) h = h
 
-map_used : {A B : Type 0} (f : A → B) (j : Judged A) → used_of (j >>= λ x. took (f x.0) x.1) ≡ used_of j
+pub map_used : {A B : Type 0} (f : A → B) (j : Judged A) → used_by (j >>= λ x. took (f x.0) x.1) ≡ used_by j
 map_used f (took x n) = refl
 map_used f past = refl
 map_used f (fault bad) = refl
@@ -53,35 +54,35 @@ constant_bytes bytes (fault bad) h = absurd h
 
 -- ---- sizes
 
-number_by : (b : Bool) (x n : ℕ) → IsRead (cond b past (took x n)) → n ≡ used_of (cond b past (took x n))
+number_by : (b : Bool) (x n : ℕ) → IsRead (cond b past (took x n)) → n ≡ used_by (cond b past (took x n))
 number_by true x n h = absurd h
 number_by false x n h = refl
 
-number_used : (width : NumberWidth) (bytes : List ℕ) → IsRead (judge_form (number_form width) bytes) → byte_count width ≡ used_of (judge_form (number_form width) bytes)
+number_used : (width : NumberWidth) (bytes : List ℕ) → IsRead (judge_form (number_form width) bytes) → byte_count width ≡ used_by (judge_form (number_form width) bytes)
 unfolding judge_form
 number_used width bytes h = number_by (nat_lt (length bytes) (byte_count width)) _ _ (map_read (λ n. number_item n ∷ []) (judge_number width bytes) h) ∙ sym (map_used (λ n. number_item n ∷ []) (judge_number width bytes))
 
-flags_used : (count : ℕ) (bytes : List ℕ) → IsRead (judge_form (flags_form count) bytes) → 1 ≡ used_of (judge_form (flags_form count) bytes)
+flags_used : (count : ℕ) (bytes : List ℕ) → IsRead (judge_form (flags_form count) bytes) → 1 ≡ used_by (judge_form (flags_form count) bytes)
 unfolding judge_form judge_flags
 flags_used count bytes h =
     let read = map_read (map flag_item) (judge_flags count bytes) h in
     number_by (nat_lt (length bytes) 1) _ _ (map_read (flags_from count 0) (judge_number bytes1 bytes) read) ∙ sym (map_used (flags_from count 0) (judge_number bytes1 bytes)) ∙ sym (map_used (map flag_item) (judge_flags count bytes))
 
-text_used : (bytes : List ℕ) (k : ℕ) → k ≡ length (key_in bytes) → IsRead (judge_form short_string_form bytes) → 1 + k ≡ used_of (judge_form short_string_form bytes)
+text_used : (bytes : List ℕ) (k : ℕ) → k ≡ length (key_in bytes) → IsRead (judge_form short_string_form bytes) → 1 + k ≡ used_by (judge_form short_string_form bytes)
 unfolding judge_form
 text_used bytes k is h =
     let one = took_of (judge_short_string bytes) (map_read (λ text. text_item text ∷ []) (judge_short_string bytes) h) in
     let parts = text_parts bytes one.0 one.1 one.2 in
-    omega (arith, is, parts.1, ap (λ j. used_of j) one.2, map_used (λ text. text_item text ∷ []) (judge_short_string bytes))
+    omega (arith, is, parts.1, ap (λ j. used_by j) one.2, map_used (λ text. text_item text ∷ []) (judge_short_string bytes))
 
 abbrev LongUsed : List ℕ → ℕ → Type 0
-LongUsed bytes n = IsRead (judge_long_string bytes) → n ≡ used_of (judge_long_string bytes)
+LongUsed bytes n = IsRead (judge_long_string bytes) → n ≡ used_by (judge_long_string bytes)
 
-long_used : (bytes : List ℕ) (n : ℕ) → LongUsed bytes n → IsRead (judge_form long_string_form bytes) → n ≡ used_of (judge_form long_string_form bytes)
+long_used : (bytes : List ℕ) (n : ℕ) → LongUsed bytes n → IsRead (judge_form long_string_form bytes) → n ≡ used_by (judge_form long_string_form bytes)
 unfolding judge_form
 long_used bytes n used h = used (map_read (λ content. bytes_item content ∷ []) (judge_long_string bytes) h) ∙ sym (map_used (λ content. bytes_item content ∷ []) (judge_long_string bytes))
 
-table_used : (bytes : List ℕ) (n : ℕ) → LongUsed bytes n → IsRead (judge_form table_form bytes) → n ≡ used_of (judge_form table_form bytes)
+table_used : (bytes : List ℕ) (n : ℕ) → LongUsed bytes n → IsRead (judge_form table_form bytes) → n ≡ used_by (judge_form table_form bytes)
 unfolding judge_form
 table_used bytes n used h =
     let long = table_length (judge_value 63) bytes (map_read (λ es. entries_item es ∷ []) (judge_field_table bytes) h) in
@@ -90,10 +91,10 @@ table_used bytes n used h =
 -- by the arms of the code
 module _ (s : Shape) (bytes : List ℕ) where
   abbrev pub UsedOf : ℕ → Type 0
-  UsedOf n = IsRead (judge_form (form_of s) bytes) → n ≡ used_of (judge_form (form_of s) bytes)
+  UsedOf n = IsRead (judge_form (form_of s) bytes) → n ≡ used_by (judge_form (form_of s) bytes)
 
   abbrev FormUsed : ℕ → Form → Type 0
-  FormUsed n form = IsRead (judge_form form bytes) → n ≡ used_of (judge_form form bytes)
+  FormUsed n form = IsRead (judge_form form bytes) → n ≡ used_by (judge_form form bytes)
 
   as_form : (n : ℕ) (form : Form) → form_of s ≡ form → FormUsed n form → UsedOf n
   as_form n form is = subst (λ f. FormUsed n f) (sym is)
@@ -164,12 +165,12 @@ pub record CopiedForm (bytes : List ℕ) (n : ℕ) (form : Form) : Type 0 where
   pub within : n ≤ length bytes
   pub bytes_are : take n bytes ≡ canonical_of (form_bytes form) (judge_form form bytes)
 
-pub copied_form : (form : Form) (bytes : List ℕ) (n : ℕ) → is_copied form ≡ true → IsBytes bytes → IsRead (judge_form form bytes) → n ≡ used_of (judge_form form bytes) → CopiedForm bytes n form
+pub copied_form : (form : Form) (bytes : List ℕ) (n : ℕ) → is_copied form ≡ true → IsBytes bytes → IsRead (judge_form form bytes) → n ≡ used_by (judge_form form bytes) → CopiedForm bytes n form
 copied_form form bytes n is fits read used =
     let one = took_of (judge_form form bytes) read in
     let laws = forms_lawful form in
     let spelled = laws.exact.spelled bytes one.0 one.1 fits one.2 in
-    let count : n ≡ one.1 = used ∙ ap (λ j. used_of j) one.2 in
+    let count : n ≡ one.1 = used ∙ ap (λ j. used_by j) one.2 in
     record {
       within = omega (arith, count, spelled.1);
       bytes_are = ap (λ k. take k bytes) count ∙ copied_spelled form (take one.1 bytes) one.0 is spelled.0 ∙ sym (ap (λ j. canonical_of (form_bytes form) j) one.2);
@@ -265,7 +266,7 @@ unfolding form_bytes
 reserved_bytes_put bytes h = reserved_slot_put long_string_form (bytes_item [] ∷ []) bytes h
 
 -- a field is read as its form is
-pub slot_read : (s : Shape) (bytes : List ℕ) → IsRead (judge_slot (slot_of s) bytes) → IsRead (judge_form (form_of s) bytes) × (used_of (judge_form (form_of s) bytes) ≡ used_of (judge_slot (slot_of s) bytes))
+pub slot_read : (s : Shape) (bytes : List ℕ) → IsRead (judge_slot (slot_of s) bytes) → IsRead (judge_form (form_of s) bytes) × (used_by (judge_form (form_of s) bytes) ≡ used_by (judge_slot (slot_of s) bytes))
 unfolding judge_dropped
 slot_read shapes.Octet bytes h = (h, refl)
 slot_read shapes.Short bytes h = (h, refl)
@@ -296,14 +297,14 @@ both_bytes (reserved_slot form constant) slots bytes xs ys n fits is =
     let none : xs ≡ [] = sym (value_took [] xs _ n one.3) in
     ap (λ items. form_bytes form constant ++ slots_bytes slots (items ++ ys)) none
 
-pub first_slot : (slot : Slot) (slots : List Slot) (bytes : List ℕ) (n : ℕ) → IsBytes bytes → IsRead (judge_slots (slot ∷ slots) bytes) → (IsRead (judge_slot slot bytes) → n ≡ used_of (judge_slot slot bytes)) → FirstOf judge_slot judge_slots slot_bytes slots_bytes slot slots bytes n
+pub first_slot : (slot : Slot) (slots : List Slot) (bytes : List ℕ) (n : ℕ) → IsBytes bytes → IsRead (judge_slots (slot ∷ slots) bytes) → (IsRead (judge_slot slot bytes) → n ≡ used_by (judge_slot slot bytes)) → FirstOf judge_slot judge_slots slot_bytes slots_bytes slot slots bytes n
 unfolding judge_slots
 first_slot slot slots bytes n fits h sized =
     let all = took_of (judge_slots (slot ∷ slots) bytes) h in
     let one = bind_took (judge_slot slot bytes) _ all.0 all.1 all.2 in
     let two = bind_took (judge_slots slots (drop one.1 bytes)) _ all.0 all.1 one.3 in
     let read = is_read (judge_slot slot bytes) one.0 one.1 one.2 in
-    let count : n ≡ one.1 = sized read ∙ ap (λ j. used_of j) one.2 in
+    let count : n ≡ one.1 = sized read ∙ ap (λ j. used_by j) one.2 in
     let items : one.0 ++ two.0 ≡ all.0 = value_took (one.0 ++ two.0) all.0 (one.1 + two.1) all.1 two.3 in
     let size : one.1 + two.1 ≡ all.1 = count_took (one.0 ++ two.0) all.0 (one.1 + two.1) all.1 two.3 in
     let rest : judge_slots slots (drop n bytes) ≡ took two.0 two.1 = ap (λ m. judge_slots slots (drop m bytes)) count ∙ two.2 in
@@ -347,7 +348,7 @@ slots_from [] k d h = absurd (omega arith)
 slots_from (s ∷ shapes) zero d h = refl
 slots_from (s ∷ shapes) (suc k) d h = let next : suc (k + 1) ≡ suc k + 1 = omega arith in slots_from shapes k d (omega arith) ∙ ap (λ n. slot_of (get_or shapes k d) ∷ drop n (slot_of s ∷ slots_of shapes)) next
 
-pub slot_sized : (s : Shape) (bytes : List ℕ) (n : ℕ) → UsedOf s bytes n → IsRead (judge_slot (slot_of s) bytes) → n ≡ used_of (judge_slot (slot_of s) bytes)
+pub slot_sized : (s : Shape) (bytes : List ℕ) (n : ℕ) → UsedOf s bytes n → IsRead (judge_slot (slot_of s) bytes) → n ≡ used_by (judge_slot (slot_of s) bytes)
 slot_sized s bytes n used read = let h = slot_read s bytes read in used h.0 ∙ h.1
 
 no_slots : (bytes : List ℕ) → canonical_of (slots_bytes []) (judge_slots [] bytes) ≡ []
@@ -360,7 +361,7 @@ SlotsPut = PutInTurn judge_slot judge_slots slot_bytes slots_bytes
 pub slots_none : (slots : List Slot) (bytes buf : List ℕ) (at : ℕ) → IsBytes bytes → IsRead (judge_slots slots bytes) → SlotsPut slots bytes bytes 0 buf buf at at
 slots_none = turn_none judge_slot judge_slots slot_bytes slots_bytes
 
-pub slot_here : (slots : List Slot) (slot : Slot) (bytes left : List ℕ) (k n : ℕ) (old mid : List ℕ) (at end : ℕ) → drop k slots ≡ slot ∷ drop (k + 1) slots → (IsRead (judge_slot slot left) → n ≡ used_of (judge_slot slot left))
+pub slot_here : (slots : List Slot) (slot : Slot) (bytes left : List ℕ) (k n : ℕ) (old mid : List ℕ) (at end : ℕ) → drop k slots ≡ slot ∷ drop (k + 1) slots → (IsRead (judge_slot slot left) → n ≡ used_by (judge_slot slot left))
     → at + length (canonical_of (slots_bytes slots) (judge_slots slots bytes)) ≤ length old → SlotsPut slots bytes left k old mid at end → HereInTurn judge_slot judge_slots slot_bytes slots_bytes slots slot bytes left k n old mid at end
 slot_here = turn_here judge_slot judge_slots slot_bytes slots_bytes first_slot
 

@@ -12,18 +12,18 @@ no_tag byte None h = refl
 no_tag byte (Some t) h = absurd cc
 
 -- the tag that a byte is read as, and what the byte says of it
-pub record Tagged (byte : ℕ) (o : Option FieldTag) (told : TagByte) : Type 0 where
+pub record Tagged (byte : ℕ) (o : Option FieldTag) (decides : TagByte) : Type 0 where
   pub tag : FieldTag
   pub is : o ≡ Some tag
-  pub layout_is : layout_at tag ≡ told.layout
-  pub is_written : IsTrue told.written ↔ (tag_byte tag ≡ byte)
+  pub layout_is : layout_at tag ≡ decides.layout
+  pub is_written : IsTrue decides.written ↔ (tag_byte tag ≡ byte)
 
 same_numbers : (a b : ℕ) (r : Bool) → nat_eq a b ≡ r → IsTrue r ↔ (a ≡ b)
 same_numbers a b true h = (λ t. grind (arith, nat_tests), λ same. refl)
 same_numbers a b false h = (λ t. absurd cc, λ same. absurd (grind (arith, nat_tests)))
 
-pub some_tag : (byte : ℕ) (o : Option FieldTag) (told : TagByte) → option_map (read_as byte) o ≡ Some told → Tagged byte o told
-some_tag byte None told h = absurd cc
-some_tag byte (Some t) told h =
-    let same : read_as byte t ≡ told = cc in
-    record { tag = t; is = refl; layout_is = ap (λ b. b.layout) same; is_written = same_numbers (tag_byte t) byte told.written (ap (λ b. b.written) same) }
+pub some_tag : (byte : ℕ) (o : Option FieldTag) (decides : TagByte) → option_map (read_as byte) o ≡ Some decides → Tagged byte o decides
+some_tag byte None decides h = absurd cc
+some_tag byte (Some t) decides h =
+    let same : read_as byte t ≡ decides = cc in
+    record { tag = t; is = refl; layout_is = ap (λ b. b.layout) same; is_written = same_numbers (tag_byte t) byte decides.written (ap (λ b. b.written) same) }

@@ -15,14 +15,14 @@ use Rattle.amqp_types.proofs.Texts.{long_string_exact}
 use Rattle.amqp_values.proofs.Parts.{insert_last}
 use Rattle.amqp_values.proofs.Settling.{settles}
 use Rattle.amqp_values.proofs.Filling.{filled_next, RefusesWhole-map}
-use Rattle.amqp_values.proofs.Filled.{HasBytes, entry_exact, table_exact}
+use Rattle.amqp_values.proofs.Filled.{HasBytes, entry_exact, table_exact, entry_some}
 use Rattle.amqp_values.proofs.Exactly.{value_exact, value_some}
 use Rattle.amqp_values.proofs.Bounded.{value_bounded, table_bounded}
-use Rattle.amqp_values.proofs.Strictly.{each_into, entry_into, table_again, value_again}
+use Rattle.amqp_values.proofs.Strictly.{each_into, entry_into, table_again, value_again, in_order}
 use Rattle.amqp_values.proofs.ValueLaws.{value_is_plain}
-use Rattle.amqp_canonical.specs.Judgements.{MayRefuse, AreCanonicalValues, AreCanonicalEntries, IsCanonicalArray, IsCanonicalTable, Takes, Fills}
+use Rattle.amqp_canonical.specs.Judgements.{MayRefuse, AreCanonicalValues, AreCanonicalEntries, IsCanonicalArray, IsCanonicalTable, DecodesAs, Fills}
 use Rattle.amqp_canonical.proofs.Refusing.{Fails, fully, fails_next, fails_whole}
-use Rattle.amqp_canonical.proofs.Children.{told_as}
+use Rattle.amqp_canonical.proofs.Children.{decided_as}
 
 -- ---- the length in front
 
@@ -45,14 +45,14 @@ array_fails room bytes content n e is h =
     subst P (sym is) (fails_whole e n (filled (judge_value room) 0 content) h)
 
 pub array_took : (room : ℕ) (bytes content : List ℕ) (n : ℕ) (canonical : Bool) → IsBytes bytes → judge_long_string bytes ≡ took content n → Fills AreCanonicalValues canonical content (filled (judge_value room) 0 content)
-    → Takes IsCanonicalArray (record { used = n; canonical = canonical }) bytes (judge_array (judge_value room) bytes)
+    → DecodesAs IsCanonicalArray (record { used = n; canonical = canonical }) bytes (judge_array (judge_value room) bytes)
 unfolding judge_array
 array_took room bytes content n canonical fits is h =
     let front = framed bytes content n fits is in
     record {
       thing = h.thing;
       is = ap (λ j. j >>= λ c. whole c.1 (filled (judge_value room) 0 c.0)) is ∙ ap (whole n) h.is;
-      told = told_as canonical _ _ h.told (λ e. front ∙ ap with_length e) (λ q. same_inner content (values_bytes (values_of h.thing)) (sym front ∙ q));
+      decides = decided_as canonical _ _ h.decides (λ e. front ∙ ap with_length e) (λ q. same_inner content (values_bytes (values_of h.thing)) (sym front ∙ q));
     }
 
 -- ---- tables
@@ -67,16 +67,6 @@ table_fails room bytes content n e is h =
     let read = filled (judge_entry (judge_value room)) 0 content in
     let P : Judged (List ℕ) → Type 0 = λ j. Fails e (j >>= λ c. whole c.1 (read_map settled (filled (judge_entry (judge_value room)) 0 c.0))) in
     subst P (sym is) (fails_whole e n (read_map settled read) (h.0, RefusesWhole-map e settled read h.1))
-
-in_order : (found es : List Entry) → IsRising (found ++ es) → settled_on found es ≡ found ++ es
-in_order found [] s = sym (append-nil found)
-in_order found (e ∷ es) s =
-    let P : List Entry → Type 0 = λ xs. IsRising xs in
-    let next : found ++ e ∷ es ≡ (found ++ e ∷ []) ++ es = sym (append_assoc found (e ∷ []) es) in
-    ap (λ xs. settled_on xs es) (insert_last found e es s) ∙ in_order (found ++ e ∷ []) es (subst P next s) ∙ sym next
-
-pub entry_some : (Spells : List ℕ → FieldValue → Type 0) → HasBytes (SpellsEntry Spells)
-entry_some Spells bytes e h = omega (arith, ap length h.bytes_are, length-append h.front h.behind, ap length h.first_is.bytes_are)
 
 filled_taken : {A : Type 0} (item : Judge A) (Spells : List ℕ → A → Type 0) → IsExact item Spells → HasBytes Spells → (bytes : List ℕ) (xs : List A) → SpellsEach Spells bytes xs → filled item 0 bytes ≡ Ok xs
 unfolding filled
@@ -107,7 +97,7 @@ ok_is : {A : Type 0} (r : Result A Fault) (x y : A) → r ≡ Ok x → r ≡ Ok 
 ok_is r x y h k = cc
 
 pub table_took : (room : ℕ) (bytes content : List ℕ) (n : ℕ) (canonical : Bool) → IsBytes bytes → judge_long_string bytes ≡ took content n → Fills AreCanonicalEntries canonical content (filled (judge_entry (judge_value room)) 0 content)
-    → Takes IsCanonicalTable (record { used = n; canonical = canonical }) bytes (judge_table (judge_value room) bytes)
+    → DecodesAs IsCanonicalTable (record { used = n; canonical = canonical }) bytes (judge_table (judge_value room) bytes)
 unfolding judge_table
 table_took room bytes content n canonical fits is h =
     let front = framed bytes content n fits is in
@@ -118,7 +108,7 @@ table_took room bytes content n canonical fits is h =
     record {
       thing = settled es;
       is = judged;
-      told = told_as canonical _ _ h.told (λ p. front ∙ ap with_length (p.0 ∙ ap (λ xs. entries_bytes (entries_of xs)) (sym (in_order [] es p.1)))) (λ q.
+      decides = decided_as canonical _ _ h.decides (λ p. front ∙ ap with_length (p.0 ∙ ap (λ xs. entries_bytes (entries_of xs)) (sym (in_order [] es p.1)))) (λ q.
           let inner : content ≡ entries_bytes (entries_of (settled es)) = same_inner content _ (sym front ∙ q) in
           let same : es ≡ settled es = ok_is (filled (judge_entry (judge_value room)) 0 content) es (settled es) h.is (ap (filled (judge_entry (judge_value room)) 0) inner ∙ read_back room bytes (settled es) n fits judged) in
           let s = settles es in

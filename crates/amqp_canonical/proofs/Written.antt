@@ -9,12 +9,13 @@ use Rattle.amqp_types.specs.ValueBytes.{tagged_bytes}
 use Rattle.amqp_types.specs.ValueJudging.{filled, judge_value}
 use Rattle.amqp_types.specs.Writing.{Puts}
 use Rattle.amqp_types.proofs.Bytes.{IsBytes-drop}
-use Rattle.amqp_canonical.specs.Writes.{IsRead, IsFilled, items_of, used_of, canonical_of, array_content, table_content, entry_bytes}
-use Rattle.amqp_canonical.specs.Marks.{entry_at, entry_of, entries_in, AreRead, marked_entry, last_of_ties, ties, blank, FindsNext}
+use Rattle.amqp_canonical.specs.Writes.{IsRead, IsFilled, items_of, canonical_of, array_content, table_content, entry_bytes}
+use Rattle.amqp_canonical.specs.Marks.{entry_at, judged_entry, entries_in, AreRead, marked_entry, last_of_ties, ties, blank, FindsNext}
 use Rattle.amqp_canonical.specs.declared.marks.Mark.{Mark}
-use Rattle.amqp_canonical.proofs.NextKey.{IsLeft, left_none, next_left, none_left}
+use Rattle.amqp_canonical.proofs.NextKey.{IsLeft, left_none, next_left, none_left, view}
 use Rattle.amqp_canonical.proofs.Putting.{PutTo, IsEach, put_none, put_room, put_within, put_next, put_end}
 use Rattle.amqp_canonical.proofs.ReadParts.{is_read, took_of, first_value, none_filled}
+use Rattle.amqp_types.specs.Tidiness.{used_by}
 
 -- ---- values
 
@@ -44,12 +45,12 @@ pub record ValueHere (room : ℕ) (content : List ℕ) (start size : ℕ) (old m
   pub within : start + size ≤ length content
   pub next : (new : List ℕ) (place : ℕ) → Puts mid new end (canonical_of tagged_bytes (judge_value room (drop start content))) place → ValuesPut room content (start + size) old new at place
 
-pub value_here : (room : ℕ) (content : List ℕ) (start size : ℕ) (old mid : List ℕ) (at end : ℕ) → IsBytes content → start < length content → (IsRead (judge_value room (drop start content)) → size ≡ used_of (judge_value room (drop start content)))
+pub value_here : (room : ℕ) (content : List ℕ) (start size : ℕ) (old mid : List ℕ) (at end : ℕ) → IsBytes content → start < length content → (IsRead (judge_value room (drop start content)) → size ≡ used_by (judge_value room (drop start content)))
     → at + length (array_content (values_from room content 0)) ≤ length old → ValuesPut room content start old mid at end → ValueHere room content start size old mid at end
 value_here room content start size old mid at end bytes more sized fits h =
     let one = first_value room (drop start content) (IsBytes-drop start content bytes) (omega (arith, length-drop start content)) h.left in
     let read = is_read (judge_value room (drop start content)) one.thing one.size one.is in
-    let count : one.size ≡ size = sym (sized read ∙ ap (λ j. used_of j) one.is) in
+    let count : one.size ≡ size = sym (sized read ∙ ap (λ j. used_by j) one.is) in
     let value : canonical_of tagged_bytes (judge_value room (drop start content)) ≡ tagged_bytes one.thing = ap (λ j. canonical_of tagged_bytes j) one.is in
     let place : drop one.size (drop start content) ≡ drop (start + size) content = drop-drop one.size start content ∙ ap (λ m. drop (start + m) content) count in
     let all = values_from room content 0 in
@@ -71,7 +72,7 @@ value_here room content start size old mid at end bytes more sized fits h =
 pub value_fits_here : (room : ℕ) (content : List ℕ) (start : ℕ) (old mid : List ℕ) (at end : ℕ) → IsBytes content → start < length content → at + length (array_content (values_from room content 0)) ≤ length old → ValuesPut room content start old mid at end
     → IsRead (judge_value room (drop start content)) × (end + length (canonical_of tagged_bytes (judge_value room (drop start content))) ≤ length mid)
 value_fits_here room content start old mid at end bytes more fits h =
-    let here = value_here room content start (used_of (judge_value room (drop start content))) old mid at end bytes more (λ read. refl) fits h in
+    let here = value_here room content start (used_by (judge_value room (drop start content))) old mid at end bytes more (λ read. refl) fits h in
     (here.read, here.fits)
 
 pub values_end : (room : ℕ) (content : List ℕ) (start : ℕ) (old new : List ℕ) (at end : ℕ) → length content ≤ start → ValuesPut room content start old new at end → Puts old new at (array_content (values_from room content 0)) end
@@ -114,10 +115,10 @@ pub record EntryFits (judged_bytes : List ℕ) (mid : List ℕ) (end : ℕ) (Nex
   pub next : (new : List ℕ) (place : ℕ) → Puts mid new end judged_bytes place → Next new place
 
 -- the bytes of an entry that was read
-bytes_here : (room : ℕ) (content : List ℕ) (place : ℕ) → IsRead (entry_at room content place) → canonical_of entry_bytes (entry_at room content place) ≡ entry_bytes (entry_of (entry_at room content place))
+bytes_here : (room : ℕ) (content : List ℕ) (place : ℕ) → IsRead (entry_at room content place) → canonical_of entry_bytes (entry_at room content place) ≡ entry_bytes (judged_entry (entry_at room content place))
 bytes_here room content place read =
     let one = took_of (entry_at room content place) read in
-    ap (λ j. canonical_of entry_bytes j) one.2 ∙ sym (ap (λ j. entry_bytes (entry_of j)) one.2)
+    ap (λ j. canonical_of entry_bytes j) one.2 ∙ sym (ap (λ j. entry_bytes (judged_entry j)) one.2)
 
 pub entry_kept : (room : ℕ) (content : List ℕ) (marks : List Mark) (k : ℕ) (old mid : List ℕ) (at end : ℕ) → AreRead room content marks → k < length marks → false ≡ ties (marked_entry room content (get_or marks k blank)) (map (marked_entry room content) (drop (k + 1) marks))
     → at + length (table_content (kept_from room content marks 0)) ≤ length old → EntriesPut room content marks k old mid at end
@@ -143,9 +144,6 @@ entries_end room content marks k old new at end long h =
     put_end table_content entry_bytes each_entry all h.done old new at end (subst Q (ap (λ ms. last_of_ties (map (marked_entry room content) ms)) (drop_all k marks long)) h.put)
 
 -- ---- selected entries
-
-abbrev view : Bor (List ℕ) → List ℕ
-view k = k.now
 
 pub record SelectedPut (room : ℕ) (content : List ℕ) (next : Option (ℕ × Bor (List ℕ))) (old new : List ℕ) (at end : ℕ) : Type 0 where
   pub last : Option (List ℕ)
@@ -173,7 +171,7 @@ selected_here room content found old mid at end fits h =
     let es = entries_in room content in
     let all = settled es in
     let judged = entry_at room content found.0 in
-    let e = entry_of judged in
+    let e = judged_entry judged in
     let step = next_left es h.last h.done h.left found.1.now e.1 h.stands h.finds.next in
     let entry : (found.1.now, e.1) ≡ e = ap (λ k. (k, e.1)) (sym h.finds.key_is) in
     let parts : h.done ++ (found.1.now, e.1) ∷ step.rest ≡ all = ap (λ t. h.done ++ t) (sym step.is) ∙ h.stands.parts in

@@ -16,6 +16,7 @@ use Rattle.amqp_canonical.specs.SlotJudgements.{AreCanonicalSlots, IsCanonicalPa
 
 -- the bytes that a thing is decoded from are canonical exactly where they encode it at level strict
 abbrev pub CanonicalIsStrict : {A : Type 0} → Judge A → (Level → List ℕ → A → Type 0) → (List ℕ → A → Type 0) → Type 0
+-- the thing is decoded from the first n bytes, and these are the ones that are compared
 CanonicalIsStrict {A} judge Spells IsCanonical = (bytes : List ℕ) (x : A) (n : ℕ) → IsBytes bytes → judge bytes ≡ took x n → IsCanonical (take n bytes) x ↔ Spells strict (take n bytes) x
 
 -- of values, for each number of levels that may nest

@@ -97,33 +97,33 @@ IsCanonicalTable bytes es = bytes ≡ with_length (entries_bytes (entries_of es)
 
 -- ---- what is returned
 
--- A thing is decoded, and the judgement says how many bytes it uses and exactly whether they are canonical.
-pub record Takes {A : Type 0} (IsCanonical : List ℕ → A → Type 0) (judgement : ValueJudgement) (bytes : List ℕ) (judged : Judged A) : Type 0 where
+-- A thing is decoded, and the result says how many bytes it uses and exactly whether they are canonical.
+pub record DecodesAs {A : Type 0} (IsCanonical : List ℕ → A → Type 0) (judgement : ValueJudgement) (bytes : List ℕ) (judged : Judged A) : Type 0 where
   pub thing : A
   pub is : judged ≡ took thing judgement.used
-  pub told : IsTrue judgement.canonical ↔ IsCanonical (take judgement.used bytes) thing
+  pub decides : IsTrue judgement.canonical ↔ IsCanonical (take judgement.used bytes) thing
 
 -- a thing decoded at the front, or its fault
 abbrev pub Judges : {A : Type 0} → (List ℕ → A → Type 0) → List ℕ → Result ValueJudgement ParserError → Judged A → Type 0
-Judges IsCanonical bytes (Ok judgement) judged = Takes IsCanonical judgement bytes judged
+Judges IsCanonical bytes (Ok judgement) judged = DecodesAs IsCanonical judgement bytes judged
 Judges IsCanonical bytes (Err error) judged = MayRefuse error × Refuses error judged
 
--- an entry with this key is decoded, and the judgement says the same of it
-pub record TakesEntry (judgement : ValueJudgement) (key bytes : List ℕ) (judged : Judged Entry) : Type 0 where
+-- an entry with this key is decoded, and the result says the same of it
+pub record DecodesAsEntry (judgement : ValueJudgement) (key bytes : List ℕ) (judged : Judged Entry) : Type 0 where
   pub value : FieldValue
   pub is : judged ≡ took (key, value) judgement.used
-  pub told : IsTrue judgement.canonical ↔ (take judgement.used bytes ≡ short_string_bytes key ++ tagged_bytes value)
+  pub decides : IsTrue judgement.canonical ↔ (take judgement.used bytes ≡ short_string_bytes key ++ tagged_bytes value)
 
 -- an entry decoded at the front, or its fault
 abbrev pub JudgesEntry : {K : Type 0} → (K → List ℕ) → List ℕ → Result (ValueJudgement × K) ParserError → Judged Entry → Type 0
-JudgesEntry view bytes (Ok found) judged = TakesEntry found.0 (view found.1) bytes judged
+JudgesEntry view bytes (Ok found) judged = DecodesAsEntry found.0 (view found.1) bytes judged
 JudgesEntry view bytes (Err error) judged = MayRefuse error × Refuses error judged
 
 -- a thing fills the bytes, and it is said exactly whether they are canonical
 pub record Fills {A : Type 0} (IsCanonical : List ℕ → A → Type 0) (canonical : Bool) (bytes : List ℕ) (read : Result A Fault) : Type 0 where
   pub thing : A
   pub is : read ≡ Ok thing
-  pub told : IsTrue canonical ↔ IsCanonical bytes thing
+  pub decides : IsTrue canonical ↔ IsCanonical bytes thing
 
 -- all of the bytes decoded, or their fault
 abbrev pub JudgesWhole : {A : Type 0} → (List ℕ → A → Type 0) → List ℕ → Result Bool ParserError → Result A Fault → Type 0

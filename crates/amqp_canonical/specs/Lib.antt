@@ -1,3 +1,4 @@
+-- The definitions of amqp_canonical.
 pub mod Judgements
 pub mod CanonicalLaws
 pub mod Shapes

@@ -19,14 +19,14 @@ abbrev pub entry_at : ℕ → List ℕ → ℕ → Judged Entry
 entry_at room content place = judge_entry (judge_value room) (drop place content)
 
 -- the entry that was decoded
-abbrev pub entry_of : Judged Entry → Entry
-entry_of (took e n) = e
-entry_of past = ([], void_value)
-entry_of (fault bad) = ([], void_value)
+abbrev pub judged_entry : Judged Entry → Entry
+judged_entry (took e n) = e
+judged_entry past = ([], void_value)
+judged_entry (fault bad) = ([], void_value)
 
 -- the entry at a mark's place
 abbrev pub marked_entry : ℕ → List ℕ → Mark → Entry
-marked_entry room content mark = entry_of (entry_at room content mark.place)
+marked_entry room content mark = judged_entry (entry_at room content mark.place)
 
 -- all entries of a table's content
 abbrev pub entries_in : ℕ → List ℕ → List Entry
@@ -40,7 +40,7 @@ AreEntries room content = IsFilled (filled (judge_entry (judge_value room)) 0 co
 
 -- The mark's numbers are the first bytes of the key at its place, and a size that is not 0 is that of the entry there, which
 -- is copied.
-pub record IsMarked (content : List ℕ) (mark : Mark) : Type 0 where
+pub record IsMarkOf (content : List ℕ) (mark : Mark) : Type 0 where
   pub first : mark.lead ≡ leading 8 (key_at content mark)
   pub next : mark.more ≡ leading 2 (drop 8 (key_at content mark))
   pub copied : mark.size ≢ 0 → (room : ℕ) → IsRead (entry_at room content mark.place) → IsCopied entry_bytes (drop mark.place content) mark.size (entry_at room content mark.place)
@@ -109,8 +109,8 @@ HasNoNext last es = (other : List ℕ) (w : FieldValue) → IsAfter last other �
 -- the place of the next entry, with its key
 pub record IsNextAt (room : ℕ) (content : List ℕ) (last : Option (List ℕ)) (es : List Entry) (place : ℕ) (key : List ℕ) : Type 0 where
   pub read : IsRead (entry_at room content place)
-  pub key_is : (entry_of (entry_at room content place)).0 ≡ key
-  pub next : IsNext last es key (entry_of (entry_at room content place)).1
+  pub key_is : (judged_entry (entry_at room content place)).0 ≡ key
+  pub next : IsNext last es key (judged_entry (entry_at room content place)).1
 
 -- the next entry is found, or there is none
 abbrev pub FindsNext : {K : Type 0} → (K → List ℕ) → ℕ → List ℕ → Option (List ℕ) → List Entry → Option (ℕ × K) → Type 0

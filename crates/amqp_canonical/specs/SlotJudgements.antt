@@ -34,7 +34,7 @@ IsCanonicalContentHeader bytes header = bytes ≡ content_header_bytes header
 
 -- ---- what is returned
 
--- A thing is decoded, and the judgement says how many bytes it uses and exactly whether they are canonical, and whether they encode it at level tidy.
+-- A thing is decoded, and the result says how many bytes it uses and exactly whether they are canonical, and whether they encode it at level tidy.
 pub record TakesTidily {A : Type 0} (IsCanonical IsTidy : List ℕ → A → Type 0) (judgement : Judgement) (bytes : List ℕ) (judged : Judged A) : Type 0 where
   pub thing : A
   pub is : judged ≡ took thing judgement.used

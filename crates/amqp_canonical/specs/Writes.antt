@@ -13,12 +13,6 @@ IsRead (took x n) = Unit {0}
 IsRead past = ⊥
 IsRead (fault bad) = ⊥
 
--- how many bytes were used
-abbrev pub used_of : {A : Type 0} → Judged A → ℕ
-used_of (took x n) = n
-used_of past = 0
-used_of (fault bad) = 0
-
 -- the canonical bytes of what was taken
 abbrev pub canonical_of : {A : Type 0} → (A → List ℕ) → Judged A → List ℕ
 canonical_of canonical (took x n) = canonical x

@@ -1,7 +1,8 @@
-//! AMQP 0-9-1 payloads, tables and values decoded and written where they stand, without memory: how many bytes they use,
-//! which fault they have, whether their bytes are canonical and tidy, and their canonical bytes.
+//! AMQP 0-9-1 payloads, tables and values decoded and written where they stand, without memory: how many bytes they
+//! use, which fault they have, whether their bytes are canonical and tidy, and their canonical bytes.
 #![tactic(auto)]
 
+mod equality;
 mod headers;
 mod laws;
 mod leads;
@@ -18,6 +19,7 @@ mod values;
 mod writing;
 mod writing_laws;
 
+pub use equality::{equal_judgements, equal_shapes, equal_value_judgements};
 pub use headers::{has_bit, judge_content_header};
 pub use laws::{
     canonical_content_headers_are_strict, canonical_payloads_are_strict,

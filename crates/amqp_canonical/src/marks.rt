@@ -3,17 +3,17 @@
 ghost use Rattle.std.specs.Prelude.{◌≡◌, ◌≢◌, ◌≤◌, ◌<◌, ◌+◌, ◌↔◌, ℕ, length, map, take, drop, slice_index_or, All, IfSome, IsTrue};
 ghost use Rattle.std.specs.List.Sorted.{IsPermutation};
 ghost use Rattle.amqp_canonical.specs.Leads.{key_at};
-ghost use Rattle.amqp_canonical.specs.Marks.{AreEntries, AreInOrder, AreMarks, AreOfTable, AreRead, Follows, IsMarked, blank, marked_entry, ties};
+ghost use Rattle.amqp_canonical.specs.Marks.{AreEntries, AreInOrder, AreMarks, AreOfTable, AreRead, Follows, IsMarkOf, blank, marked_entry, ties};
 
 use crate::leads::{first_eight, next_two};
 use crate::spans::{Span, bytes_from, entry_span, split_key};
 use std::cmp::Ordering;
 
 /// What an entry of a table is sorted by, and where it stands. Calls that write n bytes need at most n / 2 of them, and
-/// write a table that is not in ascending key order in quadratic time where they are given fewer. In C a mark has 16 bytes and is aligned
-/// to 8, and zeros are one, so a caller there can lend a slice of them.
+/// write a table that is not in ascending key order in quadratic time where they are given fewer. In C a mark has 16
+/// bytes and is aligned to 8, and zeros are one, so a caller there can pass a slice of zeros.
 #[repr(C)]
-#[derive(Clone, Copy, Debug, Default)]
+#[derive(Clone, Copy, Debug)]
 pub struct Mark {
     /// The first eight bytes of the key as a number, with zeros after a shorter key.
     lead: u64,
@@ -24,9 +24,23 @@ pub struct Mark {
     /// The two bytes of the key after its first eight.
     more: u16,
 
-    /// How many bytes the entry takes, where they are its canonical bytes by its tag alone. Else 0, and where they are more
-    /// than 65,535.
+    /// How many bytes the entry takes, where they are its canonical bytes by its tag alone. Else 0, and where they are
+    /// more than 65,535.
     pub(crate) size: u16,
+}
+
+impl Default for Mark {
+    /// A mark of zeros, as a scratch is filled before it is passed.
+    fn default() -> Mark
+        ensures { result ≡ blank }
+    {
+        Mark {
+            lead: 0,
+            place: 0,
+            more: 0,
+            size: 0,
+        }
+    }
 }
 
 /// The bytes from a mark's place on.
@@ -53,7 +67,7 @@ fn size_copied(span: Span) -> u16
 fn mark_entries(marks: &mut [Mark], content: &[u8]) -> Option<usize>
     ensures len { length marks.new ≡ length marks.old }
     ensures within { IfSome result (λ count. count ≤ length marks.new) }
-    ensures each { IfSome result (λ count. All (IsMarked content.now) (take count marks.new)) }
+    ensures each { IfSome result (λ count. All (IsMarkOf content.now) (take count marks.new)) }
     ensures marked { IfSome result (λ count. (room : ℕ) → AreEntries room content.now → AreMarks room content.now (take count marks.new)) }
 {
     if content.len() > u32::MAX as usize {
@@ -127,7 +141,7 @@ fn key_follows(content: &[u8], previous: Mark, mark: Mark) -> bool
 /// Whether an entry comes after the previous one, by the first bytes of their keys where these differ.
 #[inline(always)]
 fn follows(content: &[u8], previous: &Mark, mark: &Mark) -> bool
-    requires { IsMarked content.now previous.now × IsMarked content.now mark.now }
+    requires { IsMarkOf content.now previous.now × IsMarkOf content.now mark.now }
     ensures { IsTrue result → Follows content.now previous.now mark.now }
 {
     if previous.lead != mark.lead {
@@ -141,7 +155,7 @@ fn follows(content: &[u8], previous: &Mark, mark: &Mark) -> bool
 
 /// Whether each mark follows the one before it.
 fn are_in_order(marks: &[Mark], content: &[u8]) -> bool
-    requires { All (IsMarked content.now) marks.now }
+    requires { All (IsMarkOf content.now) marks.now }
     ensures { IsTrue result → AreInOrder content.now marks.now }
 {
     let mut k = 1;
@@ -156,7 +170,7 @@ fn are_in_order(marks: &[Mark], content: &[u8]) -> bool
 
 /// Puts marks in order, and returns whether they are.
 fn put_in_order(marks: &mut [Mark], content: &[u8]) -> bool
-    requires { All (IsMarked content.now) marks.old }
+    requires { All (IsMarkOf content.now) marks.old }
     ensures permuted { IsPermutation marks.old marks.new }
     ensures order { IsTrue result → AreInOrder content.now marks.new }
 {
@@ -164,11 +178,11 @@ fn put_in_order(marks: &mut [Mark], content: &[u8]) -> bool
     are_in_order(marks, content)
 }
 
-/// Marks the entries that fill a table in ascending key order, and returns how many there are. None where there are more
-/// than marks.
+/// Marks the entries that fill a table in ascending key order, and returns how many there are. None where there are
+/// more than marks.
 pub(crate) fn mark_in_order(marks: &mut [Mark], content: &[u8]) -> Option<usize>
     ensures within { IfSome result (λ count. count ≤ length marks.new) }
-    ensures each { IfSome result (λ count. All (IsMarked content.now) (take count marks.new)) }
+    ensures each { IfSome result (λ count. All (IsMarkOf content.now) (take count marks.new)) }
     ensures table { IfSome result (λ count. (room : ℕ) → AreEntries room content.now → AreOfTable room content.now (take count marks.new)) }
 {
     let count = mark_entries(marks, content)?;
@@ -193,7 +207,7 @@ fn is_same_key(content: &[u8], mark: Mark, next: Mark) -> bool
 #[inline(always)]
 pub(crate) fn is_tied(marks: &[Mark], content: &[u8], k: usize) -> bool
     requires here { k < length marks.now }
-    requires each { All (IsMarked content.now) marks.now }
+    requires each { All (IsMarkOf content.now) marks.now }
     ensures { (room : ℕ) → AreRead room content.now marks.now
         → result ≡ ties (marked_entry room content.now (slice_index_or marks.now k blank)) (map (marked_entry room content.now) (drop (k + 1) marks.now)) }
 {

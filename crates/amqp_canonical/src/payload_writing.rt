@@ -28,8 +28,8 @@ fn short_at(i: &[u8]) -> u16
     }
 }
 
-/// Puts the canonical bytes of a class id, a method id and the fields of that method at a place of a slice, and returns the
-/// place after them (AMQP 0-9-1, section 4.2.4).
+/// Puts the canonical bytes of a class id, a method id and the fields of that method at a place of a slice, and returns
+/// the place after them (AMQP 0-9-1, section 4.2.4).
 pub fn put_payload(buf: &mut [u8], at: usize, scratch: &mut [Mark], i: &[u8]) -> usize
     requires read { IsRead (judge_payload i.now) }
     requires room { at + length (canonical_of payload_bytes (judge_payload i.now)) ≤ length buf.old }

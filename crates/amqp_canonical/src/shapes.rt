@@ -83,7 +83,8 @@ pub fn property_shapes() -> &'static [(u16, Shape)]
     &PROPERTIES
 }
 
-/// What stands in front of the properties in a content header: a class id, the weight and the size of the body, in bytes.
+/// What stands in front of the properties in a content header: a class id, the weight and the size of the body, in
+/// bytes.
 const HEADER: [Shape; 3] = [Short, ReservedShort(0), LongLong];
 
 /// The shapes of what stands in front of the properties in a content header (AMQP 0-9-1, section 4.2.6.1).

@@ -6,20 +6,18 @@ ghost use Rattle.amqp_types.specs.SlotBytes.{form_bytes, slots_bytes};
 ghost use Rattle.amqp_types.specs.SlotJudging.{judge_form, judge_slot, judge_slots};
 ghost use Rattle.amqp_types.specs.Writing.{Puts};
 ghost use Rattle.amqp_canonical.specs.Shapes.{form_of, slot_of, slots_of};
-ghost use Rattle.amqp_canonical.specs.Writes.{IsRead, canonical_of, slot_bytes, used_of};
+ghost use Rattle.amqp_canonical.specs.Writes.{IsRead, canonical_of, slot_bytes};
+ghost use Rattle.amqp_types.specs.Tidiness.{used_by};
 
 use crate::marks::Mark;
 use crate::shapes::Shape;
 use crate::spans::{bytes_from, long_size, split_key};
 use crate::writing::put_table;
-use amqp_types::{put_bytes, put_long_uint, put_short_uint};
-
-/// How deep tables and arrays may nest in the values of a table that is a field.
-const ROOM: usize = 63;
+use amqp_types::{INNER_DEPTH, put_bytes, put_long_uint, put_short_uint};
 
 /// How many bytes a field of this shape takes at the front, where one was decoded there.
 pub fn slot_size(shape: Shape, i: &[u8]) -> usize
-    ensures used { IsRead (judge_form (form_of shape) i.now) → result ≡ used_of (judge_form (form_of shape) i.now) }
+    ensures used { IsRead (judge_form (form_of shape) i.now) → result ≡ used_by (judge_form (form_of shape) i.now) }
     ensures bound { result ≤ length i.now + 8 }
 {
     match shape {
@@ -54,7 +52,7 @@ pub(crate) fn put_form(
     ensures { Puts buf.old buf.new at (canonical_of (form_bytes (form_of shape)) (judge_form (form_of shape) i.now)) result }
 {
     match shape {
-        Shape::Table => put_table(buf, at, scratch, i, ROOM),
+        Shape::Table => put_table(buf, at, scratch, i, INNER_DEPTH),
         Shape::Flags(count) => put_bytes(buf, at, &[lowest_bits(count, i[0])]),
         Shape::ReservedFlag => put_bytes(buf, at, &[lowest_bits(1, i[0])]),
         copied => put_bytes(buf, at, &i[..slot_size(copied, i)]),

@@ -10,7 +10,7 @@ ghost use Rattle.amqp_canonical.specs.SlotJudgements.{JudgesForm, JudgesReserved
 use crate::shapes::Shape;
 use crate::texts::short_text;
 use crate::values::judge_table;
-use amqp_types::{ParserError, parse_long_bytes, parse_long_uint, parse_short_uint};
+use amqp_types::{INNER_DEPTH, ParserError, parse_long_bytes, parse_long_uint, parse_short_uint};
 
 /// What was decoded at the front of a slice: fields, a method or a content header.
 #[derive(Clone, Copy, Debug, PartialEq, Eq)]
@@ -101,7 +101,7 @@ fn judge_field_table(i: &[u8]) -> Result<Judgement, ParserError>
     ensures judged { JudgesForm table_form i.now result }
     ensures used { IfOk result (λ j. j.used ≤ length i.now) }
 {
-    let table = judge_table(i, 63)?;
+    let table = judge_table(i, INNER_DEPTH)?;
     Ok(Judgement {
         used: table.used,
         canonical: table.canonical,

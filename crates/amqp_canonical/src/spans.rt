@@ -7,7 +7,8 @@ ghost use Rattle.amqp_types.specs.ValueBytes.{tagged_bytes, value_bytes};
 ghost use Rattle.amqp_types.specs.ValueJudging.{judge_entry, judge_behind, judge_value, nested};
 ghost use Rattle.amqp_types.specs.declared.tag.FieldTag.{FieldTag};
 ghost use Rattle.amqp_canonical.specs.Judgements.{IsShort, layout_at};
-ghost use Rattle.amqp_canonical.specs.Writes.{IsRead, IsCopied, canonical_of, entry_bytes, used_of, key_in, after_key};
+ghost use Rattle.amqp_canonical.specs.Writes.{IsRead, IsCopied, canonical_of, entry_bytes, key_in, after_key};
+ghost use Rattle.amqp_types.specs.Tidiness.{used_by};
 
 use crate::values::{Layout, TagByte, layout_after};
 use amqp_types::parse_long_bytes;
@@ -25,7 +26,7 @@ pub(crate) struct Span {
 /// How many bytes a length and what it covers take at the front, where both were decoded there.
 #[inline(always)]
 pub(crate) fn long_size(i: &[u8]) -> usize
-    ensures used { IsRead (judge_long_string i.now) → result ≡ used_of (judge_long_string i.now) }
+    ensures used { IsRead (judge_long_string i.now) → result ≡ used_by (judge_long_string i.now) }
     ensures bound { result ≤ length i.now }
 {
     match parse_long_bytes(i) {
@@ -39,7 +40,7 @@ pub(crate) fn long_size(i: &[u8]) -> usize
 pub(crate) fn size_in(layout: Layout, i: &[u8]) -> usize
     requires { IsShort layout }
     ensures used { (room : ℕ) (tag : FieldTag) → layout_at tag ≡ layout
-        → IsRead (judge_behind (nested room) tag i.now) → result ≡ used_of (judge_behind (nested room) tag i.now) }
+        → IsRead (judge_behind (nested room) tag i.now) → result ≡ used_by (judge_behind (nested room) tag i.now) }
     ensures bound { result ≤ length i.now + 8 }
 {
     match layout {
@@ -54,7 +55,7 @@ pub(crate) fn size_in(layout: Layout, i: &[u8]) -> usize
 fn span_after(tag: TagByte, i: &[u8]) -> Span
     requires { IsShort tag.layout }
     ensures used { (room : ℕ) (t : FieldTag) → layout_at t ≡ tag.layout
-        → IsRead (judge_behind (nested room) t i.now) → result.size ≡ used_of (judge_behind (nested room) t i.now) }
+        → IsRead (judge_behind (nested room) t i.now) → result.size ≡ used_by (judge_behind (nested room) t i.now) }
     ensures written { IsTrue result.copied → IsTrue tag.written }
     ensures copied { IsTrue result.copied → (room : ℕ) (t : FieldTag) → layout_at t ≡ tag.layout
         → IsRead (judge_behind (nested room) t i.now) → IsCopied value_bytes i.now result.size (judge_behind (nested room) t i.now) }
@@ -83,7 +84,7 @@ fn span_after(tag: TagByte, i: &[u8]) -> Span
 /// What a value takes at the front, with its tag, where one was decoded there.
 #[inline(always)]
 pub(crate) fn value_span(i: &[u8]) -> Span
-    ensures used { (room : ℕ) → IsRead (judge_value room i.now) → result.size ≡ used_of (judge_value room i.now) }
+    ensures used { (room : ℕ) → IsRead (judge_value room i.now) → result.size ≡ used_by (judge_value room i.now) }
     ensures copied { IsTrue result.copied → (room : ℕ) → IsRead (judge_value room i.now) → IsCopied tagged_bytes i.now result.size (judge_value room i.now) }
     ensures bound { result.size ≤ length i.now + 8 }
 {
@@ -111,7 +112,7 @@ pub(crate) fn value_span(i: &[u8]) -> Span
 /// How many bytes a value takes at the front, with its tag, where one was decoded there.
 #[inline(always)]
 pub fn value_size(i: &[u8]) -> usize
-    ensures used { (room : ℕ) → IsRead (judge_value room i.now) → result ≡ used_of (judge_value room i.now) }
+    ensures used { (room : ℕ) → IsRead (judge_value room i.now) → result ≡ used_by (judge_value room i.now) }
     ensures bound { result ≤ length i.now + 8 }
 {
     value_span(i).size
@@ -153,7 +154,7 @@ pub fn split_key(i: &[u8]) -> (&[u8], &[u8])
 /// What an entry takes at the front, where one was decoded there.
 #[inline(always)]
 pub(crate) fn entry_span(i: &[u8]) -> Span
-    ensures used { (room : ℕ) → IsRead (judge_entry (judge_value room) i.now) → result.size ≡ used_of (judge_entry (judge_value room) i.now) }
+    ensures used { (room : ℕ) → IsRead (judge_entry (judge_value room) i.now) → result.size ≡ used_by (judge_entry (judge_value room) i.now) }
     ensures copied { IsTrue result.copied → (room : ℕ) → IsRead (judge_entry (judge_value room) i.now)
         → IsCopied entry_bytes i.now result.size (judge_entry (judge_value room) i.now) }
     ensures some { 0 < result.size }
@@ -170,7 +171,7 @@ pub(crate) fn entry_span(i: &[u8]) -> Span
 /// How many bytes an entry takes at the front, where one was decoded there.
 #[inline(always)]
 pub fn entry_size(i: &[u8]) -> usize
-    ensures used { (room : ℕ) → IsRead (judge_entry (judge_value room) i.now) → result ≡ used_of (judge_entry (judge_value room) i.now) }
+    ensures used { (room : ℕ) → IsRead (judge_entry (judge_value room) i.now) → result ≡ used_by (judge_entry (judge_value room) i.now) }
     ensures some { 0 < result }
     ensures bound { result ≤ length i.now + 9 }
 {

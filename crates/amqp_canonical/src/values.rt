@@ -6,7 +6,13 @@ ghost use Rattle.amqp_types.specs.ValueJudging.{filled, nested, inside_error, ju
 ghost use Rattle.amqp_canonical.specs.Judgements.{layout_at, layout_after_byte, IsShort, IsAbove, IsBelow, MayRefuse, IsCanonicalBoolean, IsCanonicalAfterTag, IsCanonicalValue, AreCanonicalValues, AreCanonicalEntries, IsCanonicalArray, IsCanonicalTable, Judges, JudgesEntry, JudgesWhole};
 
 use crate::texts::short_text;
-use amqp_types::{FieldTag, ParserError, parse_long_bytes};
+use amqp_types::{
+    FieldTag, ParserError, TAG_BOOLEAN, TAG_BYTE_ARRAY, TAG_DECIMAL_VALUE, TAG_DOUBLE,
+    TAG_FIELD_ARRAY, TAG_FIELD_TABLE, TAG_FLOAT, TAG_LONG_INT, TAG_LONG_LONG_INT,
+    TAG_LONG_LONG_INT_READ, TAG_LONG_STRING, TAG_LONG_UINT, TAG_SHORT_INT, TAG_SHORT_INT_READ,
+    TAG_SHORT_SHORT_INT, TAG_SHORT_SHORT_UINT, TAG_SHORT_UINT, TAG_TIMESTAMP, TAG_VOID,
+    parse_long_bytes,
+};
 use std::cmp::Ordering;
 
 /// What was decoded at the front of a slice: a value, an array or a table.
@@ -90,26 +96,26 @@ fn only_read(layout: Layout) -> Option<TagByte>
     })
 }
 
-/// How what stands after a tag byte is laid out, and whether the byte is written for its tag: `U` and `L` are decoded, and
-/// never written. None where the byte is no tag.
+/// How what stands after a tag byte is laid out, and whether the byte is written for its tag: `U` and `L` are decoded,
+/// and never written. None where the byte is no tag.
 #[inline(always)]
 pub(crate) fn layout_after(byte: u8) -> Option<TagByte>
     ensures is { result ≡ layout_after_byte byte }
     ensures few { IfSome result (λ tag. IsShort tag.layout) }
 {
     match byte {
-        b'V' => written(Layout::Fixed(0)),
-        b'b' | b'B' => written(Layout::Fixed(1)),
-        b's' | b'u' => written(Layout::Fixed(2)),
-        b'U' => only_read(Layout::Fixed(2)),
-        b'I' | b'i' | b'f' => written(Layout::Fixed(4)),
-        b'D' => written(Layout::Fixed(5)),
-        b'l' | b'd' | b'T' => written(Layout::Fixed(8)),
-        b'L' => only_read(Layout::Fixed(8)),
-        b't' => written(Layout::OneBoolean),
-        b'S' | b'x' => written(Layout::Counted),
-        b'A' => written(Layout::Values),
-        b'F' => written(Layout::Entries),
+        TAG_VOID => written(Layout::Fixed(0)),
+        TAG_SHORT_SHORT_INT | TAG_SHORT_SHORT_UINT => written(Layout::Fixed(1)),
+        TAG_SHORT_INT | TAG_SHORT_UINT => written(Layout::Fixed(2)),
+        TAG_SHORT_INT_READ => only_read(Layout::Fixed(2)),
+        TAG_LONG_INT | TAG_LONG_UINT | TAG_FLOAT => written(Layout::Fixed(4)),
+        TAG_DECIMAL_VALUE => written(Layout::Fixed(5)),
+        TAG_LONG_LONG_INT | TAG_DOUBLE | TAG_TIMESTAMP => written(Layout::Fixed(8)),
+        TAG_LONG_LONG_INT_READ => only_read(Layout::Fixed(8)),
+        TAG_BOOLEAN => written(Layout::OneBoolean),
+        TAG_LONG_STRING | TAG_BYTE_ARRAY => written(Layout::Counted),
+        TAG_FIELD_ARRAY => written(Layout::Values),
+        TAG_FIELD_TABLE => written(Layout::Entries),
         _ => None,
     }
 }
@@ -263,7 +269,8 @@ fn judge_values(content: &[u8], room: usize) -> Result<bool, ParserError>
     Ok(canonical)
 }
 
-/// Decodes the entries that fill a table, and returns whether these are their canonical bytes and in ascending key order.
+/// Decodes the entries that fill a table, and returns whether these are their canonical bytes and in ascending key
+/// order.
 #[inline(never)]
 #[cycle(judge)]
 fn judge_entries(content: &[u8], room: usize) -> Result<bool, ParserError>

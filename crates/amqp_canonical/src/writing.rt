@@ -6,7 +6,7 @@ ghost use Rattle.amqp_types.specs.ValueBytes.{array_bytes, table_bytes, tagged_b
 ghost use Rattle.amqp_types.specs.ValueJudging.{filled, nested, judge_array, judge_behind, judge_entry, judge_table, judge_value};
 ghost use Rattle.amqp_types.specs.Writing.{Puts};
 ghost use Rattle.amqp_canonical.specs.Writes.{IsRead, IsFilled, array_content, canonical_of, entry_bytes, items_of, table_content};
-ghost use Rattle.amqp_canonical.specs.Marks.{AreEntries, IsMarked, entries_in, entry_at, last_of_ties, marked_entry};
+ghost use Rattle.amqp_canonical.specs.Marks.{AreEntries, IsMarkOf, entries_in, entry_at, last_of_ties, marked_entry};
 
 use crate::marks::{Mark, is_tied, mark_in_order};
 use crate::selection::next_entry;
@@ -136,7 +136,7 @@ fn put_marked(
     room: usize,
 ) -> usize
     requires read { All (λ mark. IsRead (entry_at room content.now mark.place)) marks.now }
-    requires each { All (IsMarked content.now) marks.now }
+    requires each { All (IsMarkOf content.now) marks.now }
     requires room { at + length (table_content (last_of_ties (map (marked_entry room content.now) marks.now))) ≤ length buf.old }
     ensures { Puts buf.old buf.new at (table_content (last_of_ties (map (marked_entry room content.now) marks.now))) result }
 {
@@ -163,7 +163,7 @@ fn put_mark(
     room: usize,
 ) -> usize
     requires read { IsRead (entry_at room content.now mark.now.place) }
-    requires is { IsMarked content.now mark.now }
+    requires is { IsMarkOf content.now mark.now }
     requires room { at + length (canonical_of entry_bytes (entry_at room content.now mark.now.place)) ≤ length buf.old }
     ensures { Puts buf.old buf.new at (canonical_of entry_bytes (entry_at room content.now mark.now.place)) result }
 {

@@ -1,4 +1,5 @@
-//! Canonical bytes are no more than the bytes that were decoded: a law, as the contract of a function that does nothing.
+//! Canonical bytes are no more than the bytes that were decoded: a law, as the contract of a function that does
+//! nothing.
 
 ghost use Rattle.amqp_canonical.specs.WritingLaws.{ValuesAreNoLonger, ArraysAreNoLonger, TablesAreNoLonger, SlotsAreNoLonger, PayloadsAreNoLonger, ContentHeadersAreNoLonger};
 

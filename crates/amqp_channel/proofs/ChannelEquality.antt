@@ -11,13 +11,13 @@ use Rattle.amqp_channel.specs.declared.methods.channel.AMQPMethod.{AMQPMethod}
 use Rattle.amqp_channel.specs.declared.methods.channel.AMQPMethod.TheVariants as variant
 use Rattle.amqp_channel.specs.contracts.methods.channel.AMQPMethodPartialEq.TheImpl as method
 
-same_flow : (a b : Flow) → Decides (flow.ghosts.eq a b) (a ≡ b)
+pub same_flow : (a b : Flow) → Decides (flow.ghosts.eq a b) (a ≡ b)
 same_flow a b = search rules
 
-same_flow_ok : (a b : FlowOk) → Decides (flow_ok.ghosts.eq a b) (a ≡ b)
+pub same_flow_ok : (a b : FlowOk) → Decides (flow_ok.ghosts.eq a b) (a ≡ b)
 same_flow_ok a b = search rules
 
-same_close : (a b : Close) → Decides (close.ghosts.eq a b) (a ≡ b)
+pub same_close : (a b : Close) → Decides (close.ghosts.eq a b) (a ≡ b)
 same_close a b = search rules
 
 same : (a b : AMQPMethod) → method.ghosts.eq a b ≡ true → a ≡ b

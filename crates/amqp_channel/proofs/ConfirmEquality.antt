@@ -7,7 +7,7 @@ use Rattle.amqp_channel.specs.declared.methods.confirm.AMQPMethod.{AMQPMethod}
 use Rattle.amqp_channel.specs.declared.methods.confirm.AMQPMethod.TheVariants as variant
 use Rattle.amqp_channel.specs.contracts.methods.confirm.AMQPMethodPartialEq.TheImpl as method
 
-same_select : (a b : Select) → Decides (select.ghosts.eq a b) (a ≡ b)
+pub same_select : (a b : Select) → Decides (select.ghosts.eq a b) (a ≡ b)
 same_select a b = search rules
 
 same : (a b : AMQPMethod) → method.ghosts.eq a b ≡ true → a ≡ b

@@ -1,3 +1,4 @@
+-- The lemmas of amqp_channel.
 pub mod ChannelEquality
 pub mod TxEquality
 pub mod ConfirmEquality

@@ -1,3 +1,4 @@
+-- The definitions of amqp_channel.
 pub mod Channel
 pub mod Confirm
 pub mod Tx

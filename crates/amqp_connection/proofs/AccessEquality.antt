@@ -25,7 +25,7 @@ request_to : (a b : Request) → a ≡ b → SameRequest a b
 unfolding SameRequest
 request_to a b e = search rules
 
-same_request : (a b : Request) → Decides (request.ghosts.eq a b) (a ≡ b)
+pub same_request : (a b : Request) → Decides (request.ghosts.eq a b) (a ≡ b)
 same_request a b = (λ h. request_of a b ((request_fields a b).0 h), λ e. (request_fields a b).1 (request_to a b e))
 
 same : (a b : AMQPMethod) → method.ghosts.eq a b ≡ true → a ≡ b

@@ -58,34 +58,34 @@ start_ok_to : (a b : StartOk) → a ≡ b → SameStartOk a b
 unfolding SameStartOk
 start_ok_to a b e = search rules
 
-same_start : (a b : Start) → Decides (start.ghosts.eq a b) (a ≡ b)
+pub same_start : (a b : Start) → Decides (start.ghosts.eq a b) (a ≡ b)
 same_start a b = (λ h. start_of a b ((start_fields a b).0 h), λ e. (start_fields a b).1 (start_to a b e))
 
-same_start_ok : (a b : StartOk) → Decides (start_ok.ghosts.eq a b) (a ≡ b)
+pub same_start_ok : (a b : StartOk) → Decides (start_ok.ghosts.eq a b) (a ≡ b)
 same_start_ok a b = (λ h. start_ok_of a b ((start_ok_fields a b).0 h), λ e. (start_ok_fields a b).1 (start_ok_to a b e))
 
-same_secure : (a b : Secure) → Decides (secure.ghosts.eq a b) (a ≡ b)
+pub same_secure : (a b : Secure) → Decides (secure.ghosts.eq a b) (a ≡ b)
 same_secure a b = search rules
 
-same_secure_ok : (a b : SecureOk) → Decides (secure_ok.ghosts.eq a b) (a ≡ b)
+pub same_secure_ok : (a b : SecureOk) → Decides (secure_ok.ghosts.eq a b) (a ≡ b)
 same_secure_ok a b = search rules
 
-same_tune : (a b : Tune) → Decides (tune.ghosts.eq a b) (a ≡ b)
+pub same_tune : (a b : Tune) → Decides (tune.ghosts.eq a b) (a ≡ b)
 same_tune a b = search rules
 
-same_tune_ok : (a b : TuneOk) → Decides (tune_ok.ghosts.eq a b) (a ≡ b)
+pub same_tune_ok : (a b : TuneOk) → Decides (tune_ok.ghosts.eq a b) (a ≡ b)
 same_tune_ok a b = search rules
 
-same_open : (a b : Open) → Decides (opened.ghosts.eq a b) (a ≡ b)
+pub same_open : (a b : Open) → Decides (opened.ghosts.eq a b) (a ≡ b)
 same_open a b = search rules
 
-same_close : (a b : Close) → Decides (close.ghosts.eq a b) (a ≡ b)
+pub same_close : (a b : Close) → Decides (close.ghosts.eq a b) (a ≡ b)
 same_close a b = search rules
 
-same_blocked : (a b : Blocked) → Decides (blocked.ghosts.eq a b) (a ≡ b)
+pub same_blocked : (a b : Blocked) → Decides (blocked.ghosts.eq a b) (a ≡ b)
 same_blocked a b = search rules
 
-same_update_secret : (a b : UpdateSecret) → Decides (update_secret.ghosts.eq a b) (a ≡ b)
+pub same_update_secret : (a b : UpdateSecret) → Decides (update_secret.ghosts.eq a b) (a ≡ b)
 same_update_secret a b = search rules
 
 same : (a b : AMQPMethod) → method.ghosts.eq a b ≡ true → a ≡ b

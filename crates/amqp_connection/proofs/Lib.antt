@@ -1,2 +1,3 @@
+-- The lemmas of amqp_connection.
 pub mod ConnectionEquality
 pub mod AccessEquality

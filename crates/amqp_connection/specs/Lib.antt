@@ -1,2 +1,3 @@
+-- The definitions of amqp_connection.
 pub mod Access
 pub mod Connection

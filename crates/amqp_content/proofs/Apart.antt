@@ -79,7 +79,7 @@ given-push max before (f ∷ fs) (o ∷ os) frame outcome h last = (h.0, given-p
 abbrev state_of : ℕ → ℕ → List Frame → State Frame
 state_of max channel frames = run_state outline_of max (At Nothing) (of_channel outline_of channel frames)
 
--- the last answer is that of the step
+-- the last outcome is that of the step
 outcome_last : (max : ℕ) (frames : List Frame) (frame : Frame) (outcome : OutcomeView) → IsOutcomeOf max (frames ++ frame ∷ []) outcome → outcome ≡ answer_outcome (step outline_of max (run_state outline_of max (At Nothing) frames) frame).0
 outcome_last max frames frame outcome h =
     let all = sym (answers_run outline_of max (frames ++ frame ∷ []) (h.last.before ++ h.answer ∷ []) h.last.answers) in

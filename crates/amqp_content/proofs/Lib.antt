@@ -1,3 +1,4 @@
+-- The lemmas of amqp_content.
 pub mod Moving
 pub mod Running
 pub mod Tracking

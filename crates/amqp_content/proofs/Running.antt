@@ -14,7 +14,7 @@ use Rattle.amqp_content.specs.Steps.{step, run_answers, run_state}
 use Rattle.amqp_content.proofs.Moving.{Moved, closes, grows, refused, moved}
 
 module _ {X : Type 0} (outline : X → FrameOutline) (max : ℕ) where
-  -- steps over frames give these answers and this state
+  -- steps over frames give these outcomes and this state
   pub record Runs (state : State X) (xs : List X) (answers : List (Answer X)) (after : State X) : Type 0 where
     pub answers_are : run_answers outline max state xs ≡ answers
     pub state_is : run_state outline max state xs ≡ after
@@ -296,7 +296,7 @@ module _ {X : Type 0} (outline : X → FrameOutline) (max : ℕ) where
 
   -- ---- what contracts cite
 
-  -- the answers are those of the steps
+  -- the outcomes are those of the steps
   pub answers_run : (xs : List X) (answers : List (Answer X)) → Answers outline max xs answers → answers ≡ run_answers outline max (At Nothing) xs
   answers_run xs answers h = h.are ∙ sym (reading_runs xs h.reading).answers_are
 
@@ -309,7 +309,7 @@ module _ {X : Type 0} (outline : X → FrameOutline) (max : ℕ) where
   pub run_stands : (xs : List X) → Stands outline max xs (run_state outline max (At Nothing) xs)
   run_stands xs = record { reading = reading_of xs; is = (reading_runs xs (reading_of xs)).state_is }
 
-  -- a step from the state that stands for frames gives the last of the answers to one more, and the state that stands then
+  -- a step from the state that stands for frames gives the last of the outcomes, that of one frame more, and the state that stands then
   pub record Advances (xs : List X) (state : State X) (x : X) : Type 0 where
     pub last : IsLastAnswer outline max (xs ++ x ∷ []) (step outline max state x).0
     pub stands : Stands outline max (xs ++ x ∷ []) (step outline max state x).1

@@ -16,7 +16,7 @@ use Rattle.amqp_content.specs.Stands.{State, At, Lost}
 use Rattle.amqp_content.specs.Marks.{progress_of}
 use Rattle.amqp_content.specs.Steps.{mark_after, step}
 use Rattle.amqp_content.specs.Messages.{header_in, bytes_of, joined}
-use Rattle.amqp_content.specs.Outcomes.{OutcomeView, answer_outcome, Kept, message, fault, kept_of, kept_progress, marked_outcome, kept_marked, mark_kept, Pushes, Takes, outcome_of, IsMessage, IsHeadedThere, with_header}
+use Rattle.amqp_content.specs.Outcomes.{OutcomeView, answer_outcome, Kept, message, fault, kept_of, kept_progress, marked_outcome, kept_marked, mark_kept, Pushes, TakesFrame, outcome_of, IsMessage, IsHeadedThere, with_header}
 use Rattle.amqp_content.proofs.Running.{advance}
 
 pub joined-push : (frames : List Frame) (frame : Frame) → joined (frames ++ frame ∷ []) ≡ joined frames ++ bytes_of frame
@@ -126,7 +126,7 @@ pushes_step max before after frame outcome content gives keeps = record {
       };
 }
 
-pub pushes_if : {E : Type 0} (max : ℕ) (before after : Option Kept) (frame : Frame) (result : Result Outcome E) → is_content (outline_of frame) ≡ true → IfOk result (λ outcome. Takes before after frame (mark_kept max before frame) (outcome_of outcome)) → IfOk result (λ outcome. Pushes max before after frame (outcome_of outcome))
+pub pushes_if : {E : Type 0} (max : ℕ) (before after : Option Kept) (frame : Frame) (result : Result Outcome E) → is_content (outline_of frame) ≡ true → IfOk result (λ outcome. TakesFrame before after frame (mark_kept max before frame) (outcome_of outcome)) → IfOk result (λ outcome. Pushes max before after frame (outcome_of outcome))
 pushes_if max before after frame (Ok outcome) content h = pushes_step max before after frame (outcome_of outcome) content h.gives h.keeps
 pushes_if max before after frame (Err error) content h = tt
 

@@ -20,7 +20,7 @@ use Rattle.amqp_content.proofs.Running.{opening_step, header_step, empty_step, b
 use Rattle.amqp_content.proofs.Telling.{joined-push}
 use Rattle.amqp_content.proofs.Pieces.{ArePieces, pieces_are}
 
-done_in-append : (xs ys : List OutcomeView) → done_in (xs ++ ys) ≡ done_in xs ++ done_in ys
+pub done_in-append : (xs ys : List OutcomeView) → done_in (xs ++ ys) ≡ done_in xs ++ done_in ys
 done_in-append [] ys = refl
 done_in-append (passed frame ∷ xs) ys = done_in-append xs ys
 done_in-append (held ∷ xs) ys = done_in-append xs ys

@@ -1,4 +1,4 @@
--- The answers to the frames of one channel, by their longest prefix of finished units and at most one begun unit.
+-- The outcomes of the frames of one channel, by their longest prefix of finished units and at most one begun unit.
 use Rattle.std.specs.Prelude.{◌≡◌, ℕ, ◌==◌, List, [], ◌∷◌, ◌++◌, map, if◌then◌else◌}
 use Rattle.std.specs.List.{flat_map}
 use Rattle.amqp_frame.specs.declared.outline.FrameOutline.{FrameOutline}
@@ -33,13 +33,13 @@ finished_answers (Lone method) = Alone method ∷ []
 finished_answers (Empty opening header) = Within Nothing opening ∷ Ends (Opened opening) header ∷ []
 finished_answers (Full opening header bodies last) = begun_answers (Headed opening header bodies) ++ Ends (Headed opening header bodies) last ∷ []
 
--- the answers to finished units and a begun unit
+-- the outcomes of the frames of finished units and a begun unit
 abbrev pub answers_in : {X : Type 0} → List (Finished X) → Begun X → List (Answer X)
 answers_in units begun = flat_map finished_answers units ++ begun_answers begun
 
 -- ---- out of turn
 
--- the fault of a frame that is not in turn, by what has begun
+-- Between units neither a content header nor a body is in turn. (Any method is; here and below a frame outside of all content is `Faulted`.)
 abbrev pub fault_between : FrameOutline → ContentFault
 fault_between (outlines.Header channel class size) = faults.UnexpectedHeader
 fault_between (outlines.Body channel count) = faults.UnexpectedBody
@@ -75,16 +75,16 @@ module _ {X : Type 0} (outline : X → FrameOutline) where
   rest_answers begun [] = []
   rest_answers begun (x ∷ xs) = Wrong (fault_after begun (outline x)) ∷ map (λ _. Wrong faults.Faulted) xs
 
-  -- the answers by a reading of the frames
+  -- the outcomes by a reading of the frames
   abbrev pub answers_of : (max : ℕ) (xs : List X) → Reading outline max xs → List (Answer X)
   answers_of max xs reading = answers_in reading.units reading.begun ++ rest_answers reading.begun reading.rest
 
-  -- the answers to frames of one channel, one for each
+  -- the outcomes of frames of one channel, one for each
   pub record Answers (max : ℕ) (xs : List X) (answers : List (Answer X)) : Type 0 where
     pub reading : Reading outline max xs
     pub are : answers ≡ answers_of max xs reading
 
-  -- the last of the answers
+  -- the last of the outcomes
   pub record IsLastAnswer (max : ℕ) (xs : List X) (answer : Answer X) : Type 0 where
     pub before : List (Answer X)
     pub answers : Answers max xs (before ++ answer ∷ [])

@@ -13,7 +13,8 @@ use Rattle.amqp_content.specs.Outcomes.{OutcomeView, passed, held, done, wrong, 
 use Rattle.amqp_content.specs.Sequences.{AreGiven, given_of}
 use Rattle.amqp_content.specs.Splits.{split_of}
 
--- The answers by the longest prefix in turn are those of one step after another, so each list of frames has just one list of answers, and one state stands for it.
+-- The outcomes by the longest prefix in turn are those of one step after another, so each list of frames has just one list of outcomes,
+-- and one state stands for it.
 pub record AnswersAreSteps {X : Type 0} (outline : X → FrameOutline) : Type 0 where
   pub steps : (max : ℕ) (xs : List X) → Answers outline max xs (run_answers outline max (At Nothing) xs)
   pub only : (max : ℕ) (xs : List X) (answers : List (Answer X)) → Answers outline max xs answers → answers ≡ run_answers outline max (At Nothing) xs
@@ -57,7 +58,7 @@ ChannelsAreApart =
     → of_channel outline_of channel frames ≡ of_channel outline_of channel others
     → given_of channel frames outcomes ≡ given_of channel others given
 
--- what the content of a channel gives are the answers to that channel's frames
+-- what the content of a channel gives are the outcomes of that channel's frames
 abbrev pub ChannelsAreAnswered : Type 0
 ChannelsAreAnswered =
     (max channel : ℕ) (frames : List Frame) (outcomes : List OutcomeView)

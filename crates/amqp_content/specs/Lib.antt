@@ -1,3 +1,4 @@
+-- The definitions of amqp_content.
 pub mod Faults
 pub mod Units
 pub mod Answers

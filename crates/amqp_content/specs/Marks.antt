@@ -21,18 +21,18 @@ begun_progress outline Nothing = None
 begun_progress outline (Opened opening) = Some kept.Opened
 begun_progress outline (Headed opening header bodies) = Some (kept.Headed (size_in (outline header)) (bytes_in outline bodies))
 
--- the same of a state
+-- the same of a state; that a fault has come is kept too
 abbrev pub progress_of : {X : Type 0} → (X → FrameOutline) → State X → Option Progress
 progress_of outline (At begun) = begun_progress outline begun
 progress_of outline Lost = Some kept.Faulted
 
--- the body bytes of a begun unit, and the size in its content header
+-- the number of body bytes that a begun unit has
 abbrev pub begun_bytes : {X : Type 0} → (X → FrameOutline) → Begun X → ℕ
 begun_bytes outline Nothing = 0
 begun_bytes outline (Opened opening) = 0
 begun_bytes outline (Headed opening header bodies) = bytes_in outline bodies
 
--- the size in the content header of a begun unit
+-- the size in the content header of a begun unit, 0 where none has come
 abbrev pub begun_size : {X : Type 0} → (X → FrameOutline) → Begun X → ℕ
 begun_size outline Nothing = 0
 begun_size outline (Opened opening) = 0
@@ -46,7 +46,7 @@ mark_in before size (outlines.Body channel count) = marks.Body before (before + 
 mark_in before size outlines.ProtocolHeader = marks.Passed
 mark_in before size (outlines.Heartbeat channel) = marks.Passed
 
--- the mark of an answer
+-- the mark of a frame by its outcome
 abbrev pub mark_of : {X : Type 0} → (X → FrameOutline) → Answer X → Mark
 mark_of outline (Alone x) = marks.Passed
 mark_of outline (Within begun x) = mark_in (begun_bytes outline begun) (begun_size outline begun) (outline x)

@@ -44,7 +44,7 @@ content_of message = record {
 
 -- ---- what a frame gives to its message
 
--- the method in a frame
+-- the method in a frame; other frames have one of class and id 0 with no items
 abbrev pub method_in : Frame → Method
 method_in (Meth channel m) = m
 method_in (Proto major minor revision) = method 0 0 []
@@ -66,7 +66,7 @@ header_in (Body channel content) = no_header
 header_in Beat = no_header
 header_in (BadBeat channel) = no_header
 
--- the body bytes in a frame
+-- the body bytes in a frame; other frames than bodies have none
 abbrev pub bytes_of : Frame → List ℕ
 bytes_of (Body channel content) = content
 bytes_of (Proto major minor revision) = []

@@ -82,7 +82,7 @@ pub record Assembling : Type 0 where
   pub max_body : ℕ
   pub channels : List (ℕ × Kept)
 
--- the same of the channel of a frame
+-- a push of a frame, by what an assembler keeps of the frame's channel
 abbrev pub PushesIn : Assembling → Assembling → Frame → OutcomeView → Type 0
 PushesIn old new frame outcome = Pushes old.max_body (kept_at old.channels (channel_id_of frame)) (kept_at new.channels (channel_id_of frame)) frame outcome
 
@@ -109,12 +109,13 @@ abbrev pub kept_progress : Option Kept → Option Progress
 kept_progress None = None
 kept_progress (Some kept) = Some (progress_kept kept)
 
--- what is kept with a content header, and with more body bytes
+-- what is kept of a message, with its content header; nothing is added to a fault, or where nothing is kept
 abbrev pub with_header : Option Kept → ContentHeader → Option Kept
 with_header None header = None
 with_header (Some (message opening before body)) header = Some (message opening (Some header) body)
 with_header (Some fault) header = Some fault
 
+-- the same with more body bytes, after those that it has
 abbrev pub with_bytes : Option Kept → List ℕ → Option Kept
 with_bytes None bytes = None
 with_bytes (Some (message opening header body)) bytes = Some (message opening header (body ++ bytes))
@@ -131,14 +132,14 @@ abbrev pub IsHeadedThere : Option Kept → Type 0
 IsHeadedThere (Some kept) = IsHeaded kept
 IsHeadedThere None = ⊥
 
--- the whole message that is kept of a channel
+-- the whole message that is kept of a channel, and `held` where no content header has come
 abbrev pub whole_kept : ℕ → Option Kept → OutcomeView
 whole_kept channel (Some (message opening (Some header) body)) = done (record { channel = channel; opening = opening; properties = header.options; body = body })
 whole_kept channel (Some (message opening None body)) = held
 whole_kept channel (Some fault) = held
 whole_kept channel None = held
 
--- what a frame gives, and what is kept after it, by its mark and what was kept
+-- what a frame gives, by its mark and what was kept: a content header of size 0, or the body that reaches the size, gives the whole message
 abbrev pub marked_outcome : Option Kept → Frame → Mark → OutcomeView
 marked_outcome kept frame marks.Passed = passed frame
 marked_outcome kept frame marks.Opening = held
@@ -146,6 +147,7 @@ marked_outcome kept frame marks.Header = if 0 == (header_in frame).body_size the
 marked_outcome kept frame (marks.Body before after size) = if after == size then whole_kept (channel_id_of frame) (with_bytes kept (bytes_of frame)) else held
 marked_outcome kept frame (marks.Fault bad) = wrong bad
 
+-- what is kept after a frame, by its mark and what was kept: nothing of a message that it completes, and of a fault that it has come
 abbrev pub kept_marked : Option Kept → Frame → Mark → Option Kept
 kept_marked kept frame marks.Passed = kept
 kept_marked kept frame marks.Opening = Some (message (method_in frame) None [])
@@ -158,7 +160,7 @@ abbrev pub mark_kept : ℕ → Option Kept → Frame → Mark
 mark_kept max kept frame = mark_after max (kept_progress kept) (outline_of frame)
 
 -- what a frame of content gives, and what is kept after it, where it has this mark
-pub record Takes (before after : Option Kept) (frame : Frame) (mark : Mark) (outcome : OutcomeView) : Type 0 where
+pub record TakesFrame (before after : Option Kept) (frame : Frame) (mark : Mark) (outcome : OutcomeView) : Type 0 where
   pub gives : outcome ≡ marked_outcome before frame mark
   pub keeps : after ≡ kept_marked before frame mark
 
@@ -168,9 +170,10 @@ IsMessage (Some (message opening header body)) = Unit {0}
 IsMessage (Some fault) = ⊥
 IsMessage None = ⊥
 
--- the same of the channel of a frame, with a mark, and with the mark that the frame has
+-- the same of the channel of a frame, in an assembler before and after
 abbrev pub TakesIn : Assembling → Assembling → Frame → Mark → OutcomeView → Type 0
-TakesIn old new frame mark outcome = Takes (kept_at old.channels (channel_id_of frame)) (kept_at new.channels (channel_id_of frame)) frame mark outcome
+TakesIn old new frame mark outcome = TakesFrame (kept_at old.channels (channel_id_of frame)) (kept_at new.channels (channel_id_of frame)) frame mark outcome
 
+-- the same, where the mark is the one that the frame has by what was kept of its channel
 abbrev pub TakesMarked : Assembling → Assembling → Frame → OutcomeView → Type 0
 TakesMarked old new frame outcome = TakesIn old new frame (mark_kept old.max_body (kept_at old.channels (channel_id_of frame)) frame) outcome

@@ -5,7 +5,7 @@ use Rattle.amqp_frame.specs.Outlines.{outline_of}
 use Rattle.amqp_content.specs.Units.{is_content, is_of_channel, of_channel}
 use Rattle.amqp_content.specs.Outcomes.{OutcomeView, passed, IsOutcomeOf}
 
--- What a frame gives after these: outside of all content it is passed; else it gives the last of the answers to its channel's frames up to it.
+-- What a frame gives after these: outside of all content it is passed; else it gives the last of the outcomes of its channel's frames up to it.
 pub record IsGiven (max : ℕ) (before : List Frame) (frame : Frame) (outcome : OutcomeView) : Type 0 where
   pub outside : is_content (outline_of frame) ≡ false → outcome ≡ passed frame
   pub inside : is_content (outline_of frame) ≡ true → IsOutcomeOf max (of_channel outline_of (channel_id_of frame) (before ++ frame ∷ [])) outcome

@@ -1,4 +1,4 @@
--- A message as frames.
+-- A message, split into frames.
 use Rattle.std.specs.Prelude.{ℕ, ◌+◌, ◌-◌, ◌*◌, ◌/◌, List, ◌∷◌, map, take, drop, length}
 use Rattle.std.specs.List.{range_with_len}
 use Rattle.amqp_properties.specs.Options.{options}
@@ -6,7 +6,7 @@ use Rattle.amqp_types.specs.ContentHeaders.{ContentHeader}
 use Rattle.amqp_frame.specs.Frames.{Frame, Meth, Head, Body}
 use Rattle.amqp_content.specs.Messages.{Parts, opening_method}
 
--- how many k have k * m below n
+-- how many k have k * m below n, for an m that is not 0
 abbrev pub piece_count : ℕ → ℕ → ℕ
 piece_count m n = (n + (m - 1)) / m
 

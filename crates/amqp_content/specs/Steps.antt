@@ -22,7 +22,7 @@ header_mark max class size = if class == 60 then (if nat_le size max then marks.
 abbrev pub body_mark : ℕ → ℕ → ℕ → Mark
 body_mark size seen count = if nat_le (seen + count) size then marks.Body seen (seen + count) size else marks.Fault faults.BodyOverrun
 
--- a method between units
+-- a method between units: one that a content header has to follow opens a message, any other is passed
 abbrev pub method_mark : ℕ → ℕ → Mark
 method_mark class id = if is_opening_id class id then marks.Opening else marks.Passed
 
@@ -74,7 +74,7 @@ begun_with (Opened opening) x = Headed opening x []
 begun_with (Headed opening header bodies) x = Headed opening header (bodies ++ x ∷ [])
 
 module _ {X : Type 0} (outline : X → FrameOutline) where
-  -- the answer to one frame more, and the state after it, by its mark
+  -- the outcome of one frame more, and the state after it, by its mark
   abbrev pub step_marked : Begun X → X → Mark → Answer X × State X
   step_marked begun x marks.Passed = (Alone x, At begun)
   step_marked begun x marks.Opening = (Within begun x, At (begun_with begun x))
@@ -82,12 +82,12 @@ module _ {X : Type 0} (outline : X → FrameOutline) where
   step_marked begun x (marks.Body before after size) = if after == size then (Ends begun x, At Nothing) else (Within begun x, At (begun_with begun x))
   step_marked begun x (marks.Fault fault) = (Wrong fault, Lost)
 
-  -- the answer to one frame more, and the state after it
+  -- the outcome of one frame more, and the state after it; a frame outside of all content would be a fault here
   abbrev pub step : ℕ → State X → X → Answer X × State X
   step max (At begun) x = if is_content (outline x) then step_marked begun x (mark_after max (begun_progress outline begun) (outline x)) else (Wrong (fault_after begun (outline x)), Lost)
   step max Lost x = (Wrong faults.Faulted, Lost)
 
-  -- the answers to frames, one step after another
+  -- the outcomes of frames, one step after another
   abbrev pub run_answers : ℕ → State X → List X → List (Answer X)
   run_answers max state [] = []
   run_answers max state (x ∷ xs) = (step max state x).0 ∷ run_answers max (step max state x).1 xs

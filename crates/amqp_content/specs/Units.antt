@@ -15,7 +15,7 @@ is_content (outlines.Header channel class size) = true
 is_content (outlines.Body channel count) = true
 is_content (outlines.Heartbeat channel) = false
 
--- basic Publish, Return, Deliver and GetOk: a content header has to follow them
+-- basic Publish, Return, Deliver and GetOk (class 60, methods 40, 50, 60 and 71): a content header has to follow them
 abbrev pub is_opening_id : ℕ → ℕ → Bool
 is_opening_id class id = (class == 60) && ((id == 40) || ((id == 50) || ((id == 60) || (id == 71))))
 
@@ -98,7 +98,7 @@ abbrev pub frames_in : {X : Type 0} → List (Finished X) → Begun X → List X
 frames_in units begun = flat_map finished_frames units ++ begun_frames begun
 
 module _ {X : Type 0} (outline : X → FrameOutline) where
-  -- frames of one channel that are content
+  -- a frame that is content, on this channel
   abbrev pub is_of_channel : ℕ → X → Bool
   is_of_channel channel x = is_content (outline x) && (outline_channel (outline x) == channel)
 
@@ -111,14 +111,15 @@ module _ {X : Type 0} (outline : X → FrameOutline) where
   bytes_in [] = 0
   bytes_in (x ∷ xs) = count_in (outline x) + bytes_in xs
 
-  -- An opening may lack its content header, and a content header of a size up to the greatest for more bytes.
+  -- What has begun: nothing; an opening; or an opening, a content header of the class basic and of a size up to the greatest, and bodies
+  -- of fewer bytes than that.
   abbrev pub IsBegun : ℕ → Begun X → Type 0
   IsBegun max Nothing = Unit {0}
   IsBegun max (Opened opening) = IsOpening (outline opening)
   IsBegun max (Headed opening header bodies) =
       IsOpening (outline opening) × IsBasicHeader (outline header) × (size_in (outline header) ≤ max) × AllByRecursion (λ x. IsBody (outline x)) bodies × (bytes_in bodies < size_in (outline header))
 
-  -- The bodies of a finished message add up to its size, and all but the last to less.
+  -- What is finished: a method that opens no message; or a message, whose bodies add up to its size, and all but the last to less.
   abbrev pub IsFinished : ℕ → Finished X → Type 0
   IsFinished max (Lone method) = IsOtherMethod (outline method)
   IsFinished max (Empty opening header) = IsOpening (outline opening) × IsBasicHeader (outline header) × (size_in (outline header) ≡ 0)

@@ -4,7 +4,7 @@ ghost use Rattle.amqp_frame.specs.Outlines.{outline_of};
 ghost use Rattle.amqp_content.specs.Marks.{itself};
 ghost use Rattle.amqp_content.specs.Laws.{AnswersAreSteps, SplitsAreWhole, ChannelsAreAnswered, ChannelsAreApart};
 
-/// The answers to the frames of a channel are those of one step after another.
+/// The outcomes of the frames of a channel are those of one step after another.
 pub fn answers_are_steps()
     ensures frames { AnswersAreSteps outline_of }
     ensures outlines { AnswersAreSteps itself }
@@ -15,7 +15,7 @@ pub fn splits_are_whole()
     ensures { SplitsAreWhole }
 {}
 
-/// What an assembler gives for the frames of a channel are the answers to these frames.
+/// What an assembler gives for the frames of a channel are the outcomes of these frames.
 pub fn channels_are_answered()
     ensures { ChannelsAreAnswered }
 {}

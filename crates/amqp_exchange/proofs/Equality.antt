@@ -31,16 +31,16 @@ declare_to : (a b : Declare) → a ≡ b → SameDeclare a b
 unfolding SameDeclare
 declare_to a b e = search rules
 
-same_declare : (a b : Declare) → Decides (declare.ghosts.eq a b) (a ≡ b)
+pub same_declare : (a b : Declare) → Decides (declare.ghosts.eq a b) (a ≡ b)
 same_declare a b = (λ h. declare_of a b ((declare_fields a b).0 h), λ e. (declare_fields a b).1 (declare_to a b e))
 
-same_delete : (a b : Delete) → Decides (delete.ghosts.eq a b) (a ≡ b)
+pub same_delete : (a b : Delete) → Decides (delete.ghosts.eq a b) (a ≡ b)
 same_delete a b = search rules
 
-same_bind : (a b : Bind) → Decides (bind.ghosts.eq a b) (a ≡ b)
+pub same_bind : (a b : Bind) → Decides (bind.ghosts.eq a b) (a ≡ b)
 same_bind a b = search (rules, same_tables)
 
-same_unbind : (a b : Unbind) → Decides (unbind.ghosts.eq a b) (a ≡ b)
+pub same_unbind : (a b : Unbind) → Decides (unbind.ghosts.eq a b) (a ≡ b)
 same_unbind a b = search (rules, same_tables)
 
 same : (a b : AMQPMethod) → method.ghosts.eq a b ≡ true → a ≡ b

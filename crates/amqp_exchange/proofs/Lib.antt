@@ -1,1 +1,2 @@
+-- The lemmas of amqp_exchange.
 pub mod Equality

@@ -1,1 +1,2 @@
+-- The definitions of amqp_exchange.
 pub mod Exchange

@@ -6,7 +6,7 @@ use Rattle.amqp_types.specs.Judging.{Fault, Judged, past, fault, took}
 use Rattle.amqp_frame.specs.Frames.{Frame, Raw}
 use Rattle.amqp_frame.specs.Outer.{outer}
 use Rattle.amqp_frame.specs.Verdicts.{verdict, judged, judged_frame, is_at, whole}
-use Rattle.amqp_frame.specs.Fronts.{cut, front, place, Precedes}
+use Rattle.amqp_frame.specs.Fronts.{cut, front, place, ComesBefore}
 use Rattle.amqp_frame.proofs.OuterLook.{outer-append, outer-exact, outer-in_bounds, outer-none}
 
 -- it is no frame
@@ -67,7 +67,7 @@ cut-enough level m (suc n) (suc k) bytes h g = cut-step level m n k bytes h g (�
 
 -- after a frame at the front
 pub record GoesOn (level : Level) (m : Option ℕ) (bytes : List ℕ) (f : Frame) (rest : List ℕ) : Type 0 where
-  pub row : front level m bytes ≡ f ∷ front level m rest
+  pub sequence : front level m bytes ≡ f ∷ front level m rest
   pub after : place level m bytes ≡ place level m rest
 
 -- one more cut
@@ -82,7 +82,7 @@ front-got level m bytes f n e =
     let step : cut level m (suc (length bytes)) bytes ≡ (f ∷ (cut level m (length bytes) (drop n bytes)).0, (cut level m (length bytes) (drop n bytes)).1) = rw e refl in
     let all = cut-more level m bytes ∙ step in
     record {
-      row = ap (λ (p : List Frame × List ℕ). p.0) all ∙ ap (λ (p : List Frame × List ℕ). f ∷ p.0) same;
+      sequence = ap (λ (p : List Frame × List ℕ). p.0) all ∙ ap (λ (p : List Frame × List ℕ). f ∷ p.0) same;
       after = ap (λ (p : List Frame × List ℕ). p.1) all ∙ ap (λ (p : List Frame × List ℕ). p.1) same;
     }
 
@@ -99,8 +99,8 @@ front-stop level m bytes h =
     let all = cut-more level m bytes ∙ cut-stop level m (length bytes) bytes (verdict level m bytes) refl h in
     (ap (λ (p : List Frame × List ℕ). p.0) all, ap (λ (p : List Frame × List ℕ). p.1) all)
 
-pub Precedes-none : (level : Level) (m : Option ℕ) → Precedes level m [] []
-Precedes-none level m = record { row = λ rest. refl; after = λ rest. refl }
+pub ComesBefore-none : (level : Level) (m : Option ℕ) → ComesBefore level m [] []
+ComesBefore-none level m = record { sequence = λ rest. refl; after = λ rest. refl }
 
 decided_got : (level : Level) (m : Option ℕ) (bytes : List ℕ) (f : Frame) (n : ℕ) → verdict level m bytes ≡ took f n → verdict level m bytes ≢ past
 decided_got level m bytes f n e h = absurd (cc)
@@ -113,13 +113,13 @@ verdict-exact level m bytes rest f n e =
     ap (judged level) (outer-exact m bytes rest found.0 n found.1 ∙ sym found.1) ∙ e
 
 -- one more frame
-pub Precedes-more : (level : Level) (m : Option ℕ) (used held : List ℕ) (frames : List Frame) (f : Frame) (n : ℕ) → Precedes level m used frames → verdict level m held ≡ took f n → Precedes level m (used ++ take n held) (frames ++ f ∷ [])
-Precedes-more level m used held frames f n p e =
+pub ComesBefore-more : (level : Level) (m : Option ℕ) (used held : List ℕ) (frames : List Frame) (f : Frame) (n : ℕ) → ComesBefore level m used frames → verdict level m held ≡ took f n → ComesBefore level m (used ++ take n held) (frames ++ f ∷ [])
+ComesBefore-more level m used held frames f n p e =
     let at = verdict-got_within level m held f n e in
     let goes : (rest : List ℕ) → GoesOn level m (take n held ++ rest) f rest = λ rest.
     subst (λ (xs : List ℕ). GoesOn level m (take n held ++ rest) f xs) (drop_at (take n held) rest n (length-take-le n held at.1)) (front-got level m (take n held ++ rest) f n (verdict-exact level m held rest f n e)) in
     record {
-      row = λ rest. rw (append_assoc used (take n held) rest, append_assoc frames (f ∷ []) (front level m rest)) (p.row (take n held ++ rest) ∙ ap (λ (fs : List Frame). frames ++ fs) (goes rest).row);
+      sequence = λ rest. rw (append_assoc used (take n held) rest, append_assoc frames (f ∷ []) (front level m rest)) (p.sequence (take n held ++ rest) ∙ ap (λ (fs : List Frame). frames ++ fs) (goes rest).sequence);
       after = λ rest. rw (append_assoc used (take n held) rest) (p.after (take n held ++ rest) ∙ (goes rest).after);
     }
 

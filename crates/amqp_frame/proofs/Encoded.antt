@@ -23,7 +23,8 @@ use Rattle.amqp_frame.specs.Verdicts.{all_of, whole_as, is_tidy_as, is_written_f
 use Rattle.amqp_frame.specs.Spelling.{head, framed, proto, byte_of, IsBeatPayload, IsFramed, IsBeat, Spells, IsWithin}
 use Rattle.amqp_frame.proofs.OuterLook.{mark, typed, outer-typed, outer-none, behind_byte-took}
 use Rattle.amqp_frame.proofs.Typed.{method_at, method_spells, header_at, header_spells}
-use Rattle.amqp_frame.proofs.Spelled.{raw_as, framed-length}
+use Rattle.amqp_frame.proofs.Spelled.{raw_as}
+use Rattle.amqp_frame.proofs.Sizes.{framed_length}
 
 -- ---- type bytes
 
@@ -111,7 +112,7 @@ framed-made m kind b (c1 ∷ c0 ∷ n3 ∷ n2 ∷ n1 ∷ n0 ∷ tail) raw n fits
       bytes_are = whole;
     } in
     subst (λ r. IsFramed (b ∷ take n bytes) b r.channel r.payload × IsWithin m (b ∷ take n bytes)) (sym h.raw_is)
-    (made, within_from m size (b ∷ take n bytes) h.low (ap length whole ∙ framed-length b channel payload ∙ ap (λ k. k + 8) len))
+    (made, within_from m size (b ∷ take n bytes) h.low (ap length whole ∙ framed_length b channel payload ∙ ap (λ k. k + 8) len))
 
 -- ---- a protocol header
 

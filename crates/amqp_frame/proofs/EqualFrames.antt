@@ -38,7 +38,7 @@ same_header a b = (λ h. header_of_parts a b ((header_parts a b).0 h), λ e. (he
 
 -- ---- frames
 
-same_version : (a b : ProtocolVersion) → Decides (version.ghosts.eq a b) (a ≡ b)
+pub same_version : (a b : ProtocolVersion) → Decides (version.ghosts.eq a b) (a ≡ b)
 same_version a b = search rules
 
 same : (a b : AMQPFrame) → frame.ghosts.eq a b ≡ true → a ≡ b

@@ -9,7 +9,7 @@ use Rattle.amqp_types.specs.Levels.{Level, tidy}
 use Rattle.amqp_types.specs.Judging.{Judge, IsBytes}
 use Rattle.amqp_types.specs.Answers.{Refuses}
 use Rattle.amqp_types.specs.FormLaws.{IsLawful}
-use Rattle.amqp_types.specs.Tidiness.{IsToldBy, is_tidy_payload, is_tidy_content_header}
+use Rattle.amqp_types.specs.Tidiness.{IsDecidedBy, is_tidy_payload, is_tidy_content_header}
 use Rattle.amqp_types.specs.ValueJudging.{inside_error, read_map}
 use Rattle.amqp_types.specs.Methods.{judge_payload, payload_bytes}
 use Rattle.amqp_types.specs.MethodSpelling.{SpellsPayload}
@@ -17,11 +17,11 @@ use Rattle.amqp_types.specs.ContentHeaders.{judge_content_header, SpellsContentH
 use Rattle.amqp_types.specs.declared.errors.ParserError.{ParserError}
 use Rattle.amqp_types.specs.declared.errors.ParserError.TheVariants as errors
 use Rattle.amqp_values.proofs.MethodLaws.{payloads_lawful}
-use Rattle.amqp_values.proofs.Tidiness.{payloads_told}
+use Rattle.amqp_values.proofs.Tidiness.{payloads_decided}
 use Rattle.amqp_values.proofs.PayloadFaults.{payloads_inside}
 use Rattle.amqp_properties.proofs.HeaderLaws.{content_headers_lawful}
 use Rattle.amqp_properties.proofs.PropertyFaults.{content_headers_inside}
-use Rattle.amqp_properties.proofs.Tidiness.{content_headers_told}
+use Rattle.amqp_properties.proofs.Tidiness.{content_headers_decided}
 use Rattle.amqp_types.specs.PayloadFaults.{FailsInside}
 use Rattle.amqp_canonical.specs.declared.slots.Judgement.{Judgement}
 use Rattle.amqp_canonical.specs.Judgements.{MayRefuse}
@@ -33,7 +33,7 @@ use Rattle.amqp_frame.specs.Frames.{Frame, Proto, Meth, Head, Body, beat_on}
 use Rattle.amqp_frame.specs.Canonical.{payload_of}
 use Rattle.amqp_frame.specs.Spelling.{Spells, bytes_as}
 use Rattle.amqp_frame.proofs.Spelled.{raw_as}
-use Rattle.amqp_frame.proofs.Tidied.{frame_told}
+use Rattle.amqp_frame.proofs.Tidied.{frame_decided}
 use Rattle.amqp_frame.specs.Judgements.{IsAll, JudgesAll, IsJudged, JudgesFrame}
 use Rattle.amqp_frame.specs.Verdicts.{all_of, whole_as, is_tidy_as}
 use Rattle.amqp_frame.proofs.Payloads as payloads
@@ -61,7 +61,7 @@ inside_fault errors.NoMemory h = h
 
 -- ---- what a whole payload is, where decoding it is lawful
 
-module _ {A : Type 0} (judge : Judge A) (Spells : Level → List ℕ → A → Type 0) (canonical : A → List ℕ) (is_tidy : List ℕ → Bool) (lawful : IsLawful judge Spells canonical) (told : IsToldBy judge (Spells tidy) is_tidy) (inside : FailsInside judge) where
+module _ {A : Type 0} (judge : Judge A) (Spells : Level → List ℕ → A → Type 0) (canonical : A → List ℕ) (is_tidy : List ℕ → Bool) (lawful : IsLawful judge Spells canonical) (decides : IsDecidedBy judge (Spells tidy) is_tidy) (inside : FailsInside judge) where
   -- all of the payload was used
   is_all : (payload : List ℕ) (found : Judgement) → IsBytes payload → found.used ≡ length payload → TakesTidily (λ bytes x. bytes ≡ canonical x) (Spells tidy) found payload (judge payload)
       → IsAll judge canonical is_tidy payload (record { canonical = found.canonical; tidy = found.tidy })
@@ -74,8 +74,8 @@ module _ {A : Type 0} (judge : Judge A) (Spells : Level → List ℕ → A → T
         is = is;
         canonical_is = same_test found.canonical (bytes_eq payload (canonical h.thing)) (λ e. written.1 (sym used ∙ h.canonical.0 e)) (λ e. h.canonical.1 (used ∙ written.0 e));
         tidy_is = same_test found.tidy (is_tidy payload)
-            (λ e. payloads.spelled_at judge Spells canonical is_tidy lawful told tidy payload h.thing (subst (λ bytes. Spells tidy bytes h.thing) used (h.tidy.0 e)))
-            (λ e. h.tidy.1 (subst (λ bytes. Spells tidy bytes h.thing) (sym used) (payloads.whole_spells judge Spells canonical is_tidy lawful told tidy payload h.thing fits is e)));
+            (λ e. payloads.spelled_at judge Spells canonical is_tidy lawful decides tidy payload h.thing (subst (λ bytes. Spells tidy bytes h.thing) used (h.tidy.0 e)))
+            (λ e. h.tidy.1 (subst (λ bytes. Spells tidy bytes h.thing) (sym used) (payloads.whole_spells judge Spells canonical is_tidy lawful decides tidy payload h.thing fits is e)));
       }
 
   -- a refusal of what is decoded
@@ -89,22 +89,22 @@ module _ {A : Type 0} (judge : Judge A) (Spells : Level → List ℕ → A → T
   is_trailing payload found less h = ((tt, λ e. cc), payloads.fills_less (length payload) found.used (judge payload) h.thing h.is less)
 
 pub method_all : (payload : List ℕ) (found : Judgement) → IsBytes payload → found.used ≡ length payload → JudgesPayload payload (Ok found) → JudgesAll judge_payload payload_bytes is_tidy_payload payload (Ok (record { canonical = found.canonical; tidy = found.tidy }))
-method_all = is_all judge_payload SpellsPayload payload_bytes is_tidy_payload payloads_lawful payloads_told payloads_inside
+method_all = is_all judge_payload SpellsPayload payload_bytes is_tidy_payload payloads_lawful payloads_decided payloads_inside
 
 pub method_refused : (payload : List ℕ) (error : ParserError) → JudgesPayload payload (Err error) → JudgesAll judge_payload payload_bytes is_tidy_payload payload (Err (inside_error error))
-method_refused = is_refused judge_payload SpellsPayload payload_bytes is_tidy_payload payloads_lawful payloads_told payloads_inside
+method_refused = is_refused judge_payload SpellsPayload payload_bytes is_tidy_payload payloads_lawful payloads_decided payloads_inside
 
 pub method_trailing : (payload : List ℕ) (found : Judgement) → found.used < length payload → JudgesPayload payload (Ok found) → JudgesAll judge_payload payload_bytes is_tidy_payload payload (Err errors.TrailingBytes)
-method_trailing = is_trailing judge_payload SpellsPayload payload_bytes is_tidy_payload payloads_lawful payloads_told payloads_inside
+method_trailing = is_trailing judge_payload SpellsPayload payload_bytes is_tidy_payload payloads_lawful payloads_decided payloads_inside
 
 pub header_all : (payload : List ℕ) (found : Judgement) → IsBytes payload → found.used ≡ length payload → JudgesContentHeader payload (Ok found) → JudgesAll judge_content_header content_header_bytes is_tidy_content_header payload (Ok (record { canonical = found.canonical; tidy = found.tidy }))
-header_all = is_all judge_content_header SpellsContentHeader content_header_bytes is_tidy_content_header content_headers_lawful content_headers_told content_headers_inside
+header_all = is_all judge_content_header SpellsContentHeader content_header_bytes is_tidy_content_header content_headers_lawful content_headers_decided content_headers_inside
 
 pub header_refused : (payload : List ℕ) (error : ParserError) → JudgesContentHeader payload (Err error) → JudgesAll judge_content_header content_header_bytes is_tidy_content_header payload (Err (inside_error error))
-header_refused = is_refused judge_content_header SpellsContentHeader content_header_bytes is_tidy_content_header content_headers_lawful content_headers_told content_headers_inside
+header_refused = is_refused judge_content_header SpellsContentHeader content_header_bytes is_tidy_content_header content_headers_lawful content_headers_decided content_headers_inside
 
 pub header_trailing : (payload : List ℕ) (found : Judgement) → found.used < length payload → JudgesContentHeader payload (Ok found) → JudgesAll judge_content_header content_header_bytes is_tidy_content_header payload (Err errors.TrailingBytes)
-header_trailing = is_trailing judge_content_header SpellsContentHeader content_header_bytes is_tidy_content_header content_headers_lawful content_headers_told content_headers_inside
+header_trailing = is_trailing judge_content_header SpellsContentHeader content_header_bytes is_tidy_content_header content_headers_lawful content_headers_decided content_headers_inside
 
 -- ---- frames
 
@@ -135,9 +135,9 @@ pub body_frame : (channel : ℕ) (payload : List ℕ) → JudgesFrame (raw_as ki
 unfolding whole_as is_tidy_as
 body_frame channel payload = record { frame = Body channel payload; is = refl; canonical = same_bytes payload; tidy = refl }
 
-empty_told : (payload : List ℕ) → bytes_eq payload [] ≡ eqb (length payload) 0
-empty_told [] = refl
-empty_told (byte ∷ payload) = sym (ne_eqb (length (byte ∷ payload)) 0 (λ e. absurd (omega (arith, e))))
+empty_decided : (payload : List ℕ) → bytes_eq payload [] ≡ eqb (length payload) 0
+empty_decided [] = refl
+empty_decided (byte ∷ payload) = sym (ne_eqb (length (byte ∷ payload)) 0 (λ e. absurd (omega (arith, e))))
 
 payload_of-beat : (channel : ℕ) → payload_of (beat_on channel) ≡ []
 payload_of-beat channel = elim (cases_eq channel 0) [
@@ -150,7 +150,7 @@ unfolding whole_as is_tidy_as
 beat_frame channel payload empty e = record {
   frame = beat_on channel;
   is = refl;
-  canonical = e ∙ sym (empty_told payload) ∙ ap (bytes_eq payload) (sym (payload_of-beat channel));
+  canonical = e ∙ sym (empty_decided payload) ∙ ap (bytes_eq payload) (sym (payload_of-beat channel));
   tidy = e;
 }
 
@@ -182,8 +182,8 @@ pub judged_as : (kind other : AMQPFrameType) (channel : ℕ) (payload : List ℕ
 judged_as kind other channel payload r is h = let P : AMQPFrameType → Type 0 = λ k. JudgesFrame (raw_as k channel payload) r in subst P (sym is) h
 
 -- a test says exactly what is tidy, as it was decoded
-pub tidy_told : (kind : AMQPFrameType) (channel : ℕ) (payload : List ℕ) (frame : Frame) (found : FrameJudgement) → IsBytes payload → channel < 2 ^ 16 → length payload < 2 ^ 32 → whole_as kind channel payload ≡ Ok frame → IsJudged (raw_as kind channel payload) found
+pub tidy_decided : (kind : AMQPFrameType) (channel : ℕ) (payload : List ℕ) (frame : Frame) (found : FrameJudgement) → IsBytes payload → channel < 2 ^ 16 → length payload < 2 ^ 32 → whole_as kind channel payload ≡ Ok frame → IsJudged (raw_as kind channel payload) found
     → IsTrue found.tidy ↔ Spells tidy (bytes_as kind channel payload) frame
-tidy_told kind channel payload frame found fits on few is h =
-    let told = frame_told kind channel payload frame fits on few is in
-    (λ t. told.0 (sym h.tidy ∙ t), λ s. h.tidy ∙ told.1 s)
+tidy_decided kind channel payload frame found fits on few is h =
+    let decides = frame_decided kind channel payload frame fits on few is in
+    (λ t. decides.0 (sym h.tidy ∙ t), λ s. h.tidy ∙ decides.1 s)

@@ -1,3 +1,4 @@
+-- The lemmas of amqp_frame.
 pub mod OuterLook
 pub mod Looked
 pub mod Cuts
@@ -7,7 +8,7 @@ pub mod Spelled
 pub mod Encoded
 pub mod Outlined
 pub mod Tidied
-pub mod Rows
+pub mod Sequences
 pub mod Strictness
 pub mod Holding
 pub mod ReadingBack

@@ -8,7 +8,7 @@ use Rattle.amqp_frame.specs.Frames.{Raw}
 use Rattle.amqp_frame.specs.Looks.{looked, looked_behind, laid_out_behind, IsBehind}
 use Rattle.amqp_frame.proofs.OuterLook.{behind_byte}
 
-abbrev raw_with : FrameLayout → List ℕ → Raw
+abbrev pub raw_with : FrameLayout → List ℕ → Raw
 raw_with layout payload = record { kind = layout.frame_type; channel = layout.channel_id; payload = payload }
 
 drop-one_more : (k : ℕ) (b : ℕ) (rest : List ℕ) → 1 ≤ k → drop k (b ∷ rest) ≡ drop (k - 1) rest

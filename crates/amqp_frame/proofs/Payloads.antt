@@ -9,7 +9,7 @@ use Rattle.amqp_types.specs.Judging.{Fault, Judged, Judge, past, fault, took, tr
 use Rattle.amqp_types.specs.Answers.{Refuses, RefusesWhole}
 use Rattle.amqp_types.specs.ValueJudging.{inside_error, read_map}
 use Rattle.amqp_types.specs.FormLaws.{IsLawful}
-use Rattle.amqp_types.specs.Tidiness.{IsToldBy}
+use Rattle.amqp_types.specs.Tidiness.{IsDecidedBy}
 use Rattle.amqp_types.specs.declared.errors.ParserError.{ParserError}
 use Rattle.amqp_types.specs.declared.errors.ParserError.TheVariants as errors
 use Rattle.amqp_types.proofs.FormLaws.{is_plain}
@@ -72,7 +72,7 @@ filled_took n (took y used) x h = elim (cases_eq used n) [
 abbrev pub same_bytes : List ℕ → List ℕ → Bool
 same_bytes = bytes_eq
 
-module _ {A : Type 0} (judge : Judge A) (Spells : Level → List ℕ → A → Type 0) (canonical : A → List ℕ) (is_tidy : List ℕ → Bool) (lawful : IsLawful judge Spells canonical) (told : IsToldBy judge (Spells tidy) is_tidy) where
+module _ {A : Type 0} (judge : Judge A) (Spells : Level → List ℕ → A → Type 0) (canonical : A → List ℕ) (is_tidy : List ℕ → Bool) (lawful : IsLawful judge Spells canonical) (decides : IsDecidedBy judge (Spells tidy) is_tidy) where
   -- whether a payload that is decoded to be x is encoded at the level
   abbrev pub spells_at : Level → List ℕ → A → Bool
   spells_at plain payload x = true
@@ -88,7 +88,7 @@ module _ {A : Type 0} (judge : Judge A) (Spells : Level → List ℕ → A → T
   at_level plain payload x fits e h = whole_is_plain payload x fits e
   at_level tidy payload x fits e h =
       let P : List ℕ → Type 0 = λ bytes. Spells tidy bytes x in
-      subst P (take_all (length payload) payload (omega arith)) (told.spelled payload x (length payload) fits e h)
+      subst P (take_all (length payload) payload (omega arith)) (decides.spelled payload x (length payload) fits e h)
   at_level strict payload x fits e h =
       let P : List ℕ → Type 0 = λ bytes. Spells strict bytes x in
       subst P (sym ((bytes_eq-Decides payload (canonical x)).0 h)) (lawful.canonical_is_strict payload x (whole_is_plain payload x fits e))
@@ -106,5 +106,5 @@ module _ {A : Type 0} (judge : Judge A) (Spells : Level → List ℕ → A → T
 
   pub spelled_at : (level : Level) (payload : List ℕ) (x : A) → Spells level payload x → spells_at level payload x ≡ true
   spelled_at plain payload x s = refl
-  spelled_at tidy payload x s = ap is_tidy (sym (append-nil payload)) ∙ told.tested payload [] x s
+  spelled_at tidy payload x s = ap is_tidy (sym (append-nil payload)) ∙ decides.tested payload [] x s
   spelled_at strict payload x s = (bytes_eq-Decides payload (canonical x)).1 (lawful.strict_is_canonical payload x s)

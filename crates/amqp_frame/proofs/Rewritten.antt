@@ -12,8 +12,8 @@ use Rattle.amqp_types.specs.ContentHeaders.{SpellsContentHeader, judge_content_h
 use Rattle.amqp_values.proofs.MethodLaws.{payloads_lawful}
 use Rattle.amqp_properties.proofs.HeaderLaws.{content_headers_lawful}
 use Rattle.amqp_types.proofs.Puts.{puts_then}
-use Rattle.amqp_canonical.specs.Writes.{IsRead, canonical_of, used_of}
-use Rattle.amqp_canonical.specs.WritingLaws.{IsNoLonger}
+use Rattle.amqp_canonical.specs.Writes.{IsRead, canonical_of}
+use Rattle.amqp_canonical.specs.WritingLaws.{WritesNoLonger}
 use Rattle.amqp_canonical.proofs.NoLonger.{payloads_no_longer, content_headers_no_longer}
 use Rattle.amqp_frame.specs.declared.frame_type.AMQPFrameType.{AMQPFrameType}
 use Rattle.amqp_frame.specs.declared.frame_type.AMQPFrameType.TheVariants as kinds
@@ -25,20 +25,21 @@ use Rattle.amqp_frame.specs.Judgements.{IsJudged}
 use Rattle.amqp_frame.specs.Rewrites.{Rewrites}
 use Rattle.amqp_frame.specs.Verdicts.{all_of, is_written_for, whole, whole_as}
 use Rattle.amqp_frame.proofs.Payloads.{filled_took}
+use Rattle.amqp_types.specs.Tidiness.{used_by}
 
 -- ---- what a payload was decoded to be
 
-mapped : {A : Type 0} (make : A → Frame) (r : Result A Fault) (f : Frame) → read_map make r ≡ Ok f → (x : A) × (r ≡ Ok x) × (make x ≡ f)
+pub mapped : {A : Type 0} (make : A → Frame) (r : Result A Fault) (f : Frame) → read_map make r ≡ Ok f → (x : A) × (r ≡ Ok x) × (make x ≡ f)
 mapped make (Ok x) f h = (x, refl, cc)
 mapped make (Err bad) f h = absurd cc
 
 -- no more is used than there is
-taken_within : {A : Type 0} (judge : Judge A) (j : Judged A) (payload : List ℕ) → ((x : A) (n : ℕ) → j ≡ took x n → n ≤ length payload) → IsRead j → used_of j ≤ length payload
+taken_within : {A : Type 0} (judge : Judge A) (j : Judged A) (payload : List ℕ) → ((x : A) (n : ℕ) → j ≡ took x n → n ≤ length payload) → IsRead j → used_by j ≤ length payload
 taken_within judge (took x n) payload within read = within x n refl
 taken_within judge past payload within read = absurd read
 taken_within judge (fault bad) payload within read = absurd read
 
-used_within : {A : Type 0} (judge : Judge A) (Spells : Level → List ℕ → A → Type 0) (payload : List ℕ) → IsBytes payload → IsExact judge (Spells plain) → IsRead (judge payload) → used_of (judge payload) ≤ length payload
+used_within : {A : Type 0} (judge : Judge A) (Spells : Level → List ℕ → A → Type 0) (payload : List ℕ) → IsBytes payload → IsExact judge (Spells plain) → IsRead (judge payload) → used_by (judge payload) ≤ length payload
 used_within judge Spells payload fits exact read = taken_within judge (judge payload) payload (λ x n is. (exact.spelled payload x n fits is).1) read
 
 -- A payload that is something, the frame that this is, and its canonical bytes, which are no longer than the payload.
@@ -50,7 +51,7 @@ pub record Payload {A : Type 0} (make : A → Frame) (bytes : A → List ℕ) (j
   pub canonical_is : canonical_of bytes judged ≡ bytes thing
   pub shorter : length (canonical_of bytes judged) ≤ length payload
 
-payload_of_all : {A : Type 0} (make : A → Frame) (bytes : A → List ℕ) (judge : List ℕ → Judged A) (payload : List ℕ) (frame : Frame) → IsNoLonger judge bytes → IsBytes payload → read_map make (all_of judge payload) ≡ Ok frame → Payload make bytes (judge payload) payload frame
+payload_of_all : {A : Type 0} (make : A → Frame) (bytes : A → List ℕ) (judge : List ℕ → Judged A) (payload : List ℕ) (frame : Frame) → WritesNoLonger judge bytes → IsBytes payload → read_map make (all_of judge payload) ≡ Ok frame → Payload make bytes (judge payload) payload frame
 payload_of_all make bytes judge payload frame no_longer fits h =
     let one = mapped make (all_of judge payload) frame h in
     let is = filled_took (length payload) (judge payload) one.0 one.1 in
@@ -61,7 +62,7 @@ payload_of_all make bytes judge payload frame no_longer fits h =
       frame_is = one.2;
       read = read;
       canonical_is = ap (canonical_of bytes) is;
-      shorter = let used = ap used_of is in omega (arith, used, no_longer payload fits read);
+      shorter = let used = ap used_by is in omega (arith, used, no_longer payload fits read);
     }
 
 pub method_payload : (channel : ℕ) (payload : List ℕ) (frame : Frame) → IsBytes payload → whole_as kinds.Method channel payload ≡ Ok frame → Payload (λ m. Meth channel m) payload_bytes (judge_payload payload) payload frame

@@ -29,15 +29,6 @@ puts_head buf a b new at p q end type channel n room first second third =
     let behind : Puts a new p (number_bytes bytes2 channel ++ number_bytes bytes4 n) end = puts_then a b new p q end (number_bytes bytes2 channel) (number_bytes bytes4 n) (omega (arith, room, len, first.behind)) second third in
     puts_then buf a new at p end (type ∷ []) (number_bytes bytes2 channel ++ number_bytes bytes4 n) room first behind
 
--- three parts of a frame, put one after another
-pub puts_framed : (buf a b new : List ℕ) (at p q end type channel : ℕ) (front payload : List ℕ) → front ≡ head type channel (length payload) → at + length (framed type channel payload) ≤ length buf → Puts buf a at front p → Puts a b p payload q → Puts b new q (206 ∷ []) end → Puts buf new at (framed type channel payload) end
-puts_framed buf a b new at p q end type channel front payload e room first second third =
-    let size : length front ≡ 7 = ap length e in
-    let all : at + length (front ++ (payload ++ 206 ∷ [])) ≤ length buf = omega (arith, framed_length type channel payload, length-append front (payload ++ 206 ∷ []), length-append payload (206 ∷ [])) in
-    let len : length a ≡ length buf = puts-length buf a at p front (omega (arith, framed_length type channel payload)) first in
-    let behind : Puts a new p (payload ++ 206 ∷ []) end = puts_then a b new p q end payload (206 ∷ []) (omega (arith, framed_length type channel payload, length-append payload (206 ∷ []), first.behind)) second third in
-    subst (λ (xs : List ℕ). Puts buf new at (xs ++ (payload ++ 206 ∷ [])) end) e (puts_then buf a new at p end front (payload ++ 206 ∷ []) all first behind)
-
 -- a frame around a payload that was put first
 pub puts_around : (before mid front_put new : List ℕ) (at end place final type channel : ℕ) (front payload : List ℕ) → front ≡ head type channel (end - at - 7) → at + length (framed type channel payload) ≤ length before
     → Puts before mid (at + 7) payload end → Puts mid front_put at front place → Puts front_put new end (206 ∷ []) final → Puts before new at (framed type channel payload) final

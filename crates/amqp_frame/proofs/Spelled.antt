@@ -23,12 +23,10 @@ use Rattle.amqp_frame.specs.Spelling.{framed, proto, IsBeatPayload, IsFramed, Sp
 use Rattle.amqp_frame.proofs.OuterLook.{typed, behind_byte, outer-typed}
 use Rattle.amqp_frame.proofs.Cuts.{verdict-exact}
 use Rattle.amqp_frame.proofs.Typed.{method_whole, method_is_at, header_whole, header_is_at}
+use Rattle.amqp_frame.proofs.Sizes.{framed_length}
 
 abbrev pub raw_as : AMQPFrameType → ℕ → List ℕ → Raw
 raw_as kind channel payload = record { kind = kind; channel = channel; payload = payload }
-
-pub framed-length : (type channel : ℕ) (payload : List ℕ) → length (framed type channel payload) ≡ length payload + 8
-framed-length type channel payload = omega (arith, length-append payload (206 ∷ []))
 
 above-none : (m : Option ℕ) (n : ℕ) (bytes : List ℕ) → length bytes ≡ n + 8 → IsWithin m bytes → is_above n m ≡ false
 above-none None n bytes e h = refl
@@ -45,7 +43,7 @@ judge_raw-spelled m kind type channel payload channel_fits length_fits within =
     let six = number_bytes bytes2 channel ++ number_bytes bytes4 (length payload) in
     let len : length rest ≡ length payload + 7 = omega (arith, length-append payload (206 ∷ [])) in
     let size : payload_length rest ≡ length payload = from_be_bytes-to_be_bytes_4 (length payload) length_fits in
-    let low : is_above (length payload) m ≡ false = above-none m (length payload) (framed type channel payload) (framed-length type channel payload) within in
+    let low : is_above (length payload) m ≡ false = above-none m (length payload) (framed type channel payload) (framed_length type channel payload) within in
     let on : from_be_bytes w16 (take 2 rest) ≡ channel = from_be_bytes-to_be_bytes_2 channel channel_fits in
     let end : get_or rest (length payload + 6) 0 ≡ 206 = ap (λ (xs : List ℕ). get_or xs (length payload + 6) 0) (sym (append_assoc six payload (206 ∷ []))) ∙ get_or_at (six ++ payload) 206 [] 0 (length payload + 6) (omega (arith, length-append six payload)) in
     let content : take (length payload) (drop 6 rest) ≡ payload = take_at payload (206 ∷ []) (length payload) refl in
@@ -55,7 +53,7 @@ judge_raw-spelled m kind type channel payload channel_fits length_fits within =
 outer-spelled : (m : Option ℕ) (kind : AMQPFrameType) (type channel : ℕ) (bytes payload : List ℕ) → type_of type ≡ Some kind → ((rest : List ℕ) → behind_type m kind rest ≡ judge_raw m kind rest) → IsFramed bytes type channel payload → IsWithin m bytes → outer m bytes ≡ took (raw_as kind channel payload) (length bytes)
 outer-spelled m kind type channel bytes payload is_type is_raw f within =
     let in_limit : IsWithin m (framed type channel payload) = subst (IsWithin m) f.bytes_are within in
-    let count : 1 + (length payload + 7) ≡ length bytes = omega (arith, ap length f.bytes_are, framed-length type channel payload) in
+    let count : 1 + (length payload + 7) ≡ length bytes = omega (arith, ap length f.bytes_are, framed_length type channel payload) in
     ap (outer m) f.bytes_are
     ∙ outer-typed m type (rest_of channel payload)
     ∙ ap (λ o. typed m o (rest_of channel payload)) is_type

@@ -6,7 +6,7 @@ use Rattle.amqp_types.specs.Levels.{Level, plain, tidy, strict}
 use Rattle.amqp_types.specs.Judging.{Judge, IsBytes}
 use Rattle.amqp_types.specs.Sizes.{measured}
 use Rattle.amqp_types.specs.FormLaws.{IsLawful}
-use Rattle.amqp_types.specs.ValueLaws.{IsWithin as IsSizedWithin}
+use Rattle.amqp_types.specs.ValueLaws.{IsNoLonger as IsSizedWithin}
 use Rattle.amqp_types.specs.Methods.{judge_payload, payload_bytes}
 use Rattle.amqp_types.specs.MethodSpelling.{SpellsPayload}
 use Rattle.amqp_types.specs.ContentHeaders.{judge_content_header, content_header_bytes, SpellsContentHeader}
@@ -14,11 +14,12 @@ use Rattle.amqp_values.proofs.MethodLaws.{payloads_lawful, payloads_bounded}
 use Rattle.amqp_properties.proofs.HeaderLaws.{content_headers_lawful, content_headers_bounded}
 use Rattle.amqp_frame.specs.Frames.{Frame, Proto, Meth, Head, Body, Beat, BadBeat}
 use Rattle.amqp_frame.specs.Spelling.{framed, IsFramed, IsBeat, Carries, Spells, IsWithin, SpellsFrames}
-use Rattle.amqp_frame.specs.Canonical.{canon, canon_row, is_deep, is_long, is_long_for, size_of}
+use Rattle.amqp_frame.specs.Canonical.{canon, canon_frames, is_deep, is_long, is_long_for, size_of}
 use Rattle.amqp_frame.specs.Fronts.{front, place}
 use Rattle.amqp_frame.specs.Laws.{HasOneStrict, IsShortest, GivesItself}
-use Rattle.amqp_frame.proofs.Spelled.{framed-length}
-use Rattle.amqp_frame.proofs.Rows.{row_front, row_place, front-is_row, one_row}
+use Rattle.amqp_frame.proofs.Sequences.{sequence_front, sequence_place, front-is_sequence, one_sequence}
+use Rattle.amqp_frame.proofs.Sizes.{framed_length}
+use Rattle.amqp_values.proofs.Bounded.{neither}
 
 -- ---- what is strict is tidy, and what is tidy is plain
 
@@ -48,13 +49,13 @@ frame_tidy_plain bytes (Body channel content) s = s
 frame_tidy_plain bytes Beat s = beat_tidy_plain bytes 0 s
 frame_tidy_plain bytes (BadBeat channel) s = (s.0, beat_tidy_plain bytes channel s.1)
 
-pub row_strict_tidy : (m : Option ℕ) (bytes : List ℕ) (frames : List Frame) → SpellsFrames strict m bytes frames → SpellsFrames tidy m bytes frames
-row_strict_tidy m bytes [] r = r
-row_strict_tidy m bytes (f ∷ fs) r = (r.0, r.1, r.2, frame_strict_tidy r.0 f r.3, r.4, row_strict_tidy m r.1 fs r.5)
+pub sequence_strict_tidy : (m : Option ℕ) (bytes : List ℕ) (frames : List Frame) → SpellsFrames strict m bytes frames → SpellsFrames tidy m bytes frames
+sequence_strict_tidy m bytes [] r = r
+sequence_strict_tidy m bytes (f ∷ fs) r = (r.0, r.1, r.2, frame_strict_tidy r.0 f r.3, r.4, sequence_strict_tidy m r.1 fs r.5)
 
-pub row_tidy_plain : (m : Option ℕ) (bytes : List ℕ) (frames : List Frame) → SpellsFrames tidy m bytes frames → SpellsFrames plain m bytes frames
-row_tidy_plain m bytes [] r = r
-row_tidy_plain m bytes (f ∷ fs) r = (r.0, r.1, r.2, frame_tidy_plain r.0 f r.3, r.4, row_tidy_plain m r.1 fs r.5)
+pub sequence_tidy_plain : (m : Option ℕ) (bytes : List ℕ) (frames : List Frame) → SpellsFrames tidy m bytes frames → SpellsFrames plain m bytes frames
+sequence_tidy_plain m bytes [] r = r
+sequence_tidy_plain m bytes (f ∷ fs) r = (r.0, r.1, r.2, frame_tidy_plain r.0 f r.3, r.4, sequence_tidy_plain m r.1 fs r.5)
 
 pub frame_is_plain : (level : Level) (bytes : List ℕ) (f : Frame) → Spells level bytes f → Spells plain bytes f
 frame_is_plain plain bytes f s = s
@@ -89,7 +90,7 @@ module _ {A : Type 0} (judge : Judge A) (Spelled : Level → List ℕ → A → 
   carries_only bytes channel x s = s.is_framed.bytes_are ∙ ap (framed type channel) (lawful.strict_is_canonical s.payload x s.spelled)
 
   carries_shortest : (bytes : List ℕ) (channel : ℕ) (x : A) → Carries (Spelled plain) type bytes channel x → length (framed type channel (canonical x)) ≤ length bytes
-  carries_shortest bytes channel x s = omega (arith, lawful.shortest s.payload x s.spelled, ap length s.is_framed.bytes_are, framed-length type channel s.payload, framed-length type channel (canonical x))
+  carries_shortest bytes channel x s = omega (arith, lawful.shortest s.payload x s.spelled, ap length s.is_framed.bytes_are, framed_length type channel s.payload, framed_length type channel (canonical x))
 
   carries_countable : (bytes : List ℕ) (channel : ℕ) (x : A) → Carries (Spelled plain) type bytes channel x → is_long_for (canonical x) ≡ false
   carries_countable bytes channel x s = le-ltb (2 ^ 32 - 1) (length (canonical x)) (omega (arith, lawful.shortest s.payload x s.spelled, s.is_framed.length_fits))
@@ -116,7 +117,7 @@ strict_canon bytes Beat s = framed_none bytes s.payload 0 s.is_framed s.at_level
 strict_canon bytes (BadBeat channel) s = framed_none bytes s.1.payload channel s.1.is_framed s.1.at_level
 
 beat_length : (bytes : List ℕ) (channel : ℕ) → IsBeat plain bytes channel → length (framed 8 channel []) ≤ length bytes
-beat_length bytes channel s = omega (arith, ap length s.is_framed.bytes_are, framed-length 8 channel s.payload)
+beat_length bytes channel s = omega (arith, ap length s.is_framed.bytes_are, framed_length 8 channel s.payload)
 
 canon_short : (bytes : List ℕ) (f : Frame) → Spells plain bytes f → length (canon f) ≤ length bytes
 unfolding canon
@@ -126,10 +127,6 @@ canon_short bytes (Head channel header) s = carries_shortest judge_content_heade
 canon_short bytes (Body channel content) s = omega (arith, ap length s.bytes_are)
 canon_short bytes Beat s = beat_length bytes 0 s
 canon_short bytes (BadBeat channel) s = beat_length bytes channel s.1
-
-none_of : (a b : Bool) → a ≡ false → b ≡ false → (a || b) ≡ false
-none_of true b p q = p
-none_of false b p q = q
 
 not_deep : (bytes : List ℕ) (f : Frame) → Spells plain bytes f → is_deep f ≡ false
 not_deep bytes (Proto major minor revision) s = refl
@@ -141,8 +138,8 @@ not_deep bytes (BadBeat channel) s = refl
 
 not_long : (bytes : List ℕ) (f : Frame) → Spells plain bytes f → is_long f ≡ false
 not_long bytes (Proto major minor revision) s = refl
-not_long bytes (Meth channel m) s = none_of _ _ (payloads_bounded plain s.payload m s.spelled).1 (carries_countable judge_payload SpellsPayload payload_bytes payloads_lawful 1 bytes channel m s)
-not_long bytes (Head channel header) s = none_of _ _ (content_headers_bounded plain s.payload header s.spelled).1 (carries_countable judge_content_header SpellsContentHeader content_header_bytes content_headers_lawful 2 bytes channel header s)
+not_long bytes (Meth channel m) s = neither _ _ (payloads_bounded plain s.payload m s.spelled).1 (carries_countable judge_payload SpellsPayload payload_bytes payloads_lawful 1 bytes channel m s)
+not_long bytes (Head channel header) s = neither _ _ (content_headers_bounded plain s.payload header s.spelled).1 (carries_countable judge_content_header SpellsContentHeader content_header_bytes content_headers_lawful 2 bytes channel header s)
 not_long bytes (Body channel content) s = le-ltb (2 ^ 32 - 1) (length content) (omega (arith, s.length_fits))
 not_long bytes Beat s = refl
 not_long bytes (BadBeat channel) s = refl
@@ -161,22 +158,22 @@ within_short (Some m) short bytes h w = omega arith
 
 -- ---- sequences
 
-row_is_plain : (level : Level) (m : Option ℕ) (bytes : List ℕ) (frames : List Frame) → SpellsFrames level m bytes frames → SpellsFrames plain m bytes frames
-row_is_plain level m bytes [] r = r
-row_is_plain level m bytes (f ∷ fs) r = (r.0, r.1, r.2, frame_is_plain level r.0 f r.3, r.4, row_is_plain level m r.1 fs r.5)
+pub sequence_is_plain : (level : Level) (m : Option ℕ) (bytes : List ℕ) (frames : List Frame) → SpellsFrames level m bytes frames → SpellsFrames plain m bytes frames
+sequence_is_plain level m bytes [] r = r
+sequence_is_plain level m bytes (f ∷ fs) r = (r.0, r.1, r.2, frame_is_plain level r.0 f r.3, r.4, sequence_is_plain level m r.1 fs r.5)
 
-canon_row_strict : (m : Option ℕ) (bytes : List ℕ) (frames : List Frame) → SpellsFrames plain m bytes frames → SpellsFrames strict m (canon_row frames) frames
-canon_row_strict m bytes [] r = refl
-canon_row_strict m bytes (f ∷ fs) r = (canon f, canon_row fs, refl, canon_strict r.0 f r.3, within_short m (canon f) r.0 (canon_short r.0 f r.3) r.4, canon_row_strict m r.1 fs r.5)
+canon_frames_strict : (m : Option ℕ) (bytes : List ℕ) (frames : List Frame) → SpellsFrames plain m bytes frames → SpellsFrames strict m (canon_frames frames) frames
+canon_frames_strict m bytes [] r = refl
+canon_frames_strict m bytes (f ∷ fs) r = (canon f, canon_frames fs, refl, canon_strict r.0 f r.3, within_short m (canon f) r.0 (canon_short r.0 f r.3) r.4, canon_frames_strict m r.1 fs r.5)
 
-strict_canon_row : (m : Option ℕ) (bytes : List ℕ) (frames : List Frame) → SpellsFrames strict m bytes frames → bytes ≡ canon_row frames
-strict_canon_row m bytes [] r = r
-strict_canon_row m bytes (f ∷ fs) r = r.2 ∙ ap₂ (λ a b. a ++ b) (strict_canon r.0 f r.3) (strict_canon_row m r.1 fs r.5)
+strict_canon_frames : (m : Option ℕ) (bytes : List ℕ) (frames : List Frame) → SpellsFrames strict m bytes frames → bytes ≡ canon_frames frames
+strict_canon_frames m bytes [] r = r
+strict_canon_frames m bytes (f ∷ fs) r = r.2 ∙ ap₂ (λ a b. a ++ b) (strict_canon r.0 f r.3) (strict_canon_frames m r.1 fs r.5)
 
 pub one_strict : (level : Level) (m : Option ℕ) (bytes : List ℕ) (frames : List Frame) → SpellsFrames level m bytes frames → HasOneStrict m frames
 one_strict level m bytes frames r = record {
-  canonical = canon_row_strict m bytes frames (row_is_plain level m bytes frames r);
-  only = λ other s. strict_canon_row m other frames s;
+  canonical = canon_frames_strict m bytes frames (sequence_is_plain level m bytes frames r);
+  only = λ other s. strict_canon_frames m other frames s;
 }
 
 plain_shortest : (m : Option ℕ) (bytes : List ℕ) (frames : List Frame) → SpellsFrames plain m bytes frames → IsShortest bytes frames
@@ -184,32 +181,32 @@ plain_shortest m bytes [] r = record { shortest = omega arith; none_is_deep = tt
 plain_shortest m bytes (f ∷ fs) r =
     let rest = plain_shortest m r.1 fs r.5 in
     record {
-      shortest = omega (arith, canon_short r.0 f r.3, rest.shortest, ap length r.2, length-append r.0 r.1, length-append (canon f) (canon_row fs));
+      shortest = omega (arith, canon_short r.0 f r.3, rest.shortest, ap length r.2, length-append r.0 r.1, length-append (canon f) (canon_frames fs));
       none_is_deep = (not_deep r.0 f r.3, rest.none_is_deep);
       none_is_long = (not_long r.0 f r.3, rest.none_is_long);
     }
 
-pub row_shortest : (level : Level) (m : Option ℕ) (bytes : List ℕ) (frames : List Frame) → SpellsFrames level m bytes frames → IsShortest bytes frames
-row_shortest level m bytes frames r = plain_shortest m bytes frames (row_is_plain level m bytes frames r)
+pub sequence_shortest : (level : Level) (m : Option ℕ) (bytes : List ℕ) (frames : List Frame) → SpellsFrames level m bytes frames → IsShortest bytes frames
+sequence_shortest level m bytes frames r = plain_shortest m bytes frames (sequence_is_plain level m bytes frames r)
 
 -- the canonical bytes of the front are no more than the bytes
-pub canon_front-short : (level : Level) (m : Option ℕ) (bytes : List ℕ) → IsBytes bytes → length (canon_row (front level m bytes)) ≤ length bytes
+pub canon_front-short : (level : Level) (m : Option ℕ) (bytes : List ℕ) → IsBytes bytes → length (canon_frames (front level m bytes)) ≤ length bytes
 canon_front-short level m bytes fits =
-    let cut = front-is_row level m bytes fits in
-    omega (arith, (row_shortest level m cut.used (front level m bytes) cut.row).shortest, ap length cut.parts, length-append cut.used (place level m bytes))
+    let cut = front-is_sequence level m bytes fits in
+    omega (arith, (sequence_shortest level m cut.used (front level m bytes) cut.sequence).shortest, ap length cut.parts, length-append cut.used (place level m bytes))
 
 -- what was written, given again
-pub gives_itself : (level : Level) (m : Option ℕ) (bytes : List ℕ) → IsBytes bytes → GivesItself m (canon_row (front level m bytes))
+pub gives_itself : (level : Level) (m : Option ℕ) (bytes : List ℕ) → IsBytes bytes → GivesItself m (canon_frames (front level m bytes))
 gives_itself level m bytes fits =
-    let cut = front-is_row level m bytes fits in
+    let cut = front-is_sequence level m bytes fits in
     let frames = front level m bytes in
-    let again : SpellsFrames plain m (canon_row frames) frames = row_tidy_plain m (canon_row frames) frames (row_strict_tidy m (canon_row frames) frames (one_strict level m cut.used frames cut.row).canonical) in
+    let again : SpellsFrames plain m (canon_frames frames) frames = sequence_tidy_plain m (canon_frames frames) frames (sequence_strict_tidy m (canon_frames frames) frames (one_strict level m cut.used frames cut.sequence).canonical) in
     record {
-      whole = row_place plain m (canon_row frames) frames again;
-      same = ap canon_row (row_front plain m (canon_row frames) frames again);
+      whole = sequence_place plain m (canon_frames frames) frames again;
+      same = ap canon_frames (sequence_front plain m (canon_frames frames) frames again);
     }
 
 -- sequences with equal canonical bytes are encoded by them strictly, and so are one
-pub same_frames : (level : Level) (m : Option ℕ) (a b : List ℕ) (fs gs : List Frame) → SpellsFrames level m a fs → SpellsFrames level m b gs → (canon_row fs ≡ canon_row gs) ↔ (fs ≡ gs)
+pub same_frames : (level : Level) (m : Option ℕ) (a b : List ℕ) (fs gs : List Frame) → SpellsFrames level m a fs → SpellsFrames level m b gs → (canon_frames fs ≡ canon_frames gs) ↔ (fs ≡ gs)
 same_frames level m a b fs gs r s =
-    (λ e. one_row strict m (canon_row fs) fs gs (one_strict level m a fs r).canonical (subst (λ (bytes : List ℕ). SpellsFrames strict m bytes gs) (sym e) (one_strict level m b gs s).canonical), λ e. ap canon_row e)
+    (λ e. one_sequence strict m (canon_frames fs) fs gs (one_strict level m a fs r).canonical (subst (λ (bytes : List ℕ). SpellsFrames strict m bytes gs) (sym e) (one_strict level m b gs s).canonical), λ e. ap canon_frames e)

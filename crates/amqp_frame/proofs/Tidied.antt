@@ -19,11 +19,11 @@ outer-bytes kinds.Body channel payload other on few = outer-body None (framed 3 
 outer-bytes kinds.Heartbeat channel payload other on few = outer-beat None (framed 8 channel payload) channel payload (record { channel_fits = on; length_fits = few; bytes_are = refl }) tt
 
 -- a frame is encoded tidily by its bytes exactly where the test holds
-framed_told : (kind : AMQPFrameType) (channel : ℕ) (payload : List ℕ) (frame : Frame) → kind ≢ kinds.ProtocolHeader → IsBytes payload → channel < 2 ^ 16 → length payload < 2 ^ 32
+framed_decided : (kind : AMQPFrameType) (channel : ℕ) (payload : List ℕ) (frame : Frame) → kind ≢ kinds.ProtocolHeader → IsBytes payload → channel < 2 ^ 16 → length payload < 2 ^ 32
     → IsFramed (bytes_as kind channel payload) (byte_of kind) channel payload → whole_as kind channel payload ≡ Ok frame
     → (is_at tidy (raw_as kind channel payload) ≡ true) ↔ Spells tidy (bytes_as kind channel payload) frame
 unfolding verdict
-framed_told kind channel payload frame other fits on few is_framed is =
+framed_decided kind channel payload frame other fits on few is_framed is =
     let bytes = bytes_as kind channel payload in
     let raw = raw_as kind channel payload in (
       λ at. spells_as tidy bytes kind channel payload frame fits is_framed is at other,
@@ -32,20 +32,20 @@ framed_told kind channel payload frame other fits on few is_framed is =
           (judged_frame-is (is_at tidy raw) (whole_as kind channel payload) (length bytes) frame (length bytes) judged_is).0,
     )
 
-proto_told : (channel : ℕ) (payload : List ℕ) (frame : Frame) → whole_as kinds.ProtocolHeader channel payload ≡ Ok frame → (is_at tidy (raw_as kinds.ProtocolHeader channel payload) ≡ true) ↔ Spells tidy (bytes_as kinds.ProtocolHeader channel payload) frame
+proto_decided : (channel : ℕ) (payload : List ℕ) (frame : Frame) → whole_as kinds.ProtocolHeader channel payload ≡ Ok frame → (is_at tidy (raw_as kinds.ProtocolHeader channel payload) ≡ true) ↔ Spells tidy (bytes_as kinds.ProtocolHeader channel payload) frame
 unfolding whole_as is_tidy_as
-proto_told channel [] frame is = absurd cc
-proto_told channel (a ∷ []) frame is = absurd cc
-proto_told channel (a ∷ b ∷ []) frame is = absurd cc
-proto_told channel (a ∷ b ∷ c ∷ []) frame is =
+proto_decided channel [] frame is = absurd cc
+proto_decided channel (a ∷ []) frame is = absurd cc
+proto_decided channel (a ∷ b ∷ []) frame is = absurd cc
+proto_decided channel (a ∷ b ∷ c ∷ []) frame is =
     let same : Proto a b c ≡ frame = cc in
     (λ _. subst (Spells tidy (proto a b c)) same refl, λ _. refl)
-proto_told channel (a ∷ b ∷ c ∷ d ∷ more) frame is = absurd cc
+proto_decided channel (a ∷ b ∷ c ∷ d ∷ more) frame is = absurd cc
 
-pub frame_told : (kind : AMQPFrameType) (channel : ℕ) (payload : List ℕ) (frame : Frame) → IsBytes payload → channel < 2 ^ 16 → length payload < 2 ^ 32 → whole_as kind channel payload ≡ Ok frame
+pub frame_decided : (kind : AMQPFrameType) (channel : ℕ) (payload : List ℕ) (frame : Frame) → IsBytes payload → channel < 2 ^ 16 → length payload < 2 ^ 32 → whole_as kind channel payload ≡ Ok frame
     → (is_at tidy (raw_as kind channel payload) ≡ true) ↔ Spells tidy (bytes_as kind channel payload) frame
-frame_told kinds.ProtocolHeader channel payload frame fits on few is = proto_told channel payload frame is
-frame_told kinds.Method channel payload frame fits on few is = framed_told kinds.Method channel payload frame (λ e. absurd cc) fits on few (record { channel_fits = on; length_fits = few; bytes_are = refl }) is
-frame_told kinds.Header channel payload frame fits on few is = framed_told kinds.Header channel payload frame (λ e. absurd cc) fits on few (record { channel_fits = on; length_fits = few; bytes_are = refl }) is
-frame_told kinds.Body channel payload frame fits on few is = framed_told kinds.Body channel payload frame (λ e. absurd cc) fits on few (record { channel_fits = on; length_fits = few; bytes_are = refl }) is
-frame_told kinds.Heartbeat channel payload frame fits on few is = framed_told kinds.Heartbeat channel payload frame (λ e. absurd cc) fits on few (record { channel_fits = on; length_fits = few; bytes_are = refl }) is
+frame_decided kinds.ProtocolHeader channel payload frame fits on few is = proto_decided channel payload frame is
+frame_decided kinds.Method channel payload frame fits on few is = framed_decided kinds.Method channel payload frame (λ e. absurd cc) fits on few (record { channel_fits = on; length_fits = few; bytes_are = refl }) is
+frame_decided kinds.Header channel payload frame fits on few is = framed_decided kinds.Header channel payload frame (λ e. absurd cc) fits on few (record { channel_fits = on; length_fits = few; bytes_are = refl }) is
+frame_decided kinds.Body channel payload frame fits on few is = framed_decided kinds.Body channel payload frame (λ e. absurd cc) fits on few (record { channel_fits = on; length_fits = few; bytes_are = refl }) is
+frame_decided kinds.Heartbeat channel payload frame fits on few is = framed_decided kinds.Heartbeat channel payload frame (λ e. absurd cc) fits on few (record { channel_fits = on; length_fits = few; bytes_are = refl }) is

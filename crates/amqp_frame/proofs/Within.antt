@@ -8,7 +8,7 @@ use Rattle.amqp_types.specs.Judging.{Fault, Judged, past, fault, took, trailing_
 use Rattle.amqp_types.specs.Answers.{Answers, AnswersWhole, RefusesWhole}
 use Rattle.amqp_types.specs.PayloadFaults.{IsInside}
 use Rattle.amqp_types.specs.ValueJudging.{read_map}
-use Rattle.amqp_types.specs.ValueLaws.{IsWithin as IsSizedWithin}
+use Rattle.amqp_types.specs.ValueLaws.{IsNoLonger as IsSizedWithin}
 use Rattle.amqp_types.specs.Methods.{judge_payload}
 use Rattle.amqp_types.specs.ContentHeaders.{judge_content_header}
 use Rattle.amqp_types.specs.declared.errors.ParserError.{ParserError}
@@ -24,8 +24,8 @@ use Rattle.amqp_frame.specs.Canonical.{canon, size_of}
 use Rattle.amqp_frame.specs.Verdicts.{IsPayloadError, filling, all_of, whole_as, verdict}
 use Rattle.amqp_frame.proofs.Cuts.{verdict-got_within}
 use Rattle.amqp_frame.proofs.Encoded.{spells_as, verdict-spells}
-use Rattle.amqp_frame.proofs.Spelled.{framed-length}
 use Rattle.amqp_frame.proofs.Strictness.{spelled_sized}
+use Rattle.amqp_frame.proofs.Sizes.{framed_length}
 
 -- ---- sizes
 
@@ -34,7 +34,7 @@ around : (kind : AMQPFrameType) (channel : ℕ) (payload : List ℕ) (f : Frame)
 around kind channel payload f other on fits few e =
     let bytes = framed (byte_of kind) channel payload in
     let spelled = spells_as plain bytes kind channel payload f fits (record { channel_fits = on; length_fits = few; bytes_are = refl }) e refl other in
-    subst (IsSizedWithin (size_of f) (canon f)) (framed-length (byte_of kind) channel payload) (spelled_sized bytes f spelled)
+    subst (IsSizedWithin (size_of f) (canon f)) (framed_length (byte_of kind) channel payload) (spelled_sized bytes f spelled)
 
 header_sized : (a b c : ℕ) (f : Frame) → Proto a b c ≡ f → IsSizedWithin (size_of f) (canon f) 11
 header_sized a b c f same =

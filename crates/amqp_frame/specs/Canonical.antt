@@ -11,6 +11,7 @@ use Rattle.amqp_types.specs.declared.errors.GenError.{GenError}
 use Rattle.amqp_types.specs.declared.errors.GenError.TheVariants as errors
 use Rattle.amqp_frame.specs.Frames.{Frame, Proto, Meth, Head, Body, Beat, BadBeat, beat_on}
 use Rattle.amqp_frame.specs.Spelling.{framed, proto}
+use Rattle.amqp_types.specs.Constants.{method_byte, header_byte, body_byte, heartbeat_byte}
 
 -- the payload as it is written: a heartbeat has none
 abbrev pub payload_of : Frame → List ℕ
@@ -24,15 +25,15 @@ payload_of (BadBeat channel) = []
 -- the canonical bytes of a frame
 unfoldable pub canon : Frame → List ℕ
 canon (Proto major minor revision) = proto major minor revision
-canon (Meth channel m) = framed 1 channel (payload_bytes m)
-canon (Head channel header) = framed 2 channel (content_header_bytes header)
-canon (Body channel content) = framed 3 channel content
-canon Beat = framed 8 0 []
-canon (BadBeat channel) = framed 8 channel []
+canon (Meth channel m) = framed method_byte channel (payload_bytes m)
+canon (Head channel header) = framed header_byte channel (content_header_bytes header)
+canon (Body channel content) = framed body_byte channel content
+canon Beat = framed heartbeat_byte 0 []
+canon (BadBeat channel) = framed heartbeat_byte channel []
 
 -- the canonical bytes of a sequence
-abbrev pub canon_row : List Frame → List ℕ
-canon_row frames = flat_map canon frames
+abbrev pub canon_frames : List Frame → List ℕ
+canon_frames frames = flat_map canon frames
 
 -- tables and arrays nest more than 64 deep in the frame
 abbrev pub is_deep : Frame → Bool

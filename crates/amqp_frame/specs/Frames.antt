@@ -61,7 +61,7 @@ IsHeader frame = ⊥
 abbrev pub beat_on : ℕ → Frame
 beat_on channel = if channel == 0 then Beat else BadBeat channel
 
--- a method or a content header: its payload is more than bytes
+-- a method or a content header, whose payload is decoded to more than bytes
 abbrev pub IsTyped : AMQPFrameType → Type 0
 IsTyped kinds.Method = Unit {0}
 IsTyped kinds.Header = Unit {0}
@@ -69,7 +69,7 @@ IsTyped kinds.ProtocolHeader = ⊥
 IsTyped kinds.Body = ⊥
 IsTyped kinds.Heartbeat = ⊥
 
--- what such a frame is decoded to owns memory
+-- what a frame of this type is decoded to may own memory
 abbrev pub OwnsMemory : AMQPFrameType → Type 0
 OwnsMemory kinds.Body = Unit {0}
 OwnsMemory kind = IsTyped kind

@@ -29,6 +29,6 @@ abbrev pub IsUndecided : Level → Option ℕ → List ℕ → Type 0
 IsUndecided level m bytes = (bytes ≢ []) × (verdict level m bytes ≡ past)
 
 -- Whatever follows, the bytes are these frames, and then come those at the front of the rest.
-pub record Precedes (level : Level) (m : Option ℕ) (bytes : List ℕ) (frames : List Frame) : Type 0 where
-  pub row : (rest : List ℕ) → front level m (bytes ++ rest) ≡ frames ++ front level m rest
+pub record ComesBefore (level : Level) (m : Option ℕ) (bytes : List ℕ) (frames : List Frame) : Type 0 where
+  pub sequence : (rest : List ℕ) → front level m (bytes ++ rest) ≡ frames ++ front level m rest
   pub after : (rest : List ℕ) → place level m (bytes ++ rest) ≡ place level m rest

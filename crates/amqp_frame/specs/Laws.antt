@@ -10,7 +10,7 @@ use Rattle.amqp_frame.specs.declared.frame_type.AMQPFrameType.TheVariants as kin
 use Rattle.amqp_frame.specs.Frames.{Frame, Proto, Meth, Head, Body, Beat, BadBeat, Raw}
 use Rattle.amqp_frame.specs.Outer.{judge_frame_type, judge_version, judge_raw, version_raw, outer}
 use Rattle.amqp_frame.specs.Spelling.{Spells, IsWithin, SpellsFrames}
-use Rattle.amqp_frame.specs.Canonical.{canon, canon_row, is_deep, is_long, size_of, read_back}
+use Rattle.amqp_frame.specs.Canonical.{canon, canon_frames, is_deep, is_long, size_of, read_back}
 use Rattle.amqp_frame.specs.Verdicts.{verdict}
 use Rattle.amqp_frame.specs.Fronts.{front, place}
 
@@ -41,8 +41,8 @@ pub record LevelsNest : Type 0 where
 
 -- the canonical bytes are the one strict encoding of these frames, within the limit
 pub record HasOneStrict (m : Option ℕ) (frames : List Frame) : Type 0 where
-  pub canonical : SpellsFrames strict m (canon_row frames) frames
-  pub only : (bytes : List ℕ) → SpellsFrames strict m bytes frames → bytes ≡ canon_row frames
+  pub canonical : SpellsFrames strict m (canon_frames frames) frames
+  pub only : (bytes : List ℕ) → SpellsFrames strict m bytes frames → bytes ≡ canon_frames frames
 
 -- what is encoded at any level has one strict encoding
 abbrev pub OneCanonicalSpelling : Type 0
@@ -60,20 +60,20 @@ IsFrameHeld (BadBeat channel) = channel < 2 ^ 16
 
 -- two sequences, each encoded within a limit, have equal canonical bytes exactly where they are the same frames
 abbrev pub EqualBytesAreEqualFrames : Type 0
-EqualBytesAreEqualFrames = (level : Level) (m : Option ℕ) (a b : List ℕ) (fs gs : List Frame) → SpellsFrames level m a fs → SpellsFrames level m b gs → (canon_row fs ≡ canon_row gs) ↔ (fs ≡ gs)
+EqualBytesAreEqualFrames = (level : Level) (m : Option ℕ) (a b : List ℕ) (fs gs : List Frame) → SpellsFrames level m a fs → SpellsFrames level m b gs → (canon_frames fs ≡ canon_frames gs) ↔ (fs ≡ gs)
 
--- the canonical bytes of a frame are decoded to it, whatever follows, and fewer bytes are incomplete
+-- the canonical bytes of a frame are decoded to it, a bad heartbeat on channel 0 to a heartbeat, whatever follows; fewer are incomplete
 pub record ReadsBack (level : Level) (frame : Frame) : Type 0 where
   pub whole : (rest : List ℕ) → verdict level None (canon frame ++ rest) ≡ took (read_back frame) (length (canon frame))
   pub fewer : (first rest : List ℕ) → canon frame ≡ first ++ rest → rest ≢ [] → verdict level None first ≡ past
 
--- of each frame that is held, and neither too deep nor long
+-- each frame that programs hold, and that is neither too deep nor long, is read back from its canonical bytes
 abbrev pub CanonicalBytesReadBack : Type 0
 CanonicalBytesReadBack = (level : Level) (frame : Frame) → IsFrameHeld frame → size_of frame ≡ Ok (length (canon frame)) → ReadsBack level frame
 
 -- canonical bytes are as short as these bytes, and no frame is long or too deep
 pub record IsShortest (bytes : List ℕ) (frames : List Frame) : Type 0 where
-  pub shortest : length (canon_row frames) ≤ length bytes
+  pub shortest : length (canon_frames frames) ≤ length bytes
   pub none_is_deep : AllByRecursion (λ frame. is_deep frame ≡ false) frames
   pub none_is_long : AllByRecursion (λ frame. is_long frame ≡ false) frames
 
@@ -82,26 +82,26 @@ abbrev pub CanonicalBytesAreShortest : Type 0
 CanonicalBytesAreShortest = (level : Level) (m : Option ℕ) (bytes : List ℕ) (frames : List Frame) → SpellsFrames level m bytes frames → IsShortest bytes frames
 
 -- the bytes begin with a sequence of these frames, as long as any, and then comes the rest
-pub record IsLongestRow (level : Level) (m : Option ℕ) (bytes : List ℕ) (frames : List Frame) (rest : List ℕ) : Type 0 where
+pub record IsLongestSequence (level : Level) (m : Option ℕ) (bytes : List ℕ) (frames : List Frame) (rest : List ℕ) : Type 0 where
   pub spelled : List ℕ
   pub parts : bytes ≡ spelled ++ rest
-  pub row : SpellsFrames level m spelled frames
+  pub sequence : SpellsFrames level m spelled frames
   pub longest : (other more : List ℕ) (fs : List Frame) → bytes ≡ other ++ more → SpellsFrames level m other fs → length other ≤ length spelled
 
 -- the front of some bytes is the longest sequence that they begin with
 abbrev pub FrontIsLongest : Type 0
-FrontIsLongest = (level : Level) (m : Option ℕ) (bytes : List ℕ) → IsBytes bytes → IsLongestRow level m bytes (front level m bytes) (place level m bytes)
+FrontIsLongest = (level : Level) (m : Option ℕ) (bytes : List ℕ) → IsBytes bytes → IsLongestSequence level m bytes (front level m bytes) (place level m bytes)
 
 -- the bytes are decoded whole, and are the canonical bytes of their frames
 pub record GivesItself (m : Option ℕ) (bytes : List ℕ) : Type 0 where
   pub whole : place plain m bytes ≡ []
-  pub same : canon_row (front plain m bytes) ≡ bytes
+  pub same : canon_frames (front plain m bytes) ≡ bytes
 
 -- what was written, given again, is decoded whole and written as itself
 abbrev pub WrittenAgain : Type 0
-WrittenAgain = (level : Level) (m : Option ℕ) (bytes : List ℕ) → IsBytes bytes → GivesItself m (canon_row (front level m bytes))
+WrittenAgain = (level : Level) (m : Option ℕ) (bytes : List ℕ) → IsBytes bytes → GivesItself m (canon_frames (front level m bytes))
 
--- what was decoded after the first byte, with that byte
+-- what was decoded after the first byte, with that byte counted too
 abbrev pub behind_first : Judged Raw → Judged Raw
 behind_first judged = judged >>= λ raw. took raw.0 (1 + raw.1)
 

@@ -1,3 +1,4 @@
+-- The definitions of amqp_frame.
 pub mod Frames
 pub mod Channels
 pub mod Display

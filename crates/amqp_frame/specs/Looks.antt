@@ -30,13 +30,13 @@ abbrev pub IsWithinBytes : ℕ → FrameLayout → Type 0
 IsWithinBytes count layout = (layout.payload_start + layout.payload_len ≤ layout.frame_len) × (layout.frame_len ≤ count)
 
 -- a frame that was found lies within the bytes
-abbrev pub IsInside : Look → List ℕ → Type 0
-IsInside (looks.Whole layout) bytes = IsWithinBytes (length bytes) layout
-IsInside looks.Incomplete bytes = Unit {0}
-IsInside looks.UnknownFrameType bytes = Unit {0}
-IsInside looks.BadProtocolHeader bytes = Unit {0}
-IsInside looks.TooLarge bytes = Unit {0}
-IsInside looks.BadFrameEnd bytes = Unit {0}
+abbrev pub LiesInside : Look → List ℕ → Type 0
+LiesInside (looks.Whole layout) bytes = IsWithinBytes (length bytes) layout
+LiesInside looks.Incomplete bytes = Unit {0}
+LiesInside looks.UnknownFrameType bytes = Unit {0}
+LiesInside looks.BadProtocolHeader bytes = Unit {0}
+LiesInside looks.TooLarge bytes = Unit {0}
+LiesInside looks.BadFrameEnd bytes = Unit {0}
 
 -- the frame with this layout, of bytes whose first one is left out
 abbrev pub laid_out_behind : FrameLayout → List ℕ → Raw
@@ -67,7 +67,7 @@ payload_place kinds.Heartbeat = 7
 abbrev pub BeginsAt : ℕ → FrameLayout → Type 0
 BeginsAt place layout = (layout.payload_start ≡ place) × (layout.payload_len < 2 ^ 32)
 
--- of a frame that was found, by its type
+-- a frame that was found has its payload at the place for its type
 abbrev pub IsPlaced : Look → Type 0
 IsPlaced (looks.Whole layout) = BeginsAt (payload_place layout.frame_type) layout
 IsPlaced looks.Incomplete = Unit {0}
@@ -76,7 +76,7 @@ IsPlaced looks.BadProtocolHeader = Unit {0}
 IsPlaced looks.TooLarge = Unit {0}
 IsPlaced looks.BadFrameEnd = Unit {0}
 
--- of a frame of this type whose payload begins at this place
+-- a frame that was found is of this type, and its payload begins at this place
 abbrev pub IsPlacedAt : AMQPFrameType → ℕ → Look → Type 0
 IsPlacedAt kind place (looks.Whole layout) = (layout.frame_type ≡ kind) × BeginsAt place layout
 IsPlacedAt kind place looks.Incomplete = Unit {0}

@@ -6,15 +6,16 @@ use Rattle.amqp_frame.specs.declared.frame_type.AMQPFrameType.{AMQPFrameType}
 use Rattle.amqp_frame.specs.declared.frame_type.AMQPFrameType.TheVariants as kinds
 use Rattle.amqp_frame.specs.declared.version.ProtocolVersion.{ProtocolVersion}
 use Rattle.amqp_frame.specs.Frames.{Raw}
+use Rattle.amqp_types.specs.Constants.{protocol_byte, method_byte, header_byte, body_byte, heartbeat_byte, end_byte}
 
 -- the type that a frame's first byte names
 abbrev pub type_of : ℕ → Option AMQPFrameType
 type_of b =
-    if b == 65 then Some kinds.ProtocolHeader
-    else (if b == 1 then Some kinds.Method
-    else (if b == 2 then Some kinds.Header
-    else (if b == 3 then Some kinds.Body
-    else (if b == 8 then Some kinds.Heartbeat else None))))
+    if b == protocol_byte then Some kinds.ProtocolHeader
+    else (if b == method_byte then Some kinds.Method
+    else (if b == header_byte then Some kinds.Header
+    else (if b == body_byte then Some kinds.Body
+    else (if b == heartbeat_byte then Some kinds.Heartbeat else None))))
 
 -- a type byte is taken where it names a type
 abbrev pub known_type : Option AMQPFrameType → Judged AMQPFrameType
@@ -56,7 +57,7 @@ payload_length bytes = from_be_bytes w32 (take 4 (drop 2 bytes))
 unfoldable pub ended_payload : AMQPFrameType → List ℕ → ℕ → Judged Raw
 ended_payload kind bytes n =
     if nat_lt (length bytes) (n + 7) then past
-    else (if slice_index bytes (n + 6) == 206
+    else (if slice_index bytes (n + 6) == end_byte
     then took (record { kind = kind; channel = from_be_bytes w16 (take 2 bytes); payload = take n (drop 6 bytes) }) (n + 7)
     else fault bad_frame_end)
 

@@ -7,6 +7,7 @@ use Rattle.amqp_types.specs.ContentHeaders.{SpellsContentHeader}
 use Rattle.amqp_frame.specs.declared.frame_type.AMQPFrameType.{AMQPFrameType}
 use Rattle.amqp_frame.specs.declared.frame_type.AMQPFrameType.TheVariants as kinds
 use Rattle.amqp_frame.specs.Frames.{Frame, Proto, Meth, Head, Body, Beat, BadBeat, Raw}
+use Rattle.amqp_types.specs.Constants.{protocol_byte, method_byte, header_byte, body_byte, heartbeat_byte, end_byte}
 
 -- type, channel and length, which come before n bytes of payload
 abbrev pub head : ℕ → ℕ → ℕ → List ℕ
@@ -14,23 +15,23 @@ head type channel n = type ∷ (number_bytes bytes2 channel ++ number_bytes byte
 
 -- a frame that is no protocol header: type, channel, length, payload and the end byte
 abbrev pub framed : ℕ → ℕ → List ℕ → List ℕ
-framed type channel payload = head type channel (length payload) ++ (payload ++ 206 ∷ [])
+framed type channel payload = head type channel (length payload) ++ (payload ++ end_byte ∷ [])
 
 -- a protocol header: `AMQP`, 0 and the version
 abbrev pub proto : ℕ → ℕ → ℕ → List ℕ
-proto major minor revision = 65 ∷ 77 ∷ 81 ∷ 80 ∷ 0 ∷ major ∷ minor ∷ revision ∷ []
+proto major minor revision = protocol_byte ∷ 77 ∷ 81 ∷ 80 ∷ 0 ∷ major ∷ minor ∷ revision ∷ []
 
 -- the first byte of a frame
 abbrev pub byte_of : AMQPFrameType → ℕ
-byte_of kinds.ProtocolHeader = 65
-byte_of kinds.Method = 1
-byte_of kinds.Header = 2
-byte_of kinds.Body = 3
-byte_of kinds.Heartbeat = 8
+byte_of kinds.ProtocolHeader = protocol_byte
+byte_of kinds.Method = method_byte
+byte_of kinds.Header = header_byte
+byte_of kinds.Body = body_byte
+byte_of kinds.Heartbeat = heartbeat_byte
 
 -- the bytes of a frame of this type with this payload, which of a protocol header is the version
 abbrev pub bytes_as : AMQPFrameType → ℕ → List ℕ → List ℕ
-bytes_as kinds.ProtocolHeader channel payload = 65 ∷ 77 ∷ 81 ∷ 80 ∷ 0 ∷ payload
+bytes_as kinds.ProtocolHeader channel payload = protocol_byte ∷ 77 ∷ 81 ∷ 80 ∷ 0 ∷ payload
 bytes_as kinds.Method channel payload = framed (byte_of kinds.Method) channel payload
 bytes_as kinds.Header channel payload = framed (byte_of kinds.Header) channel payload
 bytes_as kinds.Body channel payload = framed (byte_of kinds.Body) channel payload
@@ -55,7 +56,7 @@ IsBeatPayload strict payload = payload ≡ []
 -- a heartbeat on this channel
 pub record IsBeat (level : Level) (bytes : List ℕ) (channel : ℕ) : Type 0 where
   pub payload : List ℕ
-  pub is_framed : IsFramed bytes 8 channel payload
+  pub is_framed : IsFramed bytes heartbeat_byte channel payload
   pub at_level : IsBeatPayload level payload
 
 -- a frame of this type, whose payload encodes what it carries
@@ -67,13 +68,13 @@ pub record Carries {A : Type 0} (Spelled : List ℕ → A → Type 0) (type : �
 -- these bytes encode the frame
 abbrev pub Spells : Level → List ℕ → Frame → Type 0
 Spells level bytes (Proto major minor revision) = bytes ≡ proto major minor revision
-Spells level bytes (Meth channel m) = Carries (SpellsPayload level) 1 bytes channel m
-Spells level bytes (Head channel header) = Carries (SpellsContentHeader level) 2 bytes channel header
-Spells level bytes (Body channel content) = IsFramed bytes 3 channel content
+Spells level bytes (Meth channel m) = Carries (SpellsPayload level) method_byte bytes channel m
+Spells level bytes (Head channel header) = Carries (SpellsContentHeader level) header_byte bytes channel header
+Spells level bytes (Body channel content) = IsFramed bytes body_byte channel content
 Spells level bytes Beat = IsBeat level bytes 0
 Spells level bytes (BadBeat channel) = (0 < channel) × IsBeat level bytes channel
 
--- A frame's payload has at most m bytes, and a protocol header has none: all but 8 bytes are payload.
+-- a frame's payload has at most m bytes: all but 8 bytes are payload, so that a protocol header, of 8 bytes, is always within
 abbrev pub IsWithin : Option ℕ → List ℕ → Type 0
 IsWithin None bytes = Unit {0}
 IsWithin (Some m) bytes = length bytes ≤ m + 8

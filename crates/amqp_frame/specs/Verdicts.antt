@@ -14,12 +14,7 @@ use Rattle.amqp_frame.specs.declared.frame_type.AMQPFrameType.TheVariants as kin
 use Rattle.amqp_frame.specs.Frames.{Frame, Proto, Meth, Head, Body, Raw, beat_on}
 use Rattle.amqp_frame.specs.Canonical.{payload_of}
 use Rattle.amqp_frame.specs.Outer.{outer}
-
--- something was taken
-abbrev pub IsTaken : {A : Type 0} → Judged A → Type 0
-IsTaken (took x n) = Unit {0}
-IsTaken past = ⊥
-IsTaken (fault bad) = ⊥
+use Rattle.amqp_canonical.specs.Writes.{IsRead}
 
 -- What a payload of n bytes encodes, all of which are there: what is incomplete is short, and bytes after what was taken trail.
 abbrev pub filling : {A : Type 0} → ℕ → Judged A → Result A Fault
@@ -63,7 +58,7 @@ is_tidy_as kinds.Header payload = is_tidy_content_header payload
 is_tidy_as kinds.Body payload = true
 is_tidy_as kinds.Heartbeat payload = length payload == 0
 
--- the payload is the one that is written for the frame
+-- the payload is the one that is written for the frame; where it has a fault, there is none to compare
 abbrev pub is_written_for : Result Frame Fault → List ℕ → Bool
 is_written_for (Ok frame) payload = bytes_eq payload (payload_of frame)
 is_written_for (Err bad) payload = true

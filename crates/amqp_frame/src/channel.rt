@@ -20,7 +20,7 @@ impl AMQPChannel {
     pub fn get_id(self) -> ChannelId
         ensures number { result ≡ channel_number self }
 
-        // The channel that `from` makes of an id gives back that id.
+        // The channel that `from` makes of an id has that id.
         ensures given { (id : ℕ) → self ≡ channel_of id → result ≡ id }
     {
         match self {

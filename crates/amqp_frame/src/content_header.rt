@@ -1,5 +1,5 @@
-//! Content headers (AMQP 0-9-1, section 4.2.6.1): what a message says of itself, between the method that carries it and its
-//! body.
+//! Content headers (AMQP 0-9-1, section 4.2.6.1): what a message says of itself, between the method that carries it and
+//! its body.
 
 ghost use Rattle.std.specs.Prelude.{◌≡◌, ◌^◌, ◌≤◌, ◌∷◌, [], length, IfOk};
 ghost use Rattle.amqp_types.specs.Calls.{Parses, Measures, HasRoom};

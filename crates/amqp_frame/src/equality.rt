@@ -1,5 +1,5 @@
-//! Equality of each public type: `==` is true exactly where contracts see one value. Each law is the contract of a function
-//! that compares.
+//! Equality of each public type: `==` is true exactly where contracts see one value. Each law is the contract of a
+//! function that compares.
 
 ghost use Rattle.std.specs.Prelude.{◌≡◌, ◌↔◌, IsTrue};
 ghost use Rattle.amqp_frame.specs.Frames.{raw_of};
@@ -14,28 +14,28 @@ use crate::outline::FrameOutline;
 use crate::raw_frame::AMQPRawFrame;
 use crate::version::ProtocolVersion;
 
-/// Frame types.
+/// Whether two frame types are equal.
 pub fn equal_frame_types(a: AMQPFrameType, b: AMQPFrameType) -> bool
     ensures { IsTrue result ↔ a ≡ b }
 {
     a == b
 }
 
-/// Channels. `Id(0)` is not `Global`.
+/// Whether two channels are equal. `Id(0)` is not `Global`.
 pub fn equal_channels(a: AMQPChannel, b: AMQPChannel) -> bool
     ensures { IsTrue result ↔ a ≡ b }
 {
     a == b
 }
 
-/// Versions.
+/// Whether two versions are equal.
 pub fn equal_versions(a: ProtocolVersion, b: ProtocolVersion) -> bool
     ensures { IsTrue result ↔ a ≡ b }
 {
     a == b
 }
 
-/// Content headers, with all their properties.
+/// Whether two content headers are equal, with all their properties.
 #[tactic(auto, using(crate::proofs::EqualFrames::same_header))]
 pub fn equal_content_headers(a: &AMQPContentHeader, b: &AMQPContentHeader) -> bool
     ensures { IsTrue result ↔ (a.now ≡ b.now) }
@@ -43,7 +43,7 @@ pub fn equal_content_headers(a: &AMQPContentHeader, b: &AMQPContentHeader) -> bo
     a == b
 }
 
-/// Frames, with all that they hold.
+/// Whether two frames are equal, with all that they hold.
 #[tactic(auto, using(crate::proofs::EqualFrames::same_frame))]
 pub fn equal_frames(a: &AMQPFrame, b: &AMQPFrame) -> bool
     ensures { IsTrue result ↔ (a.now ≡ b.now) }
@@ -51,35 +51,35 @@ pub fn equal_frames(a: &AMQPFrame, b: &AMQPFrame) -> bool
     a == b
 }
 
-/// Borrowed frames. Their payloads are compared as bytes, wherever these lie.
+/// Whether two borrowed frames are equal. Their payloads are compared as bytes, wherever these lie.
 pub fn equal_raw_frames(a: AMQPRawFrame<'_>, b: AMQPRawFrame<'_>) -> bool
     ensures { IsTrue result ↔ raw_of a.entry ≡ raw_of b.entry }
 {
     a == b
 }
 
-/// Outlines.
+/// Whether two outlines are equal.
 pub fn equal_outlines(a: FrameOutline, b: FrameOutline) -> bool
     ensures { IsTrue result ↔ a ≡ b }
 {
     a == b
 }
 
-/// Layouts.
+/// Whether two layouts are equal.
 pub fn equal_layouts(a: FrameLayout, b: FrameLayout) -> bool
     ensures { IsTrue result ↔ a ≡ b }
 {
     a == b
 }
 
-/// What header scans find.
+/// Whether two header scans found the same.
 pub fn equal_looks(a: Look, b: Look) -> bool
     ensures { IsTrue result ↔ a ≡ b }
 {
     a == b
 }
 
-/// The levels at which bytes encode a whole frame.
+/// Whether two decodings without memory found the same levels.
 pub fn equal_judgements(a: FrameJudgement, b: FrameJudgement) -> bool
     ensures { IsTrue result ↔ a ≡ b }
 {

@@ -8,9 +8,11 @@ ghost use Rattle.amqp_protocol.specs.Classes.{method_of};
 ghost use Rattle.amqp_frame.specs.Frames.{frame_of, header_of};
 ghost use Rattle.amqp_frame.specs.Spelling.{head, framed, proto};
 ghost use Rattle.amqp_frame.specs.Canonical.{canon, size_of, framed_size, SliceAnswers};
+ghost use Rattle.amqp_types.specs.Constants.{header_byte, heartbeat_byte, method_byte};
 
 use crate::content_header::{AMQPContentHeader, put_content_header, size_content_header};
 use crate::frame::AMQPFrame;
+use crate::frame_type::PROTOCOL_BYTE;
 use crate::version::ProtocolVersion;
 use amqp_protocol::{AMQPClass, put_class, size_class};
 use amqp_types::{
@@ -19,7 +21,7 @@ use amqp_types::{
 };
 use std::alloc::Global;
 
-/// Type, channel and length, which come before a payload of this length.
+/// Type, channel and length, which come before a payload of this length in bytes (AMQP 0-9-1, section 4.2.3).
 pub fn frame_head(frame_type: u8, channel_id: ChannelId, len: ChunkSize) -> [u8; 7]
     ensures { result ≡ head frame_type channel_id len }
 {
@@ -30,12 +32,12 @@ pub fn frame_head(frame_type: u8, channel_id: ChannelId, len: ChunkSize) -> [u8;
     ]
 }
 
-/// The bytes of a protocol header.
+/// The bytes of a protocol header (AMQP 0-9-1, section 4.2.2).
 pub fn header_bytes(version: ProtocolVersion) -> [u8; 8]
     ensures { result ≡ proto version.major version.minor version.revision }
 {
     [
-        65,
+        PROTOCOL_BYTE,
         77,
         81,
         80,
@@ -46,9 +48,9 @@ pub fn header_bytes(version: ProtocolVersion) -> [u8; 8]
     ]
 }
 
-/// The bytes of a heartbeat.
+/// The bytes of a heartbeat (AMQP 0-9-1, section 4.2.7), whose payload is empty.
 pub fn heartbeat_bytes(channel_id: ChannelId) -> [u8; 8]
-    ensures { result ≡ framed 8 channel_id [] }
+    ensures { result ≡ framed heartbeat_byte channel_id [] }
 {
     let channel = channel_id.to_be_bytes();
     [
@@ -161,8 +163,8 @@ pub fn put_framed(
 fn put_method(buf: &mut [u8], at: usize, channel_id: ChannelId, class: &AMQPClass) -> usize
     requires fits { IsOk (payload_size (method_of class.now)) }
     requires few { length (payload_bytes (method_of class.now)) < 2 ^ 32 }
-    requires room { at + length (framed 1 channel_id (payload_bytes (method_of class.now))) ≤ length buf.old }
-    ensures { Puts buf.old buf.new at (framed 1 channel_id (payload_bytes (method_of class.now))) result }
+    requires room { at + length (framed method_byte channel_id (payload_bytes (method_of class.now))) ≤ length buf.old }
+    ensures { Puts buf.old buf.new at (framed method_byte channel_id (payload_bytes (method_of class.now))) result }
 {
     let end = put_class(buf, at + 7, class);
     put_around(buf, at, end, FRAME_METHOD, channel_id)
@@ -172,8 +174,8 @@ fn put_method(buf: &mut [u8], at: usize, channel_id: ChannelId, class: &AMQPClas
 fn put_header(buf: &mut [u8], at: usize, channel_id: ChannelId, header: &AMQPContentHeader) -> usize
     requires fits { IsOk (content_header_size (header_of header.now)) }
     requires few { length (content_header_bytes (header_of header.now)) < 2 ^ 32 }
-    requires room { at + length (framed 2 channel_id (content_header_bytes (header_of header.now))) ≤ length buf.old }
-    ensures { Puts buf.old buf.new at (framed 2 channel_id (content_header_bytes (header_of header.now))) result }
+    requires room { at + length (framed header_byte channel_id (content_header_bytes (header_of header.now))) ≤ length buf.old }
+    ensures { Puts buf.old buf.new at (framed header_byte channel_id (content_header_bytes (header_of header.now))) result }
 {
     let end = put_content_header(buf, at + 7, header);
     put_around(buf, at, end, FRAME_HEADER, channel_id)
@@ -200,7 +202,8 @@ pub fn put_frame(buf: &mut [u8], at: usize, frame: &AMQPFrame) -> usize
     }
 }
 
-/// Appends the canonical bytes to a vector.
+/// Appends the canonical bytes to a vector, which stays as it was where there is an error: that of measuring them, or
+/// out of memory.
 #[tactic(auto, using(crate::proofs::Sizes::size_is_length))]
 pub fn gen_frame(_alloc: Global, out: &mut Vec<u8>, frame: &AMQPFrame) -> Result<(), GenError>
     ensures { Appends out.old.items out.new.items (size_of (frame_of frame.now)) (canon (frame_of frame.now)) result }
@@ -211,7 +214,8 @@ pub fn gen_frame(_alloc: Global, out: &mut Vec<u8>, frame: &AMQPFrame) -> Result
     Ok(())
 }
 
-/// Puts the canonical bytes at the front of a slice, and returns how many they are.
+/// Puts the canonical bytes at the front of a slice, and returns how many they are. Where there is an error the slice
+/// stays as it was; a slice that is too short is `BufferTooSmall`.
 #[tactic(auto, using(crate::proofs::Sizes::size_is_length, crate::proofs::Sizes::slice_refused))]
 pub fn gen_frame_slice(buf: &mut [u8], frame: &AMQPFrame) -> Result<usize, GenError>
     ensures { SliceAnswers buf.old buf.new (size_of (frame_of frame.now)) (canon (frame_of frame.now)) result }

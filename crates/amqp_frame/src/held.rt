@@ -29,7 +29,7 @@ fn sizes_held(class_id: Identifier, body_size: PayloadSize)
     ensures size { body_size < 2 ^ 64 }
 {}
 
-/// A content header's numbers and properties fit their forms. Nothing is done.
+/// A content header's numbers and properties fit their forms. Nothing is changed.
 pub fn content_header_held(header: &AMQPContentHeader)
     ensures { IsHeaderHeld (header_of header.now) }
 {
@@ -37,8 +37,8 @@ pub fn content_header_held(header: &AMQPContentHeader)
     properties_held(&header.properties);
 }
 
-/// A frame is what programs can hold: a method of the table with items of its fields, properties of their forms, numbers
-/// that fit. Nothing is done.
+/// A frame is what programs can hold: a method of the table with items of its fields, properties of their forms,
+/// numbers that fit. Nothing is changed.
 pub fn frame_held(frame: &AMQPFrame)
     ensures { IsFrameHeld (frame_of frame.now) }
 {

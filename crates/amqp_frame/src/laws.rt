@@ -1,4 +1,4 @@
-//! Laws of frames and sequences, each the contract of a function that does nothing.
+//! Laws of frames and sequences, each the contract of a function that changes nothing.
 
 ghost use Rattle.std.specs.Prelude.{IsOk};
 ghost use Rattle.amqp_types.specs.Levels.{Level};
@@ -44,7 +44,8 @@ pub fn equal_bytes_are_equal_frames()
     ensures { EqualBytesAreEqualFrames }
 {}
 
-/// Canonical bytes are decoded to the frame that they were written for.
+/// Canonical bytes are decoded to the frame that they were written for, but that `InvalidHeartbeat(0)` is decoded to
+/// `Heartbeat`.
 pub fn canonical_bytes_read_back()
     ensures { CanonicalBytesReadBack }
 {}

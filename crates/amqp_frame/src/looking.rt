@@ -2,19 +2,28 @@
 
 ghost use Rattle.std.specs.Prelude.{◌≡◌};
 ghost use Rattle.amqp_frame.specs.declared.frame_type.AMQPFrameType.TheVariants as kinds;
-ghost use Rattle.amqp_frame.specs.Looks.{looked, looked_behind, IsInside, IsBehind, IsPlaced, IsPlacedAt};
+ghost use Rattle.amqp_frame.specs.Looks.{looked, looked_behind, LiesInside, IsBehind, IsPlaced, IsPlacedAt};
 ghost use Rattle.amqp_frame.specs.Outer.{outer, judge_raw, version_at, begins_as};
 
-use crate::frame_type::AMQPFrameType;
+use crate::frame_type::{AMQPFrameType, PROTOCOL_BYTE};
 use amqp_types::{ChannelId, FRAME_BODY, FRAME_END, FRAME_HEADER, FRAME_HEARTBEAT, FRAME_METHOD};
 
 /// Where the parts of a frame lie, counted from its first byte.
 #[derive(Clone, Copy, Debug, PartialEq, Eq)]
 pub struct FrameLayout {
+    /// What the first byte names.
     pub frame_type: AMQPFrameType,
+
+    /// The channel, 0 for a protocol header.
     pub channel_id: ChannelId,
+
+    /// The place of the payload's first byte: 5 in a protocol header, whose payload is its version, and 7 in any other.
     pub payload_start: usize,
+
+    /// The number of bytes of the payload, 3 in a protocol header.
     pub payload_len: usize,
+
+    /// The number of bytes of the whole frame, with its end byte.
     pub frame_len: usize,
 }
 
@@ -40,17 +49,18 @@ pub enum Look {
     Whole(FrameLayout),
 }
 
-/// Scans the header of the frame at the front of some bytes, with a limit in bytes on its payload.
+/// Scans the header of the frame at the front of some bytes, with a limit in bytes on its payload, which is tested as
+/// soon as the length is there. A protocol header has no limit.
 #[inline(always)]
 #[tactic(auto, using(crate::proofs::Looked::looked_behind_one), unfolding(crate::specs::Outer::outer, crate::specs::Outer::behind_type))]
 pub fn look_at(max_payload: Option<u32>, bytes: &[u8]) -> Look
     ensures value { outer max_payload bytes.now ≡ looked result bytes.now }
-    ensures inside { IsInside result bytes.now }
+    ensures inside { LiesInside result bytes.now }
     ensures placed { IsPlaced result }
 {
     match bytes {
         [] => Look::Incomplete,
-        [65, rest @ ..] => look_version(rest),
+        [PROTOCOL_BYTE, rest @ ..] => look_version(rest),
         [FRAME_METHOD, rest @ ..] => look_raw(max_payload, AMQPFrameType::Method, rest),
         [FRAME_HEADER, rest @ ..] => look_raw(max_payload, AMQPFrameType::Header, rest),
         [FRAME_BODY, rest @ ..] => look_raw(max_payload, AMQPFrameType::Body, rest),

@@ -165,8 +165,8 @@ fn outline_if_enough(
     }
 }
 
-/// The outline that the ids and sizes at the front of a payload give, and None where they are not there. Of a whole payload it is
-/// the outline of the frame.
+/// The outline that the ids and sizes at the front of a payload give, and `None` where they are not there. Of a whole
+/// payload it is the outline of the frame.
 pub fn outline_front(raw: AMQPRawFrame<'_>) -> Option<FrameOutline>
     ensures whole { (frame : Frame) → whole (raw_of raw.entry) ≡ Ok frame → result ≡ Some (outline_of frame) }
     ensures enough { IsEnough raw.entry.frame_type raw.entry.payload.now

@@ -4,7 +4,7 @@ ghost use Rattle.std.specs.Prelude.{◌≡◌, ◌≤◌, ◌<◌, ◌+◌, ◌^
 ghost use Rattle.amqp_types.specs.Levels.{plain};
 ghost use Rattle.amqp_types.specs.Answers.{Answers, AnswersFully, AnswersWhole};
 ghost use Rattle.amqp_types.specs.ValueJudging.{inside_error};
-ghost use Rattle.amqp_types.specs.ValueLaws.{IsWithin as IsSizedWithin};
+ghost use Rattle.amqp_types.specs.ValueLaws.{IsNoLonger as IsSizedWithin};
 ghost use Rattle.amqp_types.specs.Methods.{judge_payload};
 ghost use Rattle.amqp_types.specs.ContentHeaders.{judge_content_header};
 ghost use Rattle.amqp_protocol.specs.Classes.{method_of};
@@ -18,7 +18,7 @@ use crate::channel::AMQPChannel;
 use crate::content_header::AMQPContentHeader;
 pub use crate::content_header::parse_content_header;
 use crate::frame::AMQPFrame;
-use crate::frame_type::AMQPFrameType;
+use crate::frame_type::{AMQPFrameType, PROTOCOL_BYTE};
 use crate::looking::{Look, agrees, look_at, look_raw};
 use crate::raw_frame::AMQPRawFrame;
 use crate::version::ProtocolVersion;
@@ -29,7 +29,7 @@ use amqp_types::{
 };
 use std::alloc::Global;
 
-/// Decodes a channel's number, 2 bytes.
+/// Decodes a channel's number, 2 bytes. Fewer are `Incomplete`.
 #[tactic(auto, using(amqp_types::proofs::Judged::refuses_next))]
 pub fn parse_channel(i: &[u8]) -> Result<(usize, AMQPChannel), ParserError>
     ensures judged { AnswersFully (λ channel. channel) result (judge_channel i.now) }
@@ -41,14 +41,14 @@ pub fn parse_channel(i: &[u8]) -> Result<(usize, AMQPChannel), ParserError>
     }
 }
 
-/// Decodes the first byte of a frame.
+/// Decodes the first byte of a frame. No byte is `Incomplete`.
 pub fn parse_frame_type(i: &[u8]) -> Result<(usize, AMQPFrameType), ParserError>
     ensures judged { AnswersFully (λ kind. kind) result (judge_frame_type i.now) }
     ensures used { IfOk result (λ found. found.0 ≤ length i.now) }
 {
     match i {
         [] => Err(ParserError::Incomplete),
-        [65, ..] => Ok((1, AMQPFrameType::ProtocolHeader)),
+        [PROTOCOL_BYTE, ..] => Ok((1, AMQPFrameType::ProtocolHeader)),
         [FRAME_METHOD, ..] => Ok((1, AMQPFrameType::Method)),
         [FRAME_HEADER, ..] => Ok((1, AMQPFrameType::Header)),
         [FRAME_BODY, ..] => Ok((1, AMQPFrameType::Body)),

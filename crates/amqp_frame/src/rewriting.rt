@@ -10,6 +10,7 @@ ghost use Rattle.amqp_frame.specs.Judgements.{JudgesFrame};
 ghost use Rattle.amqp_frame.specs.Rewrites.{Rewrites};
 ghost use Rattle.amqp_frame.specs.Spelling.{framed};
 ghost use Rattle.amqp_frame.specs.Verdicts.{IsPayloadError, whole, whole_as};
+ghost use Rattle.amqp_types.specs.Constants.{header_byte, method_byte};
 
 use crate::frame_type::AMQPFrameType;
 use crate::generation::{heartbeat_bytes, put_around, put_framed};
@@ -29,7 +30,7 @@ fn put_method(
     requires read { IsRead (judge_payload payload.now) }
     requires few { length payload.now < 2 ^ 32 }
     requires room { at + length payload.now + 8 ≤ length buf.old }
-    ensures { Puts buf.old buf.new at (framed 1 channel_id (canonical_of payload_bytes (judge_payload payload.now))) result }
+    ensures { Puts buf.old buf.new at (framed method_byte channel_id (canonical_of payload_bytes (judge_payload payload.now))) result }
 {
     let end = put_payload(buf, at + 7, scratch, payload);
     put_around(buf, at, end, FRAME_METHOD, channel_id)
@@ -46,7 +47,7 @@ fn put_header(
     requires read { IsRead (judge_content_header payload.now) }
     requires few { length payload.now < 2 ^ 32 }
     requires room { at + length payload.now + 8 ≤ length buf.old }
-    ensures { Puts buf.old buf.new at (framed 2 channel_id (canonical_of content_header_bytes (judge_content_header payload.now))) result }
+    ensures { Puts buf.old buf.new at (framed header_byte channel_id (canonical_of content_header_bytes (judge_content_header payload.now))) result }
 {
     let end = put_content_header(buf, at + 7, scratch, payload);
     put_around(buf, at, end, FRAME_HEADER, channel_id)
@@ -87,9 +88,9 @@ fn put_judged(
     }
 }
 
-/// Puts the canonical bytes of the frame that a whole payload encodes at a place of a slice, and returns the place after
-/// them. No memory is taken: entries of tables that are not in ascending key order are sorted in the scratch. A payload of
-/// n bytes has at most n / 2 of them, and takes quadratic time where there are fewer marks.
+/// Puts the canonical bytes of the frame that a whole payload encodes at a place of a slice, and returns the place
+/// after them. No memory is taken: entries of tables that are not in ascending key order are sorted in the scratch. A
+/// payload of n bytes has at most n / 2 of them, and takes quadratic time where there are fewer marks.
 #[inline(always)]
 pub fn put_canonical(
     buf: &mut [u8],

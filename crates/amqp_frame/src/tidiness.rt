@@ -30,8 +30,8 @@ fn is_tidy_whole(frame_type: AMQPFrameType, channel_id: ChannelId, payload: &[u8
     }
 }
 
-/// Whether a whole frame is tidy: reserved fields, the weight, spare flag bits and bits 1 and 0 of the mask of properties
-/// stand at their constants, and a heartbeat is empty. No memory is taken.
+/// Whether a whole frame is tidy: reserved fields, the weight, unused flag bits and bits 1 and 0 of the mask of
+/// properties stand at their constants, and a heartbeat is empty. No memory is taken.
 pub fn is_tidy(raw: AMQPRawFrame<'_>) -> bool
     requires whole { IsOk (whole (raw_of raw)) }
     requires few { length raw.payload.now < 2 ^ 32 }

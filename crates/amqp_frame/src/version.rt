@@ -9,8 +9,13 @@ use std::fmt;
 /// The version that a protocol header names.
 #[derive(Clone, Copy, Debug, PartialEq, Eq)]
 pub struct ProtocolVersion {
+    /// The first number, 0 in version 0.9.1.
     pub major: ShortShortUInt,
+
+    /// The second number, 9 in version 0.9.1.
     pub minor: ShortShortUInt,
+
+    /// The third number, 1 in version 0.9.1.
     pub revision: ShortShortUInt,
 }
 

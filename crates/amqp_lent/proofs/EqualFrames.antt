@@ -10,9 +10,7 @@ use Rattle.amqp_lent.specs.declared.frame.LentFrame.{LentFrame}
 use Rattle.amqp_lent.specs.declared.frame.LentFrame.TheVariants as frames
 use Rattle.amqp_lent.specs.contracts.frame.LentFramePartialEq.TheImpl as frame
 use Rattle.amqp_lent.specs.Frames.{protocol_header, method, content_header, body, invalid_heartbeat, parts_of}
-
-same_version : (a b : ProtocolVersion) → Decides (version.ghosts.eq a b) (a ≡ b)
-same_version a b = search rules
+use Rattle.amqp_frame.proofs.EqualFrames.{same_version}
 
 same : (a b : LentFrame) → frame.ghosts.eq a b ≡ true → parts_of a ≡ parts_of b
 same (frames.ProtocolHeader a) (frames.ProtocolHeader b) h = ap protocol_header ((same_version a b).0 h)

@@ -4,15 +4,16 @@ use Rattle.amqp_types.specs.Judging.{Judged, IsBytes, took, past, fault}
 use Rattle.amqp_types.specs.Settling.{last_at, settled}
 use Rattle.amqp_types.specs.Values.{Entry}
 use Rattle.amqp_values.proofs.Settling.{settles}
-use Rattle.amqp_canonical.specs.Marks.{AreEntries, IsNext, IsNextAt, HasNoNext, entries_in, entry_at, entry_of}
-use Rattle.amqp_canonical.specs.Writes.{IsRead, key_in, used_of}
+use Rattle.amqp_canonical.specs.Marks.{AreEntries, IsNext, IsNextAt, HasNoNext, entries_in, entry_at, judged_entry}
+use Rattle.amqp_canonical.specs.Writes.{IsRead, key_in}
 use Rattle.amqp_canonical.proofs.Marking.{EntriesTo, entries_none, entries_next, entries_end}
 use Rattle.amqp_canonical.proofs.NextKey.{key_here, last_own, last_other}
 use Rattle.amqp_lent.specs.Finding.{FindsAfter, FindsLast, HasNoneAfter, IsLeastAfter}
 use Rattle.amqp_lent.specs.Views.{taken}
+use Rattle.amqp_types.specs.Tidiness.{used_by}
 
 -- what stands at the place of an entry that was read
-pub taken_entry : (j : Judged Entry) → IsRead j → taken j ≡ Some (entry_of j)
+pub taken_entry : (j : Judged Entry) → IsRead j → taken j ≡ Some (judged_entry j)
 taken_entry (took e n) h = refl
 taken_entry past h = absurd h
 taken_entry (fault bad) h = absurd h
@@ -32,18 +33,18 @@ other_kept : (room : ℕ) (content key : List ℕ) (front : List Entry) (e : Ent
 other_kept room content key front e None differ h = last_other key front e differ ∙ h
 other_kept room content key front e (Some place) differ h = record { read = h.read; value = last_other key front e differ ∙ h.value }
 
-module _ (room : ℕ) (content key : List ℕ) (at size : ℕ) (here : List ℕ) (found : Option ℕ) (fits : IsBytes content) (more : at < length content) (sized : IsRead (entry_at room content at) → size ≡ used_of (entry_at room content at)) (is : here ≡ key_in (drop at content)) (h : LastTo room content key at found) where
+module _ (room : ℕ) (content key : List ℕ) (at size : ℕ) (here : List ℕ) (found : Option ℕ) (fits : IsBytes content) (more : at < length content) (sized : IsRead (entry_at room content at) → size ≡ used_by (entry_at room content at)) (is : here ≡ key_in (drop at content)) (h : LastTo room content key at found) where
   pub last_taken : here ≡ key → LastTo room content key (at + size) (Some at)
   last_taken same =
       let step = entries_next room content at size h.front fits more sized h.entries in
-      let e = entry_of (entry_at room content at) in
+      let e = judged_entry (entry_at room content at) in
       let own : key ≡ e.0 = sym same ∙ key_here room content at here step.read is in
       record { front = h.front ++ e ∷ []; entries = step.next; finds = record { read = step.read; value = ap (λ k. last_at k (h.front ++ e ∷ [])) own ∙ last_own h.front e } }
 
   pub last_past : (here ≡ key → ⊥) → LastTo room content key (at + size) found
   last_past differ =
       let step = entries_next room content at size h.front fits more sized h.entries in
-      let e = entry_of (entry_at room content at) in
+      let e = judged_entry (entry_at room content at) in
       let own : here ≡ e.0 = key_here room content at here step.read is in
       record { front = h.front ++ e ∷ []; entries = step.next; finds = other_kept room content key h.front e found (λ same. differ (own ∙ sym same)) h.finds }
 
@@ -64,7 +65,7 @@ none_after last es h other w after value = let all = settles es in h other w aft
 pub after_found : (room : ℕ) (content : List ℕ) (last : Option (List ℕ)) (place : ℕ) (key : List ℕ) (r : Option Entry) → IsNextAt room content last (entries_in room content) place key → r ≡ taken (entry_at room content place) → FindsAfter last (settled (entries_in room content)) r
 after_found room content last place key r h is =
     let es = entries_in room content in
-    let e = entry_of (entry_at room content place) in
+    let e = judged_entry (entry_at room content place) in
     let P : List ℕ → Type 0 = λ k. IsNext last es k e.1 in
     let Q : Option Entry → Type 0 = λ o. FindsAfter last (settled es) o in
     subst Q (sym (is ∙ taken_entry (entry_at room content place) h.read)) (least_after last es e (subst P (sym h.key_is) h.next))

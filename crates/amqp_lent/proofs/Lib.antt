@@ -1,3 +1,4 @@
+-- The lemmas of amqp_lent.
 pub mod Rereading
 pub mod Finding
 pub mod Sized

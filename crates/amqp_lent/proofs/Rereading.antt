@@ -12,12 +12,13 @@ use Rattle.amqp_types.specs.declared.errors.ParserError.TheVariants as errors
 use Rattle.amqp_types.specs.declared.tag.FieldTag.{FieldTag}
 use Rattle.amqp_types.proofs.Took.{bind_took}
 use Rattle.amqp_canonical.specs.Marks.{AreEntries, entries_in}
-use Rattle.amqp_canonical.specs.Writes.{IsRead, IsFilled, items_of, used_of}
+use Rattle.amqp_canonical.specs.Writes.{IsRead, IsFilled, items_of}
 use Rattle.amqp_canonical.proofs.AfterTag.{judged_tag}
 use Rattle.amqp_canonical.proofs.ReadParts.{took_of, is_read, unread, first_value, none_filled}
 use Rattle.amqp_canonical.proofs.Refusing.{fully}
 use Rattle.amqp_lent.specs.Finding.{StartsWith}
 use Rattle.amqp_lent.specs.Views.{taken}
+use Rattle.amqp_types.specs.Tidiness.{used_by}
 
 -- what is refused first is refused, whatever was to follow
 pub fully_next : {A B C D : Type 0} (view : A → C) (other : B → D) (error : ParserError) (j : Judged C) (f : C × ℕ → Judged D) → AnswersFully view (Err error) j → AnswersFully other (Err error) (j >>= f)
@@ -100,11 +101,11 @@ pub record FirstItem (room : ℕ) (content : List ℕ) (n : ℕ) : Type 0 where
   pub left : IsFilled (filled (judge_value room) 0 (drop n content))
   pub starts : StartsWith room content (Some (value, drop n content))
 
-pub item_here : (room : ℕ) (content : List ℕ) (n : ℕ) → IsBytes content → 0 < length content → IsFilled (filled (judge_value room) 0 content) → (IsRead (judge_value room content) → n ≡ used_of (judge_value room content)) → FirstItem room content n
+pub item_here : (room : ℕ) (content : List ℕ) (n : ℕ) → IsBytes content → 0 < length content → IsFilled (filled (judge_value room) 0 content) → (IsRead (judge_value room content) → n ≡ used_by (judge_value room content)) → FirstItem room content n
 item_here room content n fits some h sized =
     let one = first_value room content fits some h in
     let read = is_read (judge_value room content) one.thing one.size one.is in
-    let count : one.size ≡ n = sym (sized read ∙ ap (λ j. used_of j) one.is) in
+    let count : one.size ≡ n = sym (sized read ∙ ap (λ j. used_by j) one.is) in
     let P : ℕ → Type 0 = λ k. IsFilled (filled (judge_value room) 0 (drop k content)) in
     record {
       value = one.thing;

@@ -14,12 +14,13 @@ use Rattle.amqp_types.proofs.Bytes.{IsBytes-drop}
 use Rattle.amqp_types.proofs.Puts.{puts-length}
 use Rattle.amqp_values.proofs.Exactly.{value_exact}
 use Rattle.amqp_canonical.specs.Marks.{FindsNext, entries_in, entry_at}
-use Rattle.amqp_canonical.specs.Writes.{IsRead, IsCopied, IsFilled, used_of, canonical_of, entry_bytes, array_content, table_content, key_in, after_key}
+use Rattle.amqp_canonical.specs.Writes.{IsRead, IsCopied, IsFilled, canonical_of, entry_bytes, array_content, table_content, key_in, after_key}
 use Rattle.amqp_canonical.proofs.NoLonger.{values_no_longer}
 use Rattle.amqp_canonical.proofs.PutParts.{boolean_put, fixed_copied, counted_copied, entry_put, entry_some, key_dropped}
 use Rattle.amqp_canonical.proofs.ReadParts.{TagParts, took_of}
 use Rattle.amqp_canonical.proofs.Sizes.{boolean_used}
 use Rattle.amqp_canonical.proofs.Written.{SelectedPut, ValuesPut, selected_end, selected_here, selected_none, value_here, values_end, values_from, values_none}
+use Rattle.amqp_types.specs.Tidiness.{used_by}
 
 -- ---- values
 
@@ -29,7 +30,7 @@ value_shorter room bytes fits read =
     let one = took_of (judge_value room bytes) read in
     let exact = value_exact room in
     let spelled = exact.spelled bytes one.0 one.1 fits one.2 in
-    omega (arith, values_no_longer room bytes fits read, ap (λ j. used_of j) one.2, spelled.1)
+    omega (arith, values_no_longer room bytes fits read, ap (λ j. used_by j) one.2, spelled.1)
 
 copied_length : {A : Type 0} (canonical : A → List ℕ) (bytes : List ℕ) (n : ℕ) (j : Judged A) → IsCopied canonical bytes n j → length (canonical_of canonical j) ≡ n
 copied_length canonical bytes n j h = ap length (sym h.bytes_are) ∙ length-take-le n bytes h.within
@@ -39,7 +40,7 @@ one_byte true = refl
 one_byte false = refl
 
 -- what is neither an array nor a table has as many canonical bytes as it used
-plain_length : (nest : Option (Judge FieldValue)) (t : FieldTag) (bytes : List ℕ) → (t ≡ tag.FieldArray → ⊥) → (t ≡ tag.FieldTable → ⊥) → IsBytes bytes → IsRead (judge_behind nest t bytes) → length (canonical_of value_bytes (judge_behind nest t bytes)) ≡ used_of (judge_behind nest t bytes)
+plain_length : (nest : Option (Judge FieldValue)) (t : FieldTag) (bytes : List ℕ) → (t ≡ tag.FieldArray → ⊥) → (t ≡ tag.FieldTable → ⊥) → IsBytes bytes → IsRead (judge_behind nest t bytes) → length (canonical_of value_bytes (judge_behind nest t bytes)) ≡ used_by (judge_behind nest t bytes)
 plain_length nest tag.Boolean bytes a f fits h =
     let put = boolean_put nest tag.Boolean bytes refl h in
     ap length put.1 ∙ one_byte _ ∙ boolean_used nest tag.Boolean bytes refl h
@@ -60,7 +61,7 @@ plain_length nest tag.FieldTable bytes a f fits h = absurd (f refl)
 plain_length nest tag.ByteArray bytes a f fits h = copied_length value_bytes bytes _ _ (counted_copied nest tag.ByteArray bytes _ fits refl h refl)
 plain_length nest tag.Void bytes a f fits h = copied_length value_bytes bytes _ _ (fixed_copied nest tag.Void bytes 0 _ fits refl h refl)
 
-pub plain_sized : (room : ℕ) (bytes : List ℕ) (t : FieldTag) (n : ℕ) → (t ≡ tag.FieldArray → ⊥) → (t ≡ tag.FieldTable → ⊥) → IsBytes (drop 1 bytes) → TagParts room bytes t → n ≡ used_of (judge_value room bytes) → n ≡ length (canonical_of tagged_bytes (judge_value room bytes))
+pub plain_sized : (room : ℕ) (bytes : List ℕ) (t : FieldTag) (n : ℕ) → (t ≡ tag.FieldArray → ⊥) → (t ≡ tag.FieldTable → ⊥) → IsBytes (drop 1 bytes) → TagParts room bytes t → n ≡ used_by (judge_value room bytes) → n ≡ length (canonical_of tagged_bytes (judge_value room bytes))
 plain_sized room bytes t n a f fits parts used = omega (arith, used, parts.used, ap length parts.bytes_are, plain_length (nested room) t (drop 1 bytes) a f fits parts.read)
 
 -- ---- the values in an array
@@ -82,7 +83,7 @@ pub record ValueSized (room : ℕ) (content : List ℕ) (start size total : ℕ)
   pub fits : total + length (canonical_of tagged_bytes (judge_value room (drop start content))) ≤ length (array_content (values_from room content 0))
   pub next : (n : ℕ) → n ≡ length (canonical_of tagged_bytes (judge_value room (drop start content))) → ValuesSized room content (start + size) (total + n)
 
-pub value_sized : (room : ℕ) (content : List ℕ) (start size total : ℕ) → IsBytes content → start < length content → (IsRead (judge_value room (drop start content)) → size ≡ used_of (judge_value room (drop start content))) → ValuesSized room content start total → ValueSized room content start size total
+pub value_sized : (room : ℕ) (content : List ℕ) (start size total : ℕ) → IsBytes content → start < length content → (IsRead (judge_value room (drop start content)) → size ≡ used_by (judge_value room (drop start content))) → ValuesSized room content start total → ValueSized room content start size total
 value_sized room content start size total bytes more sized h =
     let all = array_content (values_from room content 0) in
     let one = canonical_of tagged_bytes (judge_value room (drop start content)) in

@@ -14,9 +14,10 @@ use Rattle.amqp_types.proofs.Puts.{puts-length}
 use Rattle.amqp_canonical.specs.declared.shapes.Shape.{Shape}
 use Rattle.amqp_canonical.specs.declared.shapes.Shape.TheVariants as shapes
 use Rattle.amqp_canonical.specs.Shapes.{form_of}
-use Rattle.amqp_canonical.specs.Writes.{IsRead, canonical_of, slot_bytes, used_of}
+use Rattle.amqp_canonical.specs.Writes.{IsRead, canonical_of, slot_bytes}
 use Rattle.amqp_canonical.proofs.PayloadParts.{SetPut, gives_one_at, property_here, property_past, set_end, set_none}
 use Rattle.amqp_canonical.proofs.SlotParts.{CopiedForm, SlotsPut, copied_form, flags_size, flags_slot, slot_here, slots_end, slots_none}
+use Rattle.amqp_types.specs.Tidiness.{used_by}
 
 -- ---- one field
 
@@ -24,7 +25,7 @@ copied_size : (s : Shape) (bytes : List ℕ) (n : ℕ) → CopiedForm bytes n (f
 copied_size s bytes n h = sym (length-take-le n bytes h.within) ∙ ap length h.bytes_are
 
 -- what is no table has as many canonical bytes as it used
-pub form_length : (s : Shape) (bytes : List ℕ) (n : ℕ) → (s ≡ shapes.Table → ⊥) → IsBytes bytes → IsRead (judge_form (form_of s) bytes) → n ≡ used_of (judge_form (form_of s) bytes) → n ≡ length (canonical_of (form_bytes (form_of s)) (judge_form (form_of s) bytes))
+pub form_length : (s : Shape) (bytes : List ℕ) (n : ℕ) → (s ≡ shapes.Table → ⊥) → IsBytes bytes → IsRead (judge_form (form_of s) bytes) → n ≡ used_by (judge_form (form_of s) bytes) → n ≡ length (canonical_of (form_bytes (form_of s)) (judge_form (form_of s) bytes))
 form_length shapes.Octet bytes n t fits h used = copied_size shapes.Octet bytes n (copied_form (form_of shapes.Octet) bytes n refl fits h used)
 form_length shapes.Short bytes n t fits h used = copied_size shapes.Short bytes n (copied_form (form_of shapes.Short) bytes n refl fits h used)
 form_length shapes.Long bytes n t fits h used = copied_size shapes.Long bytes n (copied_form (form_of shapes.Long) bytes n refl fits h used)
@@ -59,7 +60,7 @@ pub record SlotSized (slots : List Slot) (slot : Slot) (bytes left : List ℕ) (
   pub within : total + length (canonical_of (slot_bytes slot) (judge_slot slot left)) ≤ length (all_slots slots bytes)
   pub next : (size : ℕ) → size ≡ length (canonical_of (slot_bytes slot) (judge_slot slot left)) → SlotsSized slots bytes (drop n left) (k + 1) (total + size)
 
-pub slot_sized : (slots : List Slot) (slot : Slot) (bytes left : List ℕ) (k n total : ℕ) → drop k slots ≡ slot ∷ drop (k + 1) slots → (IsRead (judge_slot slot left) → n ≡ used_of (judge_slot slot left)) → SlotsSized slots bytes left k total → SlotSized slots slot bytes left k n total
+pub slot_sized : (slots : List Slot) (slot : Slot) (bytes left : List ℕ) (k n total : ℕ) → drop k slots ≡ slot ∷ drop (k + 1) slots → (IsRead (judge_slot slot left) → n ≡ used_by (judge_slot slot left)) → SlotsSized slots bytes left k total → SlotSized slots slot bytes left k n total
 slot_sized slots slot bytes left k n total is sized h =
     let all = all_slots slots bytes in
     let one = canonical_of (slot_bytes slot) (judge_slot slot left) in
@@ -97,7 +98,7 @@ pub record PropertySized (mask : ℕ) (form : Form) (bytes left : List ℕ) (k n
   pub within : total + length (canonical_of (form_bytes form) (judge_form form left)) ≤ length (all_set mask bytes)
   pub next : (size : ℕ) → size ≡ length (canonical_of (form_bytes form) (judge_form form left)) → SetSized mask bytes (drop n left) (k + 1) (total + size)
 
-pub property_sized : (mask : ℕ) (p : Property) (bytes left : List ℕ) (k n total : ℕ) → drop k properties ≡ p ∷ drop (k + 1) properties → flag_at mask p.bit ≡ true → (IsRead (judge_form p.form left) → n ≡ used_of (judge_form p.form left)) → SetSized mask bytes left k total → PropertySized mask p.form bytes left k n total
+pub property_sized : (mask : ℕ) (p : Property) (bytes left : List ℕ) (k n total : ℕ) → drop k properties ≡ p ∷ drop (k + 1) properties → flag_at mask p.bit ≡ true → (IsRead (judge_form p.form left) → n ≡ used_by (judge_form p.form left)) → SetSized mask bytes left k total → PropertySized mask p.form bytes left k n total
 property_sized mask p bytes left k n total is there sized h =
     let all = all_set mask bytes in
     let one = canonical_of (form_bytes p.form) (judge_form p.form left) in

@@ -14,12 +14,8 @@ use Rattle.amqp_frame.specs.Canonical.{canon}
 use Rattle.amqp_frame.specs.Spelling.{framed, proto}
 use Rattle.amqp_frame.specs.Verdicts.{all_of, filling, whole_as}
 use Rattle.amqp_frame.proofs.Payloads.{filled_took}
-use Rattle.amqp_frame.proofs.Rewritten.{canon_beat, header_shorter, method_shorter}
+use Rattle.amqp_frame.proofs.Rewritten.{canon_beat, header_shorter, method_shorter, mapped}
 use Rattle.amqp_lent.proofs.Parts.{front_bytes}
-
-mapped : {A : Type 0} (make : A → Frame) (r : Result A Fault) (f : Frame) → read_map make r ≡ Ok f → (x : A) × (r ≡ Ok x) × (make x ≡ f)
-mapped make (Ok x) f h = (x, refl, cc)
-mapped make (Err bad) f h = absurd cc
 
 pub method_canon : (channel : ℕ) (payload : List ℕ) (frame : Frame) → whole_as kinds.Method channel payload ≡ Ok frame → IsRead (judge_payload payload) × (framed 1 channel (canonical_of payload_bytes (judge_payload payload)) ≡ canon frame)
 unfolding whole_as canon

@@ -6,24 +6,24 @@ use Rattle.amqp_lent.specs.declared.errors.LentError.{LentError}
 use Rattle.amqp_lent.specs.declared.errors.LentError.TheVariants as lent
 
 -- the error of a stream with the same cause
-abbrev pub stream_error : LentError → StreamError
-stream_error lent.UnknownFrameType = errors.UnknownFrameType
-stream_error lent.BadProtocolHeader = errors.BadProtocolHeader
-stream_error lent.TooLarge = errors.TooLarge
-stream_error lent.BadFrameEnd = errors.BadFrameEnd
-stream_error lent.UnknownClass = errors.UnknownClass
-stream_error lent.UnknownMethod = errors.UnknownMethod
-stream_error lent.ShortPayload = errors.ShortPayload
-stream_error lent.TrailingBytes = errors.TrailingBytes
-stream_error lent.NotUtf8 = errors.NotUtf8
-stream_error lent.UnknownTag = errors.UnknownTag
-stream_error lent.TooDeep = errors.TooDeep
-stream_error lent.CutShort = errors.CutShort
-stream_error lent.TurnsSpent = errors.TurnsSpent
-stream_error lent.ReadFault = errors.ReadFault
-stream_error lent.WriteFault = errors.WriteFault
+abbrev pub codec_error : LentError → StreamError
+codec_error lent.UnknownFrameType = errors.UnknownFrameType
+codec_error lent.BadProtocolHeader = errors.BadProtocolHeader
+codec_error lent.TooLarge = errors.TooLarge
+codec_error lent.BadFrameEnd = errors.BadFrameEnd
+codec_error lent.UnknownClass = errors.UnknownClass
+codec_error lent.UnknownMethod = errors.UnknownMethod
+codec_error lent.ShortPayload = errors.ShortPayload
+codec_error lent.TrailingBytes = errors.TrailingBytes
+codec_error lent.NotUtf8 = errors.NotUtf8
+codec_error lent.UnknownTag = errors.UnknownTag
+codec_error lent.TooDeep = errors.TooDeep
+codec_error lent.CutShort = errors.CutShort
+codec_error lent.TurnsSpent = errors.TurnsSpent
+codec_error lent.ReadFault = errors.ReadFault
+codec_error lent.WriteFault = errors.WriteFault
 
 -- what a stream returns with the same cause
 abbrev pub as_stream : Result (Unit {0}) LentError → Result (Unit {0}) StreamError
 as_stream (Ok done) = Ok done
-as_stream (Err error) = Err (stream_error error)
+as_stream (Err error) = Err (codec_error error)

@@ -4,10 +4,10 @@ use Rattle.amqp_types.specs.Settling.{last_at, value_at}
 use Rattle.amqp_types.specs.Values.{Entry, FieldValue}
 use Rattle.amqp_types.specs.ValueJudging.{filled, judge_value}
 use Rattle.amqp_canonical.specs.Judgements.{IsBelow}
-use Rattle.amqp_canonical.specs.Marks.{IsAfter, entry_at, entry_of}
+use Rattle.amqp_canonical.specs.Marks.{IsAfter, entry_at, judged_entry}
 use Rattle.amqp_canonical.specs.Writes.{IsRead, items_of}
 
--- The key is the least one of the table after the last one, where there is a last one, and the value its own.
+-- The key is the least one of the table after the last one, or of all where there is no last one, and the value is that of the key.
 pub record IsLeastAfter (last : Option (List ℕ)) (table : List Entry) (e : Entry) : Type 0 where
   pub after : IsAfter last e.0
   pub value : value_at e.0 table ≡ Some e.1
@@ -25,7 +25,7 @@ FindsAfter last table (Some e) = IsLeastAfter last table e
 -- the last of these entries with this key stands at the place
 pub record IsLastAt (room : ℕ) (content key : List ℕ) (es : List Entry) (place : ℕ) : Type 0 where
   pub read : IsRead (entry_at room content place)
-  pub value : last_at key es ≡ Some (entry_of (entry_at room content place)).1
+  pub value : last_at key es ≡ Some (judged_entry (entry_at room content place)).1
 
 -- the place of the last of these entries with this key, or none
 abbrev pub FindsLast : ℕ → List ℕ → List ℕ → List Entry → Option ℕ → Type 0

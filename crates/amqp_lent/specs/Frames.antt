@@ -40,6 +40,7 @@ IsFrame lent = (frame : Frame) × StandsFor lent frame
 
 -- What stands for the frame that was read is returned, or why none was read. Memory never runs out.
 abbrev pub Lends : Result LentFrame ParserError → Result Frame Fault → Type 0
+-- a frame was read, and the borrowed frame stands for it
 Lends (Ok lent) read = (frame : Frame) × (read ≡ Ok frame) × StandsFor lent frame
 Lends (Err error) read = (error ≢ errors.NoMemory) × RefusesWhole error read
 
@@ -52,7 +53,7 @@ pub data LentParts : Type 0 where
   heartbeat : LentParts
   invalid_heartbeat : (channel : ℕ) → LentParts
 
--- a borrowed frame in these words
+-- the parts of a borrowed frame
 abbrev pub parts_of : LentFrame → LentParts
 parts_of (frames.ProtocolHeader version) = protocol_header version
 parts_of (frames.Method channel class id slots) = method channel class id slots.now

@@ -1,3 +1,4 @@
+-- The definitions of amqp_lent.
 pub mod Views
 pub mod Finding
 pub mod Payloads

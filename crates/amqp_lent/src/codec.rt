@@ -4,7 +4,7 @@ ghost use Rattle.std.specs.Prelude.{◌≡◌, ◌≢◌, ◌⊎◌, ℕ, List, 
 ghost use Rattle.amqp_types.specs.Levels.{plain};
 ghost use Rattle.amqp_stream.specs.Transcribing.{NeverBegan, IsValid, NoFaults, IsOkOrNoMemory};
 ghost use Rattle.amqp_stream.specs.Canonicalizing.{Canonicalizes, AnswersExactly};
-ghost use Rattle.amqp_lent.specs.Errors.{as_stream, stream_error};
+ghost use Rattle.amqp_lent.specs.Errors.{as_stream, codec_error};
 
 use crate::errors::LentError;
 use amqp_stream::{Codec, Sink, Source, StreamError};
@@ -12,7 +12,8 @@ use amqp_types::{ChunkSize, NoMemory, Profile};
 use std::alloc::Global;
 use std::marker::Model;
 
-/// A codec that canonicalizes streams and takes no memory once it is open. In contracts it is the limit of payloads.
+/// A codec that canonicalizes streams and takes no memory once it is open. In contracts it is the limit of
+/// payloads, in bytes.
 #[derive(Drop)]
 pub struct LentCodec {
     codec: Codec,
@@ -30,7 +31,7 @@ impl Model for LentCodec {
 fn lent_error(error: StreamError) -> LentError
     requires memory { error ≢ StreamError.NoMemory }
     requires never_untidy { error ≢ StreamError.NotTidy }
-    ensures { stream_error result ≡ error }
+    ensures { codec_error result ≡ error }
 {
     match error {
         StreamError::UnknownFrameType => LentError::UnknownFrameType,
@@ -62,8 +63,8 @@ impl LentCodec {
         Ok(LentCodec { codec })
     }
 
-    /// Writes the canonical bytes of each frame that can be read, to the end of input or an error. Each read takes one of
-    /// the read budget. What an earlier call left in the codec is dropped.
+    /// Writes the canonical bytes of each frame that can be read, to the end of input or an error. Each read takes one
+    /// of the read budget. What an earlier call left in the codec is dropped.
     pub fn canonicalize<S: Source, K: Sink>(
         &mut self,
         source: &mut S,

@@ -13,8 +13,8 @@ pub fn equal_lent_errors(a: &LentError, b: &LentError) -> bool
     a == b
 }
 
-/// Borrowed frames are equal exactly where they are of one kind, with the same numbers. Their slices are compared as bytes,
-/// wherever these lie.
+/// Borrowed frames are equal exactly where they are of one kind, with the same numbers. Their slices are compared as
+/// bytes, wherever these lie.
 #[tactic(auto, using(crate::proofs::EqualFrames::same_parts))]
 pub fn equal_lent_frames(a: LentFrame<'_>, b: LentFrame<'_>) -> bool
     ensures { IsTrue result ↔ parts_of a.entry ≡ parts_of b.entry }

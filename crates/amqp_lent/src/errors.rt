@@ -19,13 +19,13 @@ pub enum LentError {
     /// The byte after a payload is not 206.
     BadFrameEnd,
 
-    /// A whole method of a class that is none.
+    /// A whole method whose class id names no class.
     UnknownClass,
 
     /// A whole method that its class does not have.
     UnknownMethod,
 
-    /// Something passes the end of a whole payload, or of a container in it.
+    /// Something passes the end of a whole payload, or of a table or an array in it.
     ShortPayload,
 
     /// Bytes are left after the last field of a whole payload.
@@ -56,11 +56,11 @@ pub enum LentError {
 impl LentError {
     ghost use Rattle.std.specs.Prelude.{◌≡◌};
     ghost use Rattle.amqp_stream.specs.Errors.{stream_error_name, stream_error_status};
-    ghost use Rattle.amqp_lent.specs.Errors.{stream_error};
+    ghost use Rattle.amqp_lent.specs.Errors.{codec_error};
 
-    /// The same error of a stream.
+    /// The error of a stream with the same cause.
     fn as_stream(&self) -> StreamError
-        ensures { result ≡ stream_error self.now }
+        ensures { result ≡ codec_error self.now }
     {
         match self {
             LentError::UnknownFrameType => StreamError::UnknownFrameType,
@@ -83,14 +83,14 @@ impl LentError {
 
     /// The variant's name.
     pub fn name(&self) -> &'static str
-        ensures { result.now ≡ stream_error_name (stream_error self.now) }
+        ensures { result.now ≡ stream_error_name (codec_error self.now) }
     {
         self.as_stream().name()
     }
 
     /// The exit status of a program that ends with it.
     pub fn status(&self) -> u8
-        ensures { result ≡ stream_error_status (stream_error self.now) }
+        ensures { result ≡ stream_error_status (codec_error self.now) }
     {
         self.as_stream().status()
     }
@@ -99,9 +99,9 @@ impl LentError {
 impl fmt::Display for LentError {
     ghost use Rattle.std.specs.Prelude.{Some};
     ghost use Rattle.amqp_stream.specs.Errors.{stream_error_name};
-    ghost use Rattle.amqp_lent.specs.Errors.{stream_error};
+    ghost use Rattle.amqp_lent.specs.Errors.{codec_error};
 
-    ghost output = { λ error. Some (stream_error_name (stream_error error)) };
+    ghost output = { λ error. Some (stream_error_name (codec_error error)) };
 
     fn fmt<W: fmt::Write>(&self, f: &mut fmt::Formatter<W>) -> fmt::Result {
         f.write_str(self.name())
@@ -112,9 +112,9 @@ impl Error for LentError {}
 
 impl From<LentError> for StreamError {
     ghost use Rattle.std.specs.Prelude.{◌≡◌};
-    ghost use Rattle.amqp_lent.specs.Errors.{stream_error};
+    ghost use Rattle.amqp_lent.specs.Errors.{codec_error};
 
-    ghost from_gives = { λ lent error. error ≡ stream_error lent };
+    ghost from_gives = { λ lent error. error ≡ codec_error lent };
 
     fn from(error: LentError) -> StreamError {
         error.as_stream()

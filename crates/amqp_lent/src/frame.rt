@@ -13,26 +13,40 @@ use amqp_types::{ChannelId, Identifier, ParserError, PayloadSize};
 /// A frame whose payload is borrowed where it is more than numbers.
 #[derive(Clone, Copy, Debug, PartialEq, Eq)]
 pub enum LentFrame<'a> {
-    /// A protocol header.
+    /// A protocol header, which has no channel.
     ProtocolHeader(ProtocolVersion),
 
-    /// A method: its class id, its own, and the bytes of its fields.
+    /// A method: its class id, its method id, and the bytes of its fields (AMQP 0-9-1, section 4.2.4).
     Method {
+        /// The channel of the frame.
         channel: ChannelId,
+
+        /// The id of the class.
         class_id: Identifier,
+
+        /// The id of the method in its class.
         method_id: Identifier,
+
+        /// The bytes of the fields, as they were read: not always the canonical ones.
         slots: &'a [u8],
     },
 
-    /// A content header: the bytes of the properties begin with the mask.
+    /// A content header without its weight (AMQP 0-9-1, section 4.2.6.1).
     Header {
+        /// The channel of the frame.
         channel: ChannelId,
+
+        /// The id of the class.
         class_id: Identifier,
+
+        /// The size of the body that follows, in bytes.
         body_size: PayloadSize,
+
+        /// The bytes of the properties from the mask on, as they were read: not always the canonical ones.
         properties: &'a [u8],
     },
 
-    /// A part of a body.
+    /// A part of a body, with its channel.
     Body(ChannelId, &'a [u8]),
 
     /// A heartbeat on channel 0.

@@ -1,4 +1,4 @@
-//! Borrowed frames and the codec: worked rows.
+//! Borrowed frames and the codec: worked examples.
 
 ghost use Rattle.std.specs.Prelude.{◌^◌, ◌<◌, length};
 ghost use Rattle.amqp_lent.specs.Frames.{IsFrame, payload_of};
@@ -14,7 +14,7 @@ const DECLARE: [u8; 22] = [
     0, 50, 0, 10, 0, 0, 10, 115, 111, 109, 101, 95, 113, 117, 101, 117, 101, 31, 0, 0, 0, 0,
 ];
 
-/// The payload of a content header of weight 7 with spare bits, and its canonical bytes.
+/// The payload of a content header of weight 7 in which the unused bits of the mask are set.
 const HEADER: [u8; 14] = [0, 60, 0, 7, 0, 0, 0, 0, 0, 0, 0, 5, 0, 3];
 
 fn raw(frame_type: AMQPFrameType, channel_id: u16, payload: &[u8]) -> AMQPRawFrame<'_> {

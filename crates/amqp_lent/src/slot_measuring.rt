@@ -11,7 +11,7 @@ ghost use Rattle.amqp_canonical.specs.Writes.{IsRead, canonical_of, slot_bytes};
 
 use crate::measuring::size_table;
 use amqp_canonical::{Shape, bytes_from, has_bit, property_shapes, slot_size};
-use amqp_types::parse_short_uint;
+use amqp_types::{INNER_DEPTH, parse_short_uint};
 
 /// The size in canonical bytes of what is encoded as a field of this shape, reserved or not.
 fn size_form(shape: Shape, i: &[u8]) -> usize
@@ -19,7 +19,7 @@ fn size_form(shape: Shape, i: &[u8]) -> usize
     ensures { result ≡ length (canonical_of (form_bytes (form_of shape)) (judge_form (form_of shape) i.now)) }
 {
     match shape {
-        Shape::Table => size_table(i, 63),
+        Shape::Table => size_table(i, INNER_DEPTH),
         other => slot_size(other, i),
     }
 }

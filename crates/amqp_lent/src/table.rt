@@ -12,16 +12,16 @@ ghost use Rattle.amqp_lent.specs.Views.{entry_of, value_of};
 use crate::reading::{entry_in, read_table};
 use crate::value::{LentTable, LentValue};
 use amqp_canonical::{bytes_from, entry_size, judge_table, next_entry, split_key};
-use amqp_types::ParserError;
+use amqp_types::{INNER_DEPTH, ParserError};
 
-/// Reads a table, at most 64 levels deep, and borrows it (AMQP 0-9-1, section 4.2.5.5). It is refused as `parse_field_table`
-/// refuses it, and no memory is taken.
+/// Reads a table, at most 64 levels deep, and borrows it (AMQP 0-9-1, section 4.2.5.5). It is refused as
+/// `parse_field_table` refuses it, and no memory is taken.
 pub fn lent_table<'a>(i: &'a [u8]) -> Result<(usize, LentTable<'a>), ParserError>
     ensures judged { AnswersFully (λ table. table) result (judge_field_table i.now) }
     ensures used { IfOk result (λ found. found.0 ≤ length i.now) }
 {
-    let judged = judge_table(i, 63)?;
-    let (_, table) = read_table(i, 63)?;
+    let judged = judge_table(i, INNER_DEPTH)?;
+    let (_, table) = read_table(i, INNER_DEPTH)?;
     Ok((judged.used, table))
 }
 

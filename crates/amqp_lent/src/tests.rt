@@ -1,4 +1,4 @@
-//! Borrowed tables and arrays: worked rows.
+//! Borrowed tables and arrays: worked examples.
 
 use super::*;
 use amqp_types::ParserError;

@@ -13,7 +13,7 @@ use amqp_types::{
 use amqp_values::DecimalValue;
 use std::marker::Model;
 
-/// A value in a table or an array. Strings, arrays and tables are borrowed.
+/// A value in a table or an array (AMQP 0-9-1, section 4.2.5.5). Strings, arrays and tables are borrowed.
 #[derive(Debug, Drop)]
 pub enum LentValue<'a> {
     /// A truth value.
@@ -55,7 +55,7 @@ pub enum LentValue<'a> {
     /// An array.
     FieldArray(LentArray<'a>),
 
-    /// A time.
+    /// A time, in seconds since 1970 began in UTC (section 4.2.5.4).
     Timestamp(Timestamp),
 
     /// A table.
@@ -77,8 +77,8 @@ pub struct LentArray<'a> {
     pub(crate) room: usize,
 }
 
-/// Keys and their values, which stand one after another in borrowed bytes in any order. In contracts it is the table: each
-/// key once, in ascending order, with the last of its values.
+/// Keys and their values, which stand one after another in borrowed bytes in any order. In contracts it is the table:
+/// each key once, in ascending order, with the last of its values.
 #[derive(Debug, Drop)]
 pub struct LentTable<'a> {
     pub(crate) content: &'a [u8],
@@ -157,8 +157,8 @@ impl<'a> LentTable<'a> {
         value_of_key(self.content, self.room, key.as_bytes())
     }
 
-    /// The entry with the least key above a given one, or with the least of all, if there is one. The entries are walked
-    /// over once.
+    /// The entry with the least key above a given one, or with the least of all, if there is one. The entries are
+    /// walked over once.
     pub fn next_after(&self, key: Option<&str>) -> Option<(&'a str, LentValue<'a>)>
         ensures { FindsAfter (option_map (λ text. text.now) key.entry) self.now (option_map entry_of result) }
     {

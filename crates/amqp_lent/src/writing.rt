@@ -10,6 +10,7 @@ ghost use Rattle.amqp_frame.specs.Frames.{Frame};
 ghost use Rattle.amqp_frame.specs.Spelling.{framed};
 ghost use Rattle.amqp_lent.specs.Frames.{IsFrame, StandsFor, payload_of};
 ghost use Rattle.amqp_lent.specs.Payloads.{header_payload, method_payload};
+ghost use Rattle.amqp_types.specs.Constants.{header_byte, method_byte};
 
 use crate::frame::LentFrame;
 use crate::payload_measuring::{size_header, size_method};
@@ -55,8 +56,8 @@ fn put_method_frame(
 ) -> usize
     requires read { IsRead (judge_payload (method_payload class id slots.now)) }
     requires few { length (method_payload class id slots.now) < 2 ^ 32 }
-    requires room { length (framed 1 channel (canonical_of payload_bytes (judge_payload (method_payload class id slots.now)))) ≤ length buf.old }
-    ensures { Puts buf.old buf.new 0 (framed 1 channel (canonical_of payload_bytes (judge_payload (method_payload class id slots.now)))) result }
+    requires room { length (framed method_byte channel (canonical_of payload_bytes (judge_payload (method_payload class id slots.now)))) ≤ length buf.old }
+    ensures { Puts buf.old buf.new 0 (framed method_byte channel (canonical_of payload_bytes (judge_payload (method_payload class id slots.now)))) result }
 {
     let end = put_method(buf, 7, class, id, slots);
     put_around(buf, 0, end, FRAME_METHOD, channel)
@@ -72,10 +73,10 @@ fn put_header_frame(
 ) -> usize
     requires read { IsRead (judge_content_header (header_payload class body_size properties.now)) }
     requires few { length (header_payload class body_size properties.now) < 2 ^ 32 }
-    requires room { length (framed 2 channel (canonical_of content_header_bytes (judge_content_header (header_payload class body_size properties.now))))
+    requires room { length (framed header_byte channel (canonical_of content_header_bytes (judge_content_header (header_payload class body_size properties.now))))
         ≤ length buf.old }
     ensures { Puts buf.old buf.new 0
-        (framed 2 channel (canonical_of content_header_bytes (judge_content_header (header_payload class body_size properties.now)))) result }
+        (framed header_byte channel (canonical_of content_header_bytes (judge_content_header (header_payload class body_size properties.now)))) result }
 {
     let end = put_header(buf, 7, class, body_size, properties);
     put_around(buf, 0, end, FRAME_HEADER, channel)

@@ -9,35 +9,30 @@ use Rattle.amqp_types.specs.Levels.{Level, plain, tidy, strict}
 use Rattle.amqp_frame.specs.Frames.{Frame}
 use Rattle.amqp_frame.specs.Fronts.{front}
 use Rattle.amqp_frame.specs.Spelling.{SpellsFrames}
-use Rattle.amqp_frame.proofs.Rows.{row_front}
-use Rattle.amqp_frame.proofs.Strictness.{row_strict_tidy, row_tidy_plain, same_frames}
+use Rattle.amqp_frame.proofs.Sequences.{sequence_front}
+use Rattle.amqp_frame.proofs.Strictness.{sequence_strict_tidy, sequence_tidy_plain, same_frames, sequence_is_plain}
 use Rattle.amqp_stream.specs.Ends.{Supply}
 use Rattle.amqp_stream.specs.Canonicalizing.{canon_of}
 use Rattle.amqp_text.proofs.CanonBytes.{canonical_bytes}
-use Rattle.amqp_program.specs.HexLaws.{EqualHexIsEqualBytes, EqualOutputIsEqualFrames, frames_in}
+use Rattle.amqp_program.specs.HexLaws.{EqualHexIsEqualBytes, EqualOutputIsEqualFrames, frames_accepted}
 use Rattle.amqp_program.specs.Reports.{max_payload}
 use Rattle.amqp_program.specs.Runs.{AcceptsHex}
 
 pub equal_hex : EqualHexIsEqualBytes
 equal_hex a b fits also same = decode_of-same (encode_lower a) a b (decode_of-encode_lower a fits) (ap decode_of same ∙ decode_of-encode_lower b also)
 
-at_plain : (level : Level) (m : Option ℕ) (bytes : List ℕ) (frames : List Frame) → SpellsFrames level m bytes frames → SpellsFrames plain m bytes frames
-at_plain plain m bytes frames r = r
-at_plain tidy m bytes frames r = row_tidy_plain m bytes frames r
-at_plain strict m bytes frames r = row_tidy_plain m bytes frames (row_strict_tidy m bytes frames r)
-
-encoded : {level : Level} {text written : List ℕ} {b : Supply} (x : AcceptsHex level text written b) → SpellsFrames level (Some max_payload) x.bytes (frames_in level text written b x)
+encoded : {level : Level} {text written : List ℕ} {b : Supply} (x : AcceptsHex level text written b) → SpellsFrames level (Some max_payload) x.bytes (frames_accepted level text written b x)
 encoded {level = level} x =
-    subst (λ (frames : List Frame). SpellsFrames level (Some max_payload) x.bytes frames) (sym (row_front level (Some max_payload) x.bytes x.row.0 x.row.1)) x.row.1
+    subst (λ (frames : List Frame). SpellsFrames level (Some max_payload) x.bytes frames) (sym (sequence_front level (Some max_payload) x.bytes x.sequence.0 x.sequence.1)) x.sequence.1
 
 are_bytes : {level : Level} {text written : List ℕ} {b : Supply} (x : AcceptsHex level text written b) → IsBytes (canon_of level max_payload x.bytes)
 are_bytes {level = level} {text = text} {written = written} {b = b} x =
-    canonical_bytes (Some max_payload) x.bytes (frames_in level text written b x) (decode_of-ok (strip_last 10 text) x.bytes x.decoded).3
-    (at_plain level (Some max_payload) x.bytes (frames_in level text written b x) (encoded x))
+    canonical_bytes (Some max_payload) x.bytes (frames_accepted level text written b x) (decode_of-ok (strip_last 10 text) x.bytes x.decoded).3
+    (sequence_is_plain level (Some max_payload) x.bytes (frames_accepted level text written b x) (encoded x))
 
 pub equal_output : EqualOutputIsEqualFrames
 equal_output level text other written output b c one two =
-    let same = same_frames level (Some max_payload) one.bytes two.bytes (frames_in level text written b one) (frames_in level other output c two) (encoded one) (encoded two) in
+    let same = same_frames level (Some max_payload) one.bytes two.bytes (frames_accepted level text written b one) (frames_accepted level other output c two) (encoded one) (encoded two) in
     let lines : List ℕ → List ℕ = λ bytes. encode_lower bytes ++ 10 ∷ [] in (
       (λ e. same.0 (equal_hex (canon_of level max_payload one.bytes) (canon_of level max_payload two.bytes) (are_bytes one) (are_bytes two)
           (append_cancel_right (encode_lower (canon_of level max_payload one.bytes)) (encode_lower (canon_of level max_payload two.bytes)) (10 ∷ []) (sym one.canonical ∙ e ∙ two.canonical)))),

@@ -8,15 +8,15 @@ use Rattle.hex.proofs.HexLemmas.{decode_of-ok}
 use Rattle.amqp_types.specs.Levels.{Level}
 use Rattle.amqp_types.specs.Judging.{Judged, past, fault, took, IsBytes}
 use Rattle.amqp_frame.specs.Frames.{Frame}
-use Rattle.amqp_frame.specs.Canonical.{canon_row}
+use Rattle.amqp_frame.specs.Canonical.{canon_frames}
 use Rattle.amqp_frame.specs.Fronts.{front, place}
 use Rattle.amqp_frame.proofs.Cuts.{IsStop}
-use Rattle.amqp_frame.proofs.Rows.{row_of_all, splits_of}
+use Rattle.amqp_frame.proofs.Sequences.{sequence_of_all, splits_of}
 use Rattle.amqp_stream.specs.declared.errors.StreamError.{StreamError}
-use Rattle.amqp_stream.specs.Scripts.{Kept, store_of}
+use Rattle.amqp_stream.specs.Scripts.{KeptBytes, store_of}
 use Rattle.amqp_stream.specs.Ends.{Supply, Store, Takes, Gains, prepended, Bytes}
 use Rattle.amqp_stream.specs.Writing.{WritesAll}
-use Rattle.amqp_stream.specs.Transcribing.{IsRow, NoFaults, answer_at, answer_to, place_verdict, IsAnswerTo}
+use Rattle.amqp_stream.specs.Transcribing.{IsSequence, NoFaults, answer_at, answer_to, place_verdict, IsAnswerTo}
 use Rattle.amqp_stream.specs.Canonicalizing.{canon_of, AnswersExactly}
 use Rattle.amqp_stream.specs.declared.sink.SinkFault.{SinkFault}
 use Rattle.amqp_stream.proofs.Adding.{Gains-none}
@@ -24,7 +24,7 @@ use Rattle.amqp_stream.proofs.Exactly.{split_of, all_taken}
 use Rattle.amqp_program.specs.declared.text.TextError.TheVariants as errors
 use Rattle.amqp_program.specs.Texts.{longest, ReadsText}
 use Rattle.amqp_program.specs.Reports.{Printed, printed, report, report_of, report_at, max_payload}
-use Rattle.amqp_program.specs.Runs.{IsWhole, HexEnds, no_memory, read_failed, too_long, write_failed, reported, AcceptsHex, IsValidText, IsDoneOrNoMemory, RunsHex}
+use Rattle.amqp_program.specs.Runs.{IsWhole, HexEnds, no_memory, read_failed, too_long, write_failed, reported, AcceptsHex, IsValidHex, IsDoneOrNoMemory, RunsHex}
 use Rattle.amqp_program.proofs.Statuses.{answer_status_zero, report_at-status, report_status_not_two}
 
 -- ---- what status 0 says
@@ -36,10 +36,10 @@ nothing_left (b ∷ bytes) (fault bad) stop e = absurd cc
 nothing_left (b ∷ bytes) (took f n) stop e = absurd stop
 
 -- bytes with the result Ok are a sequence of frames
-answered_row : (level : Level) (m : ℕ) (bytes : List ℕ) → IsBytes bytes → answer_to level m bytes ≡ Ok tt → IsRow level m bytes
-answered_row level m bytes fits e =
+answered_sequence : (level : Level) (m : ℕ) (bytes : List ℕ) → IsBytes bytes → answer_to level m bytes ≡ Ok tt → IsSequence level m bytes
+answered_sequence level m bytes fits e =
     let none = nothing_left (place level (Some m) bytes) (place_verdict level m bytes) (splits_of level (Some m) bytes).stop e in
-    (front level (Some m) bytes, row_of_all level (Some m) bytes fits none)
+    (front level (Some m) bytes, sequence_of_all level (Some m) bytes fits none)
 
 report_at-text : (level : Level) (bytes : List ℕ) → answer_to level max_payload bytes ≡ Ok tt → (report_at level bytes).text ≡ encode_lower (canon_of level max_payload bytes) ++ 10 ∷ []
 unfolding report_at
@@ -52,7 +52,7 @@ accepted level text written b (Ok bytes) e whole zero w =
       whole = whole;
       bytes = bytes;
       decoded = e;
-      row = answered_row level max_payload bytes (decode_of-ok (strip_last 10 text) bytes e).3 ok;
+      sequence = answered_sequence level max_payload bytes (decode_of-ok (strip_last 10 text) bytes e).3 ok;
       canonical = w ∙ report_at-text level bytes ok;
     }
 accepted level text written b (Err error) e whole zero w = absurd (omega arith)
@@ -66,7 +66,7 @@ accepts level text written a b k l status (reported s whole w) zero = accepted l
 
 -- ---- valid input ends with 0, unless memory runs out
 
-completes : (level : Level) (text written input : List ℕ) (a b : Supply) (k l : Store) (status : ℕ) → HexEnds level text written a b k l status → Some input ≡ prepended text b.left → IsValidText level input → NoFaults a b k l → IsDoneOrNoMemory status
+completes : (level : Level) (text written input : List ℕ) (a b : Supply) (k l : Store) (status : ℕ) → HexEnds level text written a b k l status → Some input ≡ prepended text b.left → IsValidHex level input → NoFaults a b k l → IsDoneOrNoMemory status
 completes level text written input a b k l status (no_memory s w few) e v f = inr s
 completes level text written input a b k l status (read_failed s w few r) e v f = absurd (omega (arith, r f.source_below, f.source))
 completes level text written input a b k l status (too_long s w h) e v f =
@@ -129,10 +129,10 @@ hex_write_fault level a b k l text out status f r e w =
     runs level a b k l r.taken w.piece r.reads 5 r.takes r.at_most w.gains (write_failed refl (record { few = r.ends.1; end = r.ends.2 }) w.err (w.prefix.0, w.prefix.1 ∙ ap (λ p. p.text) all))
 
 -- what a sink that held nothing took is what was written
-pub answered : (level : Level) (m n : ℕ) (bytes : List ℕ) (old new : Kept) (r : Result (Unit {0}) StreamError) → m ≡ n → old ≡ record { bytes = []; faults = 0 } → AnswersExactly level m bytes (store_of old) (store_of new) r → IsAnswerTo canon_row level n bytes new.bytes r
+pub answered : (level : Level) (m n : ℕ) (bytes : List ℕ) (old new : KeptBytes) (r : Result (Unit {0}) StreamError) → m ≡ n → old ≡ record { bytes = []; faults = 0 } → AnswersExactly level m bytes (store_of old) (store_of new) r → IsAnswerTo canon_frames level n bytes new.bytes r
 answered level m n bytes old new r limit empty h =
     let none : old.bytes ≡ [] = ap (λ s. s.bytes) empty in
     let all : Bytes new.bytes ≡ Bytes (old.bytes ++ h.written) = h.gains.bytes in
     let same : new.bytes ≡ old.bytes ++ h.written = cc in
     let written : h.written ≡ new.bytes = sym (same ∙ ap (λ (xs : List ℕ). xs ++ h.written) none) in
-    subst (λ k. IsAnswerTo canon_row level k bytes new.bytes r) limit (subst (λ (xs : List ℕ). IsAnswerTo canon_row level m bytes xs r) written h.answer)
+    subst (λ k. IsAnswerTo canon_frames level k bytes new.bytes r) limit (subst (λ (xs : List ℕ). IsAnswerTo canon_frames level m bytes xs r) written h.answer)

@@ -1,3 +1,4 @@
+-- The lemmas of amqp_program.
 pub mod TextReading
 pub mod HexRuns
 pub mod HexApart

@@ -6,15 +6,15 @@ use Rattle.amqp_stream.specs.declared.errors.StreamError.{StreamError}
 use Rattle.amqp_stream.specs.declared.errors.StreamError.TheVariants as errors
 use Rattle.amqp_stream.specs.Ends.{last}
 use Rattle.amqp_stream.specs.Scripts.{faultless, Counted, count_of}
-use Rattle.amqp_stream.specs.Transcribing.{IsRow, NeverBegan, IsValid, NoFaults, IsOkOrNoMemory}
+use Rattle.amqp_stream.specs.Transcribing.{IsSequence, NeverBegan, IsValid, NoFaults, IsOkOrNoMemory}
 use Rattle.amqp_stream.specs.Canonicalizing.{Canonicalizes}
 use Rattle.amqp_stream.specs.Made.{made, most_frames}
 use Rattle.amqp_stream.proofs.MadeFrames.{all_made}
 use Rattle.amqp_stream.proofs.MadeSizes.{made-short}
 use Rattle.amqp_program.specs.Reports.{max_payload}
 
-made_row : (n : ℕ) → IsRow plain max_payload (made n)
-made_row n = let row = all_made n in (row.frames, row.spelled)
+made_sequence : (n : ℕ) → IsSequence plain max_payload (made n)
+made_sequence n = let sequence = all_made n in (sequence.frames, sequence.spelled)
 
 -- A call over a source that never fails into a sink that counts. It ran, or never began.
 abbrev Ran : ℕ → List ℕ → List ℕ → Counted → Counted → Result (Unit {0}) StreamError → Type 0
@@ -37,7 +37,7 @@ made_or_no_memory n turns bytes rest k l r few is enough start ran below complet
     let zero : k.total ≡ 0 = ap (λ s. s.total) start in
     let none : k.faults ≡ 0 = ap (λ s. s.faults) start in
     let total : l.total < last = omega (arith, few_counted turns bytes rest k l r ran, made-short n few) in
-    complete bytes refl (record { row = subst (IsRow plain max_payload) (sym is) (made_row n); enough = omega arith }) (record {
+    complete bytes refl (record { sequence = subst (IsSequence plain max_payload) (sym is) (made_sequence n); enough = omega arith }) (record {
       source = refl;
       source_below = omega arith;
       sink = below total ∙ sym none;

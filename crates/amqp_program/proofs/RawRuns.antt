@@ -3,13 +3,14 @@ use Rattle.std.proofs.Common.{◌≡◌, ◌≢◌, ℕ, List, ◌⊎◌, Some, 
 use Rattle.amqp_types.specs.Levels.{plain}
 use Rattle.amqp_stream.specs.declared.errors.StreamError.{StreamError}
 use Rattle.amqp_stream.specs.declared.errors.StreamError.TheVariants as errors
-use Rattle.amqp_frame.specs.Canonical.{canon_row}
+use Rattle.amqp_frame.specs.Canonical.{canon_frames}
 use Rattle.amqp_stream.specs.Ends.{Supply, Store, Gains}
 use Rattle.amqp_stream.specs.Transcribing.{HasCause, HasWritten, transcript, NeverBegan, IsValid, NoFaults, IsOkOrNoMemory}
 use Rattle.amqp_stream.specs.Canonicalizing.{canon_of, Canonicalizes, AnswersExactly}
 use Rattle.amqp_program.specs.Reports.{max_payload}
-use Rattle.amqp_program.specs.Runs.{AcceptsRaw, IsDoneOrNoMemory, RunsRaw, raw_turns, status_of}
+use Rattle.amqp_program.specs.Runs.{AcceptsRaw, IsDoneOrNoMemory, RunsRaw, raw_turns}
 use Rattle.amqp_program.proofs.Statuses.{answer_status_not_two, answer_status_three, answer_status_zero}
+use Rattle.amqp_stream.specs.Errors.{status_of}
 
 pub done_or_no_memory : (r : Result (Unit {0}) StreamError) → IsOkOrNoMemory r → IsDoneOrNoMemory (status_of r)
 done_or_no_memory (Ok done) h = inl refl
@@ -23,13 +24,13 @@ raw_not_two a b k l status run h = answer_status_not_two run.answer (sym run.sta
 accepted : (a b : Supply) (k l : Store) (answer : Result (Unit {0}) StreamError) → Canonicalizes plain max_payload raw_turns a b k l answer ⊎ NeverBegan a b k l answer → answer ≡ Ok tt → AcceptsRaw a b k l
 accepted a b k l answer (inl c) e =
     let cause = subst (λ r. HasCause plain max_payload raw_turns c.run.taken a b k l r) e c.run.cause in
-    let writes : c.run.written ≡ canon_of plain max_payload c.run.taken = subst (λ r. HasWritten (transcript canon_row plain max_payload c.run.taken) c.run.written r) e c.run.writes in
+    let writes : c.run.written ≡ canon_of plain max_payload c.run.taken = subst (λ r. HasWritten (transcript canon_frames plain max_payload c.run.taken) c.run.written r) e c.run.writes in
     record {
       taken = c.run.taken;
       reads = c.run.reads;
       takes = c.run.takes;
       end = cause.1;
-      row = cause.0;
+      sequence = cause.0;
       canonical = subst (λ (xs : List ℕ). Gains k l xs) writes c.run.gains;
     }
 accepted a b k l answer (inr never) e = let other = sym never.no_memory ∙ e in absurd cc

@@ -11,10 +11,11 @@ use Rattle.amqp_select.specs.Refusals.{Spell}
 use Rattle.amqp_select.specs.Covering.{uncovered}
 use Rattle.amqp_select.specs.Selecting.{selection}
 use Rattle.amqp_program.specs.Reports.{max_payload}
-use Rattle.amqp_program.specs.Runs.{IsDoneOrNoMemory, RunsSelect, raw_turns, status_of}
+use Rattle.amqp_program.specs.Runs.{IsDoneOrNoMemory, RunsSelect, raw_turns}
 use Rattle.amqp_program.proofs.RawRuns.{done_or_no_memory}
 use Rattle.amqp_program.proofs.Selections.{one_spelling, same_selection}
 use Rattle.amqp_program.proofs.Statuses.{answer_status_not_two, answer_status_three}
+use Rattle.amqp_stream.specs.Errors.{status_of}
 
 pub select_not_two : (rules : List Rule) (a b : Supply) (k l : Store) (status : ℕ) → RunsSelect rules a b k l status → status ≢ 2
 select_not_two rules a b k l status run h = answer_status_not_two run.answer (sym run.status_is ∙ h)

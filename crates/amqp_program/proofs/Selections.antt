@@ -9,12 +9,12 @@ use Rattle.amqp_select.specs.declared.errors.RuleError.{RuleError}
 use Rattle.amqp_select.specs.declared.errors.RuleError.TheVariants as errors
 use Rattle.amqp_select.specs.declared.rule.Rule.{Rule}
 use Rattle.amqp_select.specs.Rules.{IsRule, spelled}
-use Rattle.amqp_select.specs.Refusals.{Spell, IsRuleWord, Parses}
+use Rattle.amqp_select.specs.Refusals.{Spell, IsRuleWord, ParsesRules}
 use Rattle.amqp_select.specs.Covering.{uncovered}
 use Rattle.amqp_select.specs.Selecting.{selection}
 use Rattle.amqp_select.proofs.Words.{one_rule}
 use Rattle.amqp_select.proofs.Covered.{kept_same}
-use Rattle.amqp_frame.specs.Canonical.{canon_row}
+use Rattle.amqp_frame.specs.Canonical.{canon_frames}
 use Rattle.amqp_program.specs.Commands.{after_select, command_of, IsNoForm}
 
 same_rules : (rules others : List Rule) → AllByRecursion IsRule rules → AllByRecursion IsRule others → map spelled rules ≡ map spelled others → rules ≡ others
@@ -44,14 +44,14 @@ abbrev pub IsRefusal : RuleError → Type 0
 IsRefusal errors.NoMemory = ⊥
 IsRefusal error = Unit {0}
 
-pub refused_spell_none : (words : List (List ℕ)) (error : RuleError) → IsRefusal error → Parses words (Err error) → (rules : List Rule) → ¬ Spell words rules
+pub refused_spell_none : (words : List (List ℕ)) (error : RuleError) → IsRefusal error → ParsesRules words (Err error) → (rules : List Rule) → ¬ Spell words rules
 refused_spell_none words errors.Count is h rules k = let few = k.count.0 in let most = k.count.1 in omega arith
 refused_spell_none words (errors.Malformed place) is h rules k = h.no_rule (is_rule_word h.before h.rest h.word rules k.are_rules (sym h.parts ∙ k.are))
 refused_spell_none words errors.NoMemory is h rules k = absurd is
 
 -- by the rules that no earlier one covers the same is written
 pub same_selection : (rules : List Rule) → selection (uncovered rules) ≡ selection rules
-same_selection rules = fun_ext λ frames. ap canon_row (kept_same rules frames)
+same_selection rules = fun_ext λ frames. ap canon_frames (kept_same rules frames)
 
 -- ---- `select` is no other command
 

@@ -4,10 +4,9 @@ use Rattle.hex.specs.declared.error.FromHexError.{FromHexError}
 use Rattle.amqp_types.specs.Levels.{Level}
 use Rattle.amqp_stream.specs.declared.errors.StreamError.{StreamError}
 use Rattle.amqp_stream.specs.declared.errors.StreamError.TheVariants as errors
-use Rattle.amqp_stream.specs.Errors.{stream_error_status}
+use Rattle.amqp_stream.specs.Errors.{stream_error_status, status_of}
 use Rattle.amqp_stream.specs.Transcribing.{answer_to}
 use Rattle.amqp_program.specs.Reports.{printed, report_at, report_of, max_payload}
-use Rattle.amqp_program.specs.Runs.{status_of}
 
 -- an error has a status of its own, which is neither 0 nor 2
 

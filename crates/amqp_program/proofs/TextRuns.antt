@@ -7,14 +7,15 @@ use Rattle.amqp_stream.specs.Transcribing.{TranscribesExactly, NeverBegan, IsVal
 use Rattle.amqp_text.specs.Lines.{lines}
 use Rattle.amqp_text.specs.Dumping.{Dumps}
 use Rattle.amqp_text.specs.Undumping.{Undumps, UndumpsExactly}
-use Rattle.amqp_text.specs.Undumping.{IsValidText as IsValidLines}
+use Rattle.amqp_text.specs.Undumping.{IsValidText}
 use Rattle.amqp_text.specs.Undumping.{IsOkOrNoMemory as IsUndumpedOrNoMemory}
 use Rattle.amqp_text.specs.declared.errors.UndumpError.{UndumpError}
 use Rattle.amqp_text.specs.declared.errors.UndumpError.TheVariants as undumps
 use Rattle.amqp_program.specs.Reports.{max_payload}
-use Rattle.amqp_program.specs.Runs.{IsDoneOrNoMemory, RunsDump, RunsUndump, raw_turns, status_of, undump_status_of}
+use Rattle.amqp_program.specs.Runs.{IsDoneOrNoMemory, RunsDump, RunsUndump, raw_turns, undump_status_of}
 use Rattle.amqp_program.proofs.RawRuns.{done_or_no_memory}
 use Rattle.amqp_program.proofs.Statuses.{answer_status_not_two}
+use Rattle.amqp_stream.specs.Errors.{status_of}
 
 pub dump_not_two : (a b : Supply) (k l : Store) (status : ℕ) → RunsDump a b k l status → status ≢ 2
 dump_not_two a b k l status run h = answer_status_not_two run.answer (sym run.status_is ∙ h)
@@ -43,7 +44,7 @@ pub undump_not_two : (a b : Supply) (k l : Store) (status : ℕ) → RunsUndump 
 undump_not_two a b k l status run h = answer_not_two run.answer (sym run.status_is ∙ h)
 
 -- a run with this result
-pub undump_runs : (a b : Supply) (k l : Store) (answer : Result (Unit {0}) UndumpError) (status : ℕ) → status ≡ undump_status_of answer → Undumps max_payload raw_turns a b k l answer → ((input : List ℕ) → a.left ≡ Some input → UndumpsExactly max_payload input k l answer) → ((input : List ℕ) → a.left ≡ Some input → IsValidLines max_payload raw_turns input → NoFaults a b k l → IsUndumpedOrNoMemory answer) → RunsUndump a b k l status
+pub undump_runs : (a b : Supply) (k l : Store) (answer : Result (Unit {0}) UndumpError) (status : ℕ) → status ≡ undump_status_of answer → Undumps max_payload raw_turns a b k l answer → ((input : List ℕ) → a.left ≡ Some input → UndumpsExactly max_payload input k l answer) → ((input : List ℕ) → a.left ≡ Some input → IsValidText max_payload raw_turns input → NoFaults a b k l → IsUndumpedOrNoMemory answer) → RunsUndump a b k l status
 undump_runs a b k l answer status e stream exact complete = record {
   answer = answer;
   status_is = e;

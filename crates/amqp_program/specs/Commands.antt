@@ -24,8 +24,8 @@ command_named word =
     else (if bytes_eq word (codes "--version") then Some commands.Version else None)))))))
 
 -- the number that a word names, up to a greatest: the word is how the number is printed
-unfoldable pub number_named : ℕ → List ℕ → Option ℕ
-number_named most word =
+unfoldable pub count_named : ℕ → List ℕ → Option ℕ
+count_named most word =
     let n = digits_value 10 word in
     if bytes_eq word (decimal n) && nat_le n most then Some n else None
 
@@ -41,8 +41,8 @@ recut_by (Some size) = if size == 0 then None else Some (commands.Recut size)
 -- the command of two words: `make` and a number of frames, or `recut` and a size from 1 to the limit on payloads
 abbrev pub command_with : List ℕ → List ℕ → Option Command
 command_with word number =
-    if bytes_eq word (codes "make") then option_map commands.Make (number_named most_frames number)
-    else (if bytes_eq word (codes "recut") then recut_by (number_named max_payload number) else None)
+    if bytes_eq word (codes "make") then option_map commands.Make (count_named most_frames number)
+    else (if bytes_eq word (codes "recut") then recut_by (count_named max_payload number) else None)
 
 -- the command that the words after the program's name ask for, but for selections: each form is one word, or two
 abbrev pub command_of : List (List ℕ) → Option Command

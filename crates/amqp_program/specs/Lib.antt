@@ -1,3 +1,4 @@
+-- The definitions of amqp_program.
 pub mod Commands
 pub mod Texts
 pub mod Reports

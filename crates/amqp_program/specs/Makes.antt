@@ -8,10 +8,11 @@ use Rattle.amqp_stream.specs.Canonicalizing.{canon_of}
 use Rattle.amqp_stream.specs.Made.{made}
 use Rattle.amqp_program.specs.Reports.{max_payload}
 
--- the number of bytes of n frames that are made, and of their canonical bytes
+-- the number of bytes of the n frames that are made
 abbrev pub bytes_read : ℕ → ℕ
 bytes_read n = length (made n)
 
+-- the number of their canonical bytes
 abbrev pub bytes_written : ℕ → ℕ
 bytes_written n = length (canon_of plain max_payload (made n))
 

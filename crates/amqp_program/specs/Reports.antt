@@ -14,10 +14,12 @@ use Rattle.amqp_program.specs.declared.report.Report.{Report}
 abbrev pub max_payload : ℕ
 max_payload = 131072
 
+-- the bytes that are printed, and the exit status
 pub record Printed : Type 0 where
   pub text : List ℕ
   pub status : ℕ
 
+-- a report as contracts see it, its text as a list of bytes
 abbrev pub printed_of : Report → Printed
 printed_of r = record { text = r.text.items; status = r.status }
 
@@ -30,6 +32,7 @@ printed front (Err error) = record { text = front ++ (stream_error_name error ++
 unfoldable pub report_at : Level → List ℕ → Printed
 report_at level bytes = printed (encode_lower (canon_of level max_payload bytes) ++ 10 ∷ []) (answer_to level max_payload bytes)
 
+-- the report on decoded bytes; of a text that is not hex, the line BadHex with status 7
 abbrev pub report_of : Level → Result (List ℕ) FromHexError → Printed
 report_of level (Ok bytes) = report_at level bytes
 report_of level (Err error) = record { text = codes "BadHex" ++ 10 ∷ []; status = 7 }

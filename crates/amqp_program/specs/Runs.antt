@@ -5,9 +5,9 @@ use Rattle.std.specs.Io.BufRead.{strip_last}
 use Rattle.amqp_types.specs.Levels.{Level, plain}
 use Rattle.amqp_stream.specs.declared.errors.StreamError.{StreamError}
 use Rattle.amqp_stream.specs.declared.errors.StreamError.TheVariants as errors
-use Rattle.amqp_stream.specs.Errors.{stream_error_status}
+use Rattle.amqp_stream.specs.Errors.{stream_error_status, status_of}
 use Rattle.amqp_stream.specs.Ends.{Supply, Store, Takes, Gains, Rises, IsEmpty}
-use Rattle.amqp_stream.specs.Transcribing.{Transcribes, TranscribesExactly, IsRow, NeverBegan, IsValid, NoFaults}
+use Rattle.amqp_stream.specs.Transcribing.{Transcribes, TranscribesExactly, IsSequence, NeverBegan, IsValid, NoFaults}
 use Rattle.amqp_stream.specs.Canonicalizing.{canon_of, Canonicalizes, AnswersExactly}
 use Rattle.amqp_stream.specs.Writing.{IsPrefix}
 use Rattle.amqp_select.specs.declared.rule.Rule.{Rule}
@@ -19,7 +19,7 @@ use Rattle.amqp_recut.specs.Recutting.{NeverBegan as NeverRecut}
 use Rattle.amqp_text.specs.Lines.{lines}
 use Rattle.amqp_text.specs.Dumping.{Dumps}
 use Rattle.amqp_text.specs.Undumping.{Undumps, UndumpsExactly}
-use Rattle.amqp_text.specs.Undumping.{IsValidText as IsValidLines}
+use Rattle.amqp_text.specs.Undumping.{IsValidText}
 use Rattle.amqp_text.specs.Errors.{undump_error_status}
 use Rattle.amqp_text.specs.declared.errors.UndumpError.{UndumpError}
 use Rattle.amqp_program.specs.Texts.{longest}
@@ -45,17 +45,20 @@ pub record AcceptsHex (level : Level) (text written : List ℕ) (b : Supply) : T
   pub whole : IsWhole text b
   pub bytes : List ℕ
   pub decoded : decode_of (strip_last 10 text) ≡ Ok bytes
-  pub row : IsRow level max_payload bytes
+  pub sequence : IsSequence level max_payload bytes
   pub canonical : written ≡ encode_lower (canon_of level max_payload bytes) ++ 10 ∷ []
 
 -- a text with a report of status 0
-pub record IsValidText (level : Level) (text : List ℕ) : Type 0 where
+pub record IsValidHex (level : Level) (text : List ℕ) : Type 0 where
   pub few : length text ≤ longest
   pub accepted : (report level text).status ≡ 0
 
+-- a run ended with 0, or memory ran out
 abbrev pub IsDoneOrNoMemory : ℕ → Type 0
 IsDoneOrNoMemory status = (status ≡ 0) ⊎ (status ≡ 3)
 
+-- A run of `hex` (level plain) or `tidy` (level tidy): the report on the hex text was written, or the status says why not all of it was. A valid text
+-- ends with 0 where no read or write fails and memory lasts.
 pub record RunsHex (level : Level) (a b : Supply) (k l : Store) (status : ℕ) : Type 0 where
   pub text : List ℕ
   pub reads : ℕ
@@ -65,12 +68,7 @@ pub record RunsHex (level : Level) (a b : Supply) (k l : Store) (status : ℕ) :
   pub gains : Gains k l written
   pub ends : HexEnds level text written a b k l status
   pub accepts : status ≡ 0 → AcceptsHex level text written b
-  pub complete : (input : List ℕ) → a.left ≡ Some input → IsValidText level input → NoFaults a b k l → IsDoneOrNoMemory status
-
--- the status of a result
-abbrev pub status_of : Result (Unit {0}) StreamError → ℕ
-status_of (Ok done) = 0
-status_of (Err error) = stream_error_status error
+  pub complete : (input : List ℕ) → a.left ≡ Some input → IsValidHex level input → NoFaults a b k l → IsDoneOrNoMemory status
 
 -- the most reads that `raw` makes
 abbrev pub raw_turns : ℕ
@@ -82,9 +80,11 @@ pub record AcceptsRaw (a b : Supply) (k l : Store) : Type 0 where
   pub reads : ℕ
   pub takes : Takes a b taken reads
   pub end : IsEmpty b.left
-  pub row : IsRow plain max_payload taken
+  pub sequence : IsSequence plain max_payload taken
   pub canonical : Gains k l (canon_of plain max_payload taken)
 
+-- A run of `raw` or `lent`: the canonical bytes of the frames were written, as far as the result says. Memory runs out only before anything is read or
+-- written.
 pub record RunsRaw (a b : Supply) (k l : Store) (status : ℕ) : Type 0 where
   pub answer : Result (Unit {0}) StreamError
   pub status_is : status ≡ status_of answer
@@ -123,7 +123,7 @@ pub record RunsUndump (a b : Supply) (k l : Store) (status : ℕ) : Type 0 where
   pub status_is : status ≡ undump_status_of answer
   pub stream : Undumps max_payload raw_turns a b k l answer
   pub exact : (input : List ℕ) → a.left ≡ Some input → UndumpsExactly max_payload input k l answer
-  pub complete : (input : List ℕ) → a.left ≡ Some input → IsValidLines max_payload raw_turns input → NoFaults a b k l → IsDoneOrNoMemory status
+  pub complete : (input : List ℕ) → a.left ≡ Some input → IsValidText max_payload raw_turns input → NoFaults a b k l → IsDoneOrNoMemory status
 
 -- the status of a result of recutting
 abbrev pub recut_status_of : Result (Unit {0}) RecutError → ℕ

@@ -9,6 +9,8 @@ use Rattle.amqp_program.specs.declared.text.TextError.TheVariants as errors
 abbrev pub longest : ℕ
 longest = 16777216
 
+-- When each result of reading a text comes, by the bytes taken: Ok with all of them at the end of input, TooLong where they are more than the longest
+-- text.
 abbrev pub TextEnds : List ℕ → Supply → Supply → Result (List ℕ) TextError → Type 0
 TextEnds taken old new (Ok text) = (text ≡ taken) × (length taken ≤ longest) × IsEmpty new.left
 TextEnds taken old new (Err errors.ReadFault) = (length taken ≤ longest) × Rises old.faults new.faults
@@ -23,6 +25,7 @@ pub record ReadsText (old new : Supply) (result : Result (List ℕ) TextError) :
   pub at_most : reads ≤ longest + 1
   pub ends : TextEnds taken old new result
 
-abbrev pub text_of : Result (Vec ℕ Global) TextError → Result (List ℕ) TextError
-text_of (Ok text) = Ok text.items
-text_of (Err error) = Err error
+-- the result of a call that reads a text, with the text as a list of bytes
+abbrev pub text_read : Result (Vec ℕ Global) TextError → Result (List ℕ) TextError
+text_read (Ok text) = Ok text.items
+text_read (Err error) = Err error

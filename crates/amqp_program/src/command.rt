@@ -5,7 +5,7 @@ ghost use Rattle.std.specs.Option.{option_map};
 ghost use Rattle.amqp_select.specs.Refusals.{texts_of};
 ghost use Rattle.amqp_stream.specs.Made.{most_frames};
 ghost use Rattle.amqp_program.specs.declared.command.Command.TheVariants as commands;
-ghost use Rattle.amqp_program.specs.Commands.{after_select, command_named, command_of, command_with, has_padding, number_named, recut_by};
+ghost use Rattle.amqp_program.specs.Commands.{after_select, command_named, command_of, command_with, has_padding, count_named, recut_by};
 ghost use Rattle.amqp_program.specs.Reports.{max_payload};
 
 /// What the words ask for.
@@ -49,7 +49,7 @@ const MAX_FRAMES: u32 = 100_000;
 /// The largest size that bodies are cut into, in bytes.
 const MAX_SIZE: u32 = 131_072;
 
-/// Whether a word begins with a sign, or with a zero and more after it.
+/// Whether a word begins with a plus, or with a zero and more after it.
 fn is_padded(word: &str) -> bool
     ensures { result ≡ has_padding word.now }
 {
@@ -58,7 +58,7 @@ fn is_padded(word: &str) -> bool
 
 /// The number that a word names, up to `most`: `0`, or digits without a leading zero.
 fn parse_number(word: &str, most: u32) -> Option<u32>
-    ensures { result ≡ number_named most word.now }
+    ensures { result ≡ count_named most word.now }
 {
     if is_padded(word) {
         return None;
@@ -88,7 +88,7 @@ fn parse_word(word: &str) -> Option<Command>
 
 /// The command `make` with this number of frames.
 fn parse_make(number: &str) -> Option<Command>
-    ensures { result ≡ option_map commands.Make (number_named most_frames number.now) }
+    ensures { result ≡ option_map commands.Make (count_named most_frames number.now) }
 {
     match parse_number(number, MAX_FRAMES) {
         Some(frames) => Some(Command::Make(frames)),
@@ -98,7 +98,7 @@ fn parse_make(number: &str) -> Option<Command>
 
 /// The command `recut` with this size, which is not 0.
 fn parse_recut(number: &str) -> Option<Command>
-    ensures { result ≡ recut_by (number_named max_payload number.now) }
+    ensures { result ≡ recut_by (count_named max_payload number.now) }
 {
     match parse_number(number, MAX_SIZE) {
         Some(0) => None,

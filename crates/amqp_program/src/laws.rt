@@ -2,7 +2,8 @@
 
 ghost use Rattle.amqp_program.specs.HexLaws.{EqualHexIsEqualBytes, EqualOutputIsEqualFrames};
 
-/// Bytes whose lower-case hex is equal are equal: two inputs for which `hex` prints one text have the same canonical bytes.
+/// Bytes whose lower-case hex is equal are equal: two inputs for which `hex` prints one text have the same canonical
+/// bytes.
 #[tactic(auto, using(crate::proofs::HexApart::equal_hex))]
 pub fn equal_hex_is_equal_bytes()
     ensures { EqualHexIsEqualBytes }

@@ -5,7 +5,7 @@ ghost use Rattle.amqp_program.specs.Runs.{Prints};
 
 use amqp_stream::{Sink, write_all};
 
-/// The forms of words, and the statuses.
+/// What `--help` prints: the forms of words, and the statuses.
 pub const HELP: &str = "feksroum: reads AMQP 0-9-1 frames and writes their canonical bytes.
 
   feksroum hex        reads a hex text, and prints the canonical bytes of the frames in
@@ -40,10 +40,10 @@ a message), 26 BadText (a line that is the line of no frame with a payload of at
 bytes).
 ";
 
-/// The version.
+/// What `--version` prints: the name and the version, in one line.
 pub const VERSION: &str = "feksroum 0.1.0\n";
 
-/// Prints a text, and nothing else.
+/// Prints a text, and nothing else. Returns 0, or 5 where a write fails.
 pub fn print<K: Sink>(sink: &mut K, text: &str) -> u8
     ensures printed { Prints text.now (K.store sink.old) (K.store sink.new) result }
     ensures few { result ≤ 5 }

@@ -10,8 +10,8 @@ const BODIES: [u8; 29] = [
     111, 206,
 ];
 
-/// Words, the first and the last of the message's bytes that are read, how many of these are written before the bodies, and
-/// the status. (The message is a method of 22 bytes, a content header of 34 and a body of 13.)
+/// Words, the first and the last of the message's bytes that are read, how many of these are written before the bodies,
+/// and the status. (The message is a method of 22 bytes, a content header of 34 and a body of 13.)
 const ROWS: [(&[&str], usize, usize, usize, &[u8], u8); 17] = [
     (&["recut", "2"], 0, 69, 56, &BODIES, 0),
     (&["recut", "131072"], 0, 69, 69, &[], 0),

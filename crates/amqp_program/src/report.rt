@@ -2,7 +2,7 @@
 
 ghost use Rattle.std.specs.Prelude.{◌≡◌, ◌≢◌, ◌≤◌, ◌++◌, ◌∷◌, [], Err, IfOk};
 ghost use Rattle.amqp_types.specs.Levels.{level_of};
-ghost use Rattle.amqp_frame.specs.Canonical.{canon_row};
+ghost use Rattle.amqp_frame.specs.Canonical.{canon_frames};
 ghost use Rattle.amqp_stream.specs.Transcribing.{IsAnswerTo};
 ghost use Rattle.amqp_stream.specs.Writing.{AsksTidy};
 ghost use Rattle.amqp_program.specs.Reports.{max_payload, printed_of, printed, report, report_at};
@@ -18,7 +18,10 @@ pub const MAX_PAYLOAD: ChunkSize = 131_072;
 /// What is printed, and the exit status.
 #[derive(Drop)]
 pub struct Report {
+    /// The bytes that are printed, which are ASCII.
     pub text: Vec<u8>,
+
+    /// The exit status.
     pub status: u8,
 }
 
@@ -28,7 +31,7 @@ fn canonical(
     profile: Profile,
     bytes: &[u8],
 ) -> Result<(VecSink, Result<(), StreamError>), NoMemory>
-    ensures answer { IfOk result (λ r. IsAnswerTo canon_row (level_of profile) max_payload bytes.now r.0.bytes r.1) }
+    ensures answer { IfOk result (λ r. IsAnswerTo canon_frames (level_of profile) max_payload bytes.now r.0.bytes r.1) }
     ensures memory { IfOk result (λ r. r.1 ≢ Err StreamError.NoMemory) }
     ensures untidy { IfOk result (λ r. r.1 ≡ Err StreamError.NotTidy → AsksTidy (level_of profile)) }
 {

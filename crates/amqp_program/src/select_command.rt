@@ -23,7 +23,8 @@ fn run_rules<S: Source, K: Sink>(alloc: Global, rules: &Rules, source: &mut S, s
     }
 }
 
-/// The same for the rules that words stand for. A rule that an earlier one covers is left out first: it decides nothing.
+/// The same for the rules that words stand for. A rule that an earlier one covers is left out first: it decides
+/// nothing.
 pub fn run_select<S: Source, K: Sink>(
     alloc: Global,
     words: &[String],

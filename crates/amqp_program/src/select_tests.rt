@@ -4,8 +4,8 @@ use super::*;
 use crate::tests::{MESSAGE, ran};
 use std::test::Fail;
 
-/// Rules, how many bytes at the end of a message are written, and the status. (A message is a method of 22 bytes, a content
-/// header of 34 and a body of 13.)
+/// Rules, how many bytes at the end of a message are written, and the status. (A message is a method of 22 bytes, a
+/// content header of 34 and a body of 13.)
 const SELECTIONS: [(&[&str], usize, u8); 14] = [
     (&["select", "keep"], 69, 0),
     (&["select", "drop"], 0, 0),

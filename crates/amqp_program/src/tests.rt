@@ -106,7 +106,7 @@ const UNKNOWN_TAG: [u8; 22] = [
 ];
 
 #[test]
-fn bytes_are_told_by_the_status(rt: HostRuntime) -> Result<(), Fail> {
+fn the_status_reports_the_bytes(rt: HostRuntime) -> Result<(), Fail> {
     let rows: [(&[u8], &[u8], u8); 5] = [
         (
             &[8, 0, 0, 0, 0, 0, 1, 7, 206, 9],
@@ -166,7 +166,7 @@ fn a_text_has_a_longest(rt: HostRuntime) -> Result<(), Fail> {
 }
 
 #[test]
-fn words_are_told_apart(rt: HostRuntime) -> Result<(), Fail> {
+fn words_are_distinguished(rt: HostRuntime) -> Result<(), Fail> {
     let rows: [(&[&str], u8, &str); 13] = [
         (&[], 2, ""),
         (&["hex", "x"], 2, ""),

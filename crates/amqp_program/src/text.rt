@@ -1,7 +1,7 @@
 //! Reading a whole text.
 
 ghost use Rattle.std.specs.Prelude.{◌≡◌};
-ghost use Rattle.amqp_program.specs.Texts.{ReadsText, text_of};
+ghost use Rattle.amqp_program.specs.Texts.{ReadsText, text_read};
 
 use amqp_stream::Source;
 use std::alloc::Global;
@@ -24,7 +24,7 @@ pub const LONGEST_TEXT: usize = 16_777_216;
 
 /// Reads all of a source as text.
 pub fn read_text<S: Source>(alloc: Global, source: &mut S) -> Result<Vec<u8>, TextError>
-    ensures { ReadsText (S.supply source.old) (S.supply source.new) (text_of result) }
+    ensures { ReadsText (S.supply source.old) (S.supply source.new) (text_read result) }
 {
     let mut text = Vec::new(alloc);
     let mut chunk = [0u8; 4096];

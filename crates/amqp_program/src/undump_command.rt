@@ -9,7 +9,7 @@ use amqp_stream::{Sink, Source};
 use amqp_text::undump;
 use std::alloc::Global;
 
-/// Writes the canonical bytes of the frame of each line. An error is said by the status alone.
+/// Writes the canonical bytes of the frame of each line, and reports an error by the status alone.
 #[tactic(auto, using(crate::proofs::TextRuns::undump_runs))]
 pub fn run_undump<S: Source, K: Sink>(alloc: Global, source: &mut S, sink: &mut K) -> u8
     ensures run { RunsUndump (S.supply source.old) (S.supply source.new) (K.store sink.old) (K.store sink.new) result }

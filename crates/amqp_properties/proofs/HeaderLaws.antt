@@ -52,7 +52,7 @@ unfolding judge_content_header
 content_headers_lawful =
     both_lawful (judge_slots header_slots) judge_properties header_of_parts (λ level. SpellsSlots level header_slots) SpellsProperties (slots_bytes header_slots) properties_bytes content_header_bytes (slots_lawful header_slots least) properties_lawful header_bytes_are
 
-options_are : (items : List Item) (set : List (Option Item)) → (header_of_parts items set).options ≡ set
+pub options_are : (items : List Item) (set : List (Option Item)) → (header_of_parts items set).options ≡ set
 options_are (number_item class ∷ number_item size ∷ []) set = refl
 options_are items set = refl
 

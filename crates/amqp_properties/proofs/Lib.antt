@@ -1,3 +1,4 @@
+-- The lemmas of amqp_properties.
 pub mod Steps
 pub mod Masks
 pub mod Options

@@ -14,14 +14,15 @@ use Rattle.amqp_types.specs.PropertyJudging.{first_item, judge_optional, judge_s
 use Rattle.amqp_types.specs.PropertyBytes.{optional_bytes, set_bytes, is_deep_option, is_long_option, any_deep_option, any_long_option}
 use Rattle.amqp_types.specs.PropertySpelling.{SpellsOptional, SpellsSet}
 use Rattle.amqp_types.specs.PropertyLaws.{gives_one, give_one, SetsAreLawful}
-use Rattle.amqp_types.proofs.Lawful.{made_lawful, both_lawful}
+use Rattle.amqp_types.proofs.Lawful.{mapped_lawful, both_lawful}
 use Rattle.amqp_types.proofs.FormLaws.{is_plain}
-use Rattle.amqp_values.proofs.SlotForms.{forms_lawful, form_gives, neither}
-use Rattle.amqp_values.proofs.SlotLaws.{both_true, either}
+use Rattle.amqp_values.proofs.SlotForms.{forms_lawful, form_gives}
+use Rattle.amqp_values.proofs.SlotLaws.{both_true, either, form_is_plain}
 use Rattle.amqp_properties.proofs.Masks.{set_flags}
+use Rattle.amqp_values.proofs.Bounded.{neither}
 
 -- what a form that gives one item is written as shows its first item alone
-first_bytes : (form : Form) → gives_one form ≡ true → (items : List Item) → optional_bytes form (first_item items) ≡ form_bytes form items
+pub first_bytes : (form : Form) → gives_one form ≡ true → (items : List Item) → optional_bytes form (first_item items) ≡ form_bytes form items
 unfolding optional_bytes form_bytes
 first_bytes (number_form width) one [] = refl
 first_bytes (number_form width) one (number_item n ∷ items) = refl
@@ -71,7 +72,7 @@ module _ {A : Type 0} (nothing : A) (judge : Judge A) (Spells : Level → List �
 
 optional_lawful : (present : Bool) (form : Form) → gives_one form ≡ true → IsLawful (judge_optional present form) (λ level. SpellsOptional level present form) (optional_bytes form)
 unfolding judge_optional optional_bytes
-optional_lawful true form one = made_lawful first_item (judge_form form) (λ level. SpellsForm level form) (form_bytes form) (optional_bytes form) (forms_lawful form) (first_bytes form one)
+optional_lawful true form one = mapped_lawful first_item (judge_form form) (λ level. SpellsForm level form) (form_bytes form) (optional_bytes form) (forms_lawful form) (first_bytes form one)
 optional_lawful false form one = nothing_lawful None (judge_optional false form) (λ level. SpellsOptional level false form) (optional_bytes form) (λ bytes. refl) (λ level. (refl, refl)) (λ level bytes option h. h) refl
 
 -- ---- lists of them
@@ -86,16 +87,13 @@ sets_lawful mask (p ∷ ps) one =
 
 -- ---- what is there
 
-form_is_plain : (level : Level) (form : Form) (bytes : List ℕ) (items : List Item) → SpellsForm level form bytes items → SpellsForm plain form bytes items
-form_is_plain level form = is_plain (λ l. SpellsForm l form) (forms_lawful form).strict_is_tidy (forms_lawful form).tidy_is_plain level
-
 -- what an optional form gives: an item exactly where it is there, which is neither long nor too deep
 record GivesOption (present : Bool) (option : Option Item) : Type 0 where
   there : is_some option ≡ present
   not_deep : is_deep_option option ≡ false
   not_long : is_long_option option ≡ false
 
-counted_one : (form : Form) → gives_one form ≡ true → item_count form ≡ 1
+pub counted_one : (form : Form) → gives_one form ≡ true → item_count form ≡ 1
 counted_one (number_form width) one = refl
 counted_one (flags_form count) one = absurd cc
 counted_one short_string_form one = refl

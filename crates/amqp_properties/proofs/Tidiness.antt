@@ -13,8 +13,8 @@ use Rattle.amqp_types.specs.PropertyJudging.{judge_properties}
 use Rattle.amqp_types.specs.PropertySpelling.{SpellsOptional, SpellsSet, SpellsProperties}
 use Rattle.amqp_types.specs.PropertyLaws.{gives_one, give_one}
 use Rattle.amqp_types.specs.ContentHeaders.{header_slots, header_of_parts, judge_content_header, SpellsContentHeader}
-use Rattle.amqp_types.specs.Tidiness.{short_at, are_tidy_slots, are_tidy_properties, is_tidy_content_header, TidyPropertiesAreTold, TidyContentHeadersAreTold}
-use Rattle.amqp_types.proofs.Telling.{IsTest, told, both_test}
+use Rattle.amqp_types.specs.Tidiness.{short_at, are_tidy_slots, are_tidy_properties, is_tidy_content_header, TidyPropertiesAreDecided, TidyContentHeadersAreDecided}
+use Rattle.amqp_types.proofs.Deciding.{IsTest, decides, both_test}
 use Rattle.amqp_values.proofs.SlotLaws.{slots_lawful}
 use Rattle.amqp_values.proofs.PlainValues.{field_table_plain_is_tidy}
 use Rattle.amqp_values.proofs.Tidiness.{short_at_front, slots_test}
@@ -82,14 +82,14 @@ properties_tested bytes rest options h = mask_tested tidy bytes rest options h â
 properties_test : IsTest SpellsProperties are_tidy_properties
 properties_test = record { tidied = properties_tidied; tested = properties_tested }
 
-pub properties_told : TidyPropertiesAreTold
-properties_told = told judge_properties SpellsProperties are_tidy_properties properties_lawful.exact properties_test
+pub properties_decided : TidyPropertiesAreDecided
+properties_decided = decides judge_properties SpellsProperties are_tidy_properties properties_lawful.exact properties_test
 
 -- ---- content headers
 
-pub content_headers_told : TidyContentHeadersAreTold
+pub content_headers_decided : TidyContentHeadersAreDecided
 unfolding is_tidy_content_header
-content_headers_told =
+content_headers_decided =
     let law = slots_lawful header_slots least in
-    told judge_content_header SpellsContentHeader is_tidy_content_header content_headers_lawful.exact
+    decides judge_content_header SpellsContentHeader is_tidy_content_header content_headers_lawful.exact
     (both_test (judge_slots header_slots) header_of_parts (Î» level. SpellsSlots level header_slots) SpellsProperties (are_tidy_slots header_slots) are_tidy_properties law.exact law.tidy_is_plain (slots_test header_slots least) properties_test)

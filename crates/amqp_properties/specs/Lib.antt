@@ -1,3 +1,4 @@
+-- The definitions of amqp_properties.
 pub mod Options
 pub mod OptionalFields
 pub mod HeldOptions

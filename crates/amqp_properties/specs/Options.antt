@@ -1,9 +1,11 @@
--- Properties as a list of 14 options, in the order in which they stand.
+-- Properties as a list of 14 options, in the order in which they are encoded.
 use Rattle.std.specs.Prelude.{List, [], ◌∷◌, Option, option_map}
 use Rattle.amqp_types.specs.Slots.{Item, number_item, text_item, entries_item}
 use Rattle.amqp_properties.specs.declared.properties.AMQPProperties.{AMQPProperties}
 use Rattle.amqp_properties.specs.declared.parsing.LaterProperties.{LaterProperties}
 
+-- The 14 properties in the order of the mask, from bit 15 down to bit 2 (AMQP 0-9-1, section 4.2.6.1),
+-- each with its item where it is set.
 abbrev pub options : AMQPProperties → List (Option Item)
 options p =
     option_map text_item p.content_type ∷
@@ -22,7 +24,7 @@ options p =
     option_map text_item p.cluster_id ∷
     []
 
--- the last seven
+-- the last seven of them, from the expiration on
 abbrev pub later_options : LaterProperties → List (Option Item)
 later_options p =
     option_map text_item p.expiration ∷

@@ -37,7 +37,7 @@ fn properties_fields(properties: &AMQPProperties) -> [Field<'_>; 15]
     ]
 }
 
-/// The number of bytes that the properties are written in.
+/// The number of canonical bytes of the mask and the properties that are set, 2 where none is.
 pub fn size_properties(value: &AMQPProperties) -> Result<u64, GenError>
     ensures { Measures result (properties_size (options value.now)) }
 {

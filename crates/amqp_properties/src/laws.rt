@@ -3,7 +3,7 @@
 ghost use Rattle.amqp_types.specs.PropertyLaws.{SetsAreLawful, PropertiesAreLawful, SpelledPropertiesAreBounded, HeldPropertiesAreReadBack};
 ghost use Rattle.amqp_types.specs.PayloadFaults.{ContentHeadersFailInside};
 ghost use Rattle.amqp_types.specs.ContentHeaders.{ContentHeadersAreLawful, SpelledContentHeadersAreBounded, HeldContentHeadersAreReadBack};
-ghost use Rattle.amqp_types.specs.Tidiness.{TidyPropertiesAreTold, TidyContentHeadersAreTold};
+ghost use Rattle.amqp_types.specs.Tidiness.{TidyPropertiesAreDecided, TidyContentHeadersAreDecided};
 
 /// The laws of lists of properties that give one item each, whatever the mask.
 pub fn sets_are_lawful()
@@ -40,14 +40,14 @@ pub fn held_content_headers_are_read_back()
     ensures { HeldContentHeadersAreReadBack }
 {}
 
-/// A test says which properties are tidy.
-pub fn tidy_properties_are_told()
-    ensures { TidyPropertiesAreTold }
+/// A test decides which properties are tidy.
+pub fn tidy_properties_are_decided()
+    ensures { TidyPropertiesAreDecided }
 {}
 
-/// A test says which payloads of content headers are tidy.
-pub fn tidy_content_headers_are_told()
-    ensures { TidyContentHeadersAreTold }
+/// A test decides which payloads of content headers are tidy.
+pub fn tidy_content_headers_are_decided()
+    ensures { TidyContentHeadersAreDecided }
 {}
 
 /// The payload of a content header shows only faults of what stands inside it.

@@ -17,7 +17,7 @@ pub use laws::{
     content_headers_are_lawful, content_headers_fail_inside, held_content_headers_are_read_back,
     held_properties_are_read_back, properties_are_lawful, sets_are_lawful,
     spelled_content_headers_are_bounded, spelled_properties_are_bounded,
-    tidy_content_headers_are_told, tidy_properties_are_told,
+    tidy_content_headers_are_decided, tidy_properties_are_decided,
 };
 pub use parsing::parse_properties;
 pub use properties::AMQPProperties;

@@ -90,7 +90,7 @@ fn read_properties(
     })
 }
 
-/// Decodes a mask, and the properties that it says are set.
+/// Decodes a mask, and the properties that it says are set (AMQP 0-9-1, section 4.2.6.1).
 #[tactic(auto, using(amqp_types::proofs::Judged::refuses_next), unfolding(amqp_types::specs::PropertyJudging::judge_properties))]
 pub fn parse_properties(alloc: Global, i: &[u8]) -> Result<(usize, AMQPProperties), ParserError>
     ensures { Parses options result i.now judge_properties }

@@ -8,8 +8,9 @@ use crate::optional::{copy_short_string, copy_table, worth};
 use amqp_values::{FieldTable, NoMemory, ShortShortUInt, ShortString, ShortUInt, Timestamp};
 use std::alloc::Global;
 
-/// What a message says of itself. Each property may be set or not.
-#[derive(Debug, Default, Drop, PartialEq)]
+/// What a message says of itself: the properties of class basic (AMQP 0-9-1, section 4.2.6.1). Each
+/// may be set or not.
+#[derive(Debug, Drop, PartialEq)]
 pub struct AMQPProperties {
     /// The MIME type of the content.
     pub content_type: Option<ShortString>,
@@ -17,7 +18,7 @@ pub struct AMQPProperties {
     /// The MIME encoding of the content.
     pub content_encoding: Option<ShortString>,
 
-    /// What the application adds, by name.
+    /// What the application adds, by name: the headers of the message.
     pub headers: Option<FieldTable>,
 
     /// 1 for a message that may be lost, 2 for one that is to be kept.
@@ -38,7 +39,7 @@ pub struct AMQPProperties {
     /// The name that the application gives the message.
     pub message_id: Option<ShortString>,
 
-    /// When the message was made, in seconds.
+    /// When the message was made, in seconds since 1970 began in UTC.
     pub timestamp: Option<Timestamp>,
 
     /// What kind of message it is, which the standard calls its type.
@@ -52,6 +53,47 @@ pub struct AMQPProperties {
 
     /// Reserved by the standard.
     pub cluster_id: Option<ShortString>,
+}
+
+impl Default for AMQPProperties {
+    ghost use Rattle.std.specs.Prelude.{None};
+
+    /// No property is set.
+    fn default() -> AMQPProperties
+        ensures { result ≡ record {
+          content_type = None;
+          content_encoding = None;
+          headers = None;
+          delivery_mode = None;
+          priority = None;
+          correlation_id = None;
+          reply_to = None;
+          expiration = None;
+          message_id = None;
+          timestamp = None;
+          kind = None;
+          user_id = None;
+          app_id = None;
+          cluster_id = None;
+        } }
+    {
+        AMQPProperties {
+            content_type: None,
+            content_encoding: None,
+            headers: None,
+            delivery_mode: None,
+            priority: None,
+            correlation_id: None,
+            reply_to: None,
+            expiration: None,
+            message_id: None,
+            timestamp: None,
+            kind: None,
+            user_id: None,
+            app_id: None,
+            cluster_id: None,
+        }
+    }
 }
 
 impl AMQPProperties {
@@ -295,7 +337,7 @@ impl AMQPProperties {
         &self.cluster_id
     }
 
-    /// The mask that says which properties are set.
+    /// The mask that says which properties are set: bit 15 for the first, bit 2 for the last (section 4.2.6.1).
     #[tactic(auto, unfolding(amqp_types::specs::PropertyBytes::mask_of, amqp_types::specs::Properties::properties, amqp_types::specs::Properties::later_properties))]
     pub fn bitmask(&self) -> ShortUInt
         ensures { result ≡ mask_of properties (options self.now) }

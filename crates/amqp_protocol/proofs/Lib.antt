@@ -1,3 +1,4 @@
+-- The lemmas of amqp_protocol.
 pub mod Codes
 pub mod PlainLogins
 pub mod Equality

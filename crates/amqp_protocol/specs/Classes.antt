@@ -1,4 +1,4 @@
--- A method of any class.
+-- Methods of all classes.
 use Rattle.amqp_types.specs.Methods.{Method}
 use Rattle.amqp_basic.specs.Basic as basic
 use Rattle.amqp_connection.specs.Connection as connection
@@ -11,6 +11,7 @@ use Rattle.amqp_topology.specs.Queue as queue
 use Rattle.amqp_protocol.specs.declared.class.AMQPClass.{AMQPClass}
 use Rattle.amqp_protocol.specs.declared.class.AMQPClass.TheVariants as classes
 
+-- a method of its class: basic is class 60, connection 10, channel 20, access 30, exchange 40, queue 50, tx 90, confirm 85
 abbrev pub method_of : AMQPClass → Method
 method_of (classes.Basic m) = basic.method_of m
 method_of (classes.Connection m) = connection.method_of m

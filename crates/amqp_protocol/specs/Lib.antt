@@ -1,3 +1,4 @@
+-- The definitions of amqp_protocol.
 pub mod Classes
 pub mod ErrorCodes
 pub mod Logins

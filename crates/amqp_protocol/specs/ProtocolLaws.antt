@@ -17,6 +17,7 @@ pub record CodesNameErrors : Type 0 where
 abbrev pub HasPlainName : Login → Type 0
 HasPlainName login = All (λ byte. byte ≢ 0) login.username
 
+-- Of logins whose user names hold no zero byte, two strings of Plain are equal exactly where user name and password are.
 abbrev pub PlainLoginsNameCredentials : Type 0
 PlainLoginsNameCredentials = (a b : Login) → HasPlainName a → HasPlainName b → (login_bytes mechanism.Plain a ≡ login_bytes mechanism.Plain b) ↔ (a ≡ b)
 

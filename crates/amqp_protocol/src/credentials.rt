@@ -3,7 +3,7 @@
 ghost use Rattle.std.specs.Prelude.{◌≡◌, ◌++◌, ◌∷◌, ◌≤◌, ◌<◌, ◌^◌, ◌+◌, length, Err, IfOk, OnOk, codes};
 ghost use Rattle.amqp_protocol.specs.Logins.{login_entry, login_bytes, demo_answer};
 
-use amqp_types::{LongString, MakeError, NoMemory};
+use amqp_types::{LongString, MakeError, NoMemory, TAG_LONG_STRING};
 use std::alloc::{AllocError, Global};
 use std::marker::Model;
 
@@ -13,13 +13,13 @@ pub enum SASLMechanism {
     /// User name and password, as entries of a table.
     AMQPlain,
 
-    /// Without a name.
+    /// Without a name: the response is empty.
     Anonymous,
 
-    /// By what the transport knows of the client.
+    /// By what the transport knows of the client, such as its certificate: the response is empty.
     External,
 
-    /// User name and password, each after a zero byte.
+    /// User name and password, each after a zero byte (RFC 4616).
     Plain,
 
     /// A challenge and its response, for the demonstration of such mechanisms.
@@ -91,7 +91,7 @@ fn append_entry(out: &mut Vec<u8>, key: &str, content: &[u8]) -> Result<(), Allo
 {
     out.push(key.len() as u8)?;
     out.extend_from_slice(key.as_bytes())?;
-    out.push(b'S')?;
+    out.push(TAG_LONG_STRING)?;
     out.extend_from_slice(&(content.len() as u32).to_be_bytes())?;
     out.extend_from_slice(content)?;
     Ok(())
@@ -101,7 +101,8 @@ fn append_entry(out: &mut Vec<u8>, key: &str, content: &[u8]) -> Result<(), Allo
 fn amqplain(alloc: Global, username: &[u8], password: &[u8]) -> Result<LongString, MakeError>
     ensures ok { IfOk result (λ string. string ≡ login_entry (codes "LOGIN") username.now ++ login_entry (codes "PASSWORD") password.now) }
     ensures fits { OnOk result (length (login_entry (codes "LOGIN") username.now ++ login_entry (codes "PASSWORD") password.now) < 2 ^ 32) }
-    ensures too_long { result ≡ Err MakeError.TooLong → 2 ^ 32 ≤ length (login_entry (codes "LOGIN") username.now ++ login_entry (codes "PASSWORD") password.now) }
+    ensures too_long { result ≡ Err MakeError.TooLong
+        → 2 ^ 32 ≤ length (login_entry (codes "LOGIN") username.now ++ login_entry (codes "PASSWORD") password.now) }
 {
     if username.len() > MOST_BYTES || password.len() > MOST_BYTES {
         return Err(MakeError::TooLong);
@@ -174,7 +175,7 @@ impl Credentials {
         })
     }
 
-    /// What the client sends first.
+    /// The first response of a mechanism, for `StartOk`; `TooLong` where it has 2^32 bytes or more.
     pub fn sasl_auth_string(
         &self,
         alloc: Global,
@@ -194,14 +195,14 @@ impl Credentials {
         }
     }
 
-    /// What a server asks by the mechanism `RabbitCrDemo`.
+    /// The challenge of a server by the mechanism `RabbitCrDemo`.
     pub fn rabbit_cr_demo_challenge(&self) -> &'static str
         ensures { result.now ≡ codes "Please tell me your password" }
     {
         "Please tell me your password"
     }
 
-    /// The response of the client to that.
+    /// The response of the client to that challenge; `TooLong` where it has 2^32 bytes or more.
     pub fn rabbit_cr_demo_answer(&self, alloc: Global) -> Result<LongString, MakeError>
         ensures ok { IfOk result (λ string. string ≡ demo_answer self.now) }
         ensures fits { OnOk result (length (demo_answer self.now) < 2 ^ 32) }

@@ -6,28 +6,28 @@ use std::error::Error;
 use std::fmt;
 use std::marker::Model;
 
-/// An error that closes a channel.
+/// An error that closes a channel, by its reply code (AMQP 0-9-1, section 1.2).
 #[derive(Clone, Copy, Debug, PartialEq, Eq)]
 pub enum AMQPSoftError {
-    /// The content is larger than the server takes.
+    /// 311: the content is larger than the server takes.
     CONTENTTOOLARGE,
 
-    /// A mandatory message reaches no queue.
+    /// 312, which is RabbitMQ's: a mandatory message reaches no queue.
     NOROUTE,
 
-    /// An immediate message reaches no consumer.
+    /// 313: an immediate message reaches no consumer.
     NOCONSUMERS,
 
-    /// The client may not use this.
+    /// 403: the client may not use this.
     ACCESSREFUSED,
 
-    /// There is nothing of this name.
+    /// 404: there is nothing of this name.
     NOTFOUND,
 
-    /// Another client is using this.
+    /// 405: another client is using this.
     RESOURCELOCKED,
 
-    /// What the method needs does not hold.
+    /// 406: what the method needs does not hold.
     PRECONDITIONFAILED,
 }
 
@@ -35,7 +35,7 @@ impl AMQPSoftError {
     ghost use Rattle.std.specs.Prelude.{◌≡◌};
     ghost use Rattle.amqp_protocol.specs.ErrorCodes.{soft_code, soft_text, soft_at};
 
-    /// The code.
+    /// The reply code.
     pub fn get_id(&self) -> Identifier
         ensures { result ≡ soft_code self.now }
     {
@@ -50,7 +50,7 @@ impl AMQPSoftError {
         }
     }
 
-    /// The error of a code, if it has one.
+    /// The error of a reply code, if it has one.
     pub fn from_id(id: Identifier) -> Option<AMQPSoftError>
         ensures { result ≡ soft_at id }
     {
@@ -66,7 +66,7 @@ impl AMQPSoftError {
         }
     }
 
-    /// The text that the standard has for the code.
+    /// The name of the code's constant, in capitals with hyphens.
     fn text(&self) -> &'static str
         ensures { result.now ≡ soft_text self.now }
     {
@@ -93,40 +93,40 @@ impl fmt::Display for AMQPSoftError {
     }
 }
 
-/// An error that closes a connection.
+/// An error that closes a connection, by its reply code (AMQP 0-9-1, section 1.2).
 #[derive(Clone, Copy, Debug, PartialEq, Eq)]
 pub enum AMQPHardError {
-    /// An operator closes the connection.
+    /// 320: an operator closes the connection.
     CONNECTIONFORCED,
 
-    /// There is no virtual host of this name.
+    /// 402: there is no virtual host of this name.
     INVALIDPATH,
 
-    /// A frame that cannot be read.
+    /// 501: a frame that cannot be read.
     FRAMEERROR,
 
-    /// A frame that holds a field that is not allowed.
+    /// 502: a frame that holds a field that is not allowed.
     SYNTAXERROR,
 
-    /// A method that is out of turn.
+    /// 503: a method that is out of turn.
     COMMANDINVALID,
 
-    /// A channel that is not open, or is open already.
+    /// 504: a channel that is not open, or is open already.
     CHANNELERROR,
 
-    /// A frame that is out of turn.
+    /// 505: a frame that is out of turn.
     UNEXPECTEDFRAME,
 
-    /// The server lacks the resources.
+    /// 506: the server lacks the resources.
     RESOURCEERROR,
 
-    /// The client may not do this.
+    /// 530: the client may not do this.
     NOTALLOWED,
 
-    /// The server does not have this method.
+    /// 540: the server does not have this method.
     NOTIMPLEMENTED,
 
-    /// The server has failed.
+    /// 541: the server has failed.
     INTERNALERROR,
 }
 
@@ -134,7 +134,7 @@ impl AMQPHardError {
     ghost use Rattle.std.specs.Prelude.{◌≡◌};
     ghost use Rattle.amqp_protocol.specs.ErrorCodes.{hard_code, hard_text, hard_at};
 
-    /// The code.
+    /// The reply code.
     pub fn get_id(&self) -> Identifier
         ensures { result ≡ hard_code self.now }
     {
@@ -153,7 +153,7 @@ impl AMQPHardError {
         }
     }
 
-    /// The error of a code, if it has one.
+    /// The error of a reply code, if it has one.
     pub fn from_id(id: Identifier) -> Option<AMQPHardError>
         ensures { result ≡ hard_at id }
     {
@@ -173,7 +173,7 @@ impl AMQPHardError {
         }
     }
 
-    /// The text that the standard has for the code.
+    /// The name of the code's constant, in capitals with hyphens.
     fn text(&self) -> &'static str
         ensures { result.now ≡ hard_text self.now }
     {
@@ -218,7 +218,7 @@ impl AMQPErrorKind {
     ghost use Rattle.std.specs.Prelude.{◌≡◌};
     ghost use Rattle.amqp_protocol.specs.ErrorCodes.{kind_code, kind_at};
 
-    /// The code.
+    /// The reply code.
     pub fn get_id(&self) -> Identifier
         ensures { result ≡ kind_code self.now }
     {
@@ -228,7 +228,7 @@ impl AMQPErrorKind {
         }
     }
 
-    /// The error of a code, if it has one.
+    /// The error of a reply code, if it has one.
     pub fn from_id(id: Identifier) -> Option<AMQPErrorKind>
         ensures { result ≡ kind_at id }
     {
@@ -306,7 +306,7 @@ impl AMQPError {
         AMQPError { kind, message }
     }
 
-    /// The error of a code, if it has one, with a message.
+    /// The error of a reply code, if it has one, with a message.
     pub fn from_id(id: Identifier, message: ShortString) -> Option<AMQPError>
         ensures { result ≡ error_of (kind_at id) message }
     {
@@ -323,7 +323,7 @@ impl AMQPError {
         &self.kind
     }
 
-    /// The code.
+    /// The reply code.
     pub fn get_id(&self) -> Identifier
         ensures { result ≡ kind_code self.now.kind }
     {

@@ -15,7 +15,7 @@ use amqp_basic::basic_method_held;
 use amqp_channel::{channel_method_held, confirm_method_held, tx_method_held};
 use amqp_connection::{access_method_held, connection_method_held};
 use amqp_topology::{exchange_method_held, queue_method_held};
-use amqp_types::{LongUInt, ShortShortUInt};
+use amqp_types::{INNER_DEPTH, LongUInt, MAX_DEPTH, ShortShortUInt};
 
 /// Codes and errors name each other.
 pub fn codes_name_errors()
@@ -60,6 +60,13 @@ pub fn frame_numbers() -> [ShortShortUInt; 5]
         FRAME_HEARTBEAT,
         FRAME_END,
     ]
+}
+
+/// How many tables and arrays may stand one inside another, and how many inside a field that is itself one.
+pub fn nesting_numbers() -> [usize; 2]
+    ensures { result ≡ 64 ∷ 63 ∷ [] }
+{
+    [MAX_DEPTH, INNER_DEPTH]
 }
 
 /// The frame size that each peer takes, and the reply code of success.

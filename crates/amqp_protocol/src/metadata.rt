@@ -14,5 +14,5 @@ pub const MINOR_VERSION: ShortShortUInt = 9;
 /// The third part of the version.
 pub const REVISION: ShortShortUInt = 1;
 
-/// The port that servers listen at.
+/// The TCP port that servers listen at.
 pub const PORT: LongUInt = 5672;

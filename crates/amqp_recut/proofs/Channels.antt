@@ -6,7 +6,7 @@ use Rattle.amqp_types.specs.Methods.{Method}
 use Rattle.amqp_types.specs.ContentHeaders.{ContentHeader}
 use Rattle.amqp_frame.specs.Frames.{Frame, Proto, Meth, Head, Body, Beat, BadBeat}
 use Rattle.amqp_frame.specs.Outlines.{outline_of}
-use Rattle.amqp_frame.specs.Canonical.{canon, canon_row}
+use Rattle.amqp_frame.specs.Canonical.{canon, canon_frames}
 use Rattle.amqp_content.specs.declared.fault.ContentFault.{ContentFault}
 use Rattle.amqp_content.specs.declared.fault.ContentFault.TheVariants as faults
 use Rattle.amqp_content.specs.declared.mark.Mark.{Mark}
@@ -41,7 +41,7 @@ pub record IsFresh (bad : ContentFault) (frame : Frame) : Type 0 where
 -- a frame that is in turn is written as it is recut; one that is not is refused
 pub data OnChannel (size : ℕ) (state : State Frame) (frame : Frame) : Type 0 where
   goes : (mark : Mark) → mark_held (held_of_state size state) frame ≡ mark → ((bad : ContentFault) → mark ≢ marks.Fault bad)
-      → written_marked size (held_of_state size state) frame mark ≡ canon_row (frame_recut size state frame)
+      → written_marked size (held_of_state size state) frame mark ≡ canon_frames (frame_recut size state frame)
       → held_after size (held_of_state size state) frame ≡ held_of_state size (step outline_of greatest state frame).1
       → (step outline_of greatest state frame).1 ≢ Lost
       → OnChannel size state frame
@@ -50,7 +50,7 @@ pub data OnChannel (size : ℕ) (state : State Frame) (frame : Frame) : Type 0 w
 at_state : (begun : Begun Frame) → At begun ≢ Lost
 at_state begun e = absurd cc
 
-as_it_is : (frame : Frame) → canon frame ≡ canon_row (frame ∷ [])
+as_it_is : (frame : Frame) → canon frame ≡ canon_frames (frame ∷ [])
 as_it_is frame = sym (append-nil (canon frame))
 
 none_left : (size : ℕ) → [] ≡ left_over size []
@@ -83,7 +83,7 @@ on_body size opening header bodies channel content true true h some fit done =
     let seen = length-joined bodies in
     let total : bytes_in outline_of bodies + length content ≡ n = grind (arith, nat_tests) in
     let pieces = given_last size n (joined bodies) content h (omega arith) (omega arith) in
-    goes (marks.Body (bytes_in outline_of bodies) (bytes_in outline_of bodies + length content) n) (rw fit refl) (λ bad same. absurd cc) (rw done (ap (λ ps. canon_row (map (λ piece. Body channel piece) ps)) (sym pieces))) (rw fit (rw done refl)) (rw fit (rw done (at_state Nothing)))
+    goes (marks.Body (bytes_in outline_of bodies) (bytes_in outline_of bodies + length content) n) (rw fit refl) (λ bad same. absurd cc) (rw done (ap (λ ps. canon_frames (map (λ piece. Body channel piece) ps)) (sym pieces))) (rw fit (rw done refl)) (rw fit (rw done (at_state Nothing)))
 on_body size opening header bodies channel content true false h some fit done =
     let n = size_in (outline_of header) in
     let seen = length-joined bodies in
@@ -91,7 +91,7 @@ on_body size opening header bodies channel content true false h some fit done =
     let pieces = given_more size n (joined bodies) content h (omega arith) in
     let kept : left_over size (left_over size (joined bodies) ++ content) ≡ left_over size (joined (bodies ++ Body channel content ∷ [])) = left-more size (joined bodies) content h ∙ ap (left_over size) (sym (joined-push bodies (Body channel content))) in
     let count : bytes_in outline_of bodies + length content ≡ bytes_in outline_of (bodies ++ Body channel content ∷ []) = sym (bytes_in-push outline_of bodies (Body channel content)) in
-    goes (marks.Body (bytes_in outline_of bodies) (bytes_in outline_of bodies + length content) n) (rw fit refl) (λ bad same. absurd cc) (rw done (ap (λ ps. canon_row (map (λ piece. Body channel piece) ps)) (sym pieces))) (rw fit (rw done (ap₂ (λ (seen : ℕ) (k : List ℕ). Some (record { progress = progresses.Headed n seen; kept = k })) count kept))) (rw fit (rw done (at_state (Headed opening header (bodies ++ Body channel content ∷ [])))))
+    goes (marks.Body (bytes_in outline_of bodies) (bytes_in outline_of bodies + length content) n) (rw fit refl) (λ bad same. absurd cc) (rw done (ap (λ ps. canon_frames (map (λ piece. Body channel piece) ps)) (sym pieces))) (rw fit (rw done (ap₂ (λ (seen : ℕ) (k : List ℕ). Some (record { progress = progresses.Headed n seen; kept = k })) count kept))) (rw fit (rw done (at_state (Headed opening header (bodies ++ Body channel content ∷ [])))))
 
 -- a frame of content, after what has begun
 pub on_channel : (size : ℕ) (begun : Begun Frame) (frame : Frame) → 1 ≤ size → IsBegun outline_of greatest begun → is_content (outline_of frame) ≡ true → OnChannel size (At begun) frame
@@ -115,7 +115,7 @@ on_channel size begun (BadBeat channel) some h content = absurd cc
 pub record IsOutside (size : ℕ) (held : Option Held) (state : State Frame) (frame : Frame) : Type 0 where
   pub passes : mark_held held frame ≡ marks.Passed
   pub keeps : held_after size held frame ≡ held
-  pub recut_is : canon frame ≡ canon_row (frame_recut size state frame)
+  pub recut_is : canon frame ≡ canon_frames (frame_recut size state frame)
 
 pub passed_mark : (held : Option Held) (frame : Frame) → is_content (outline_of frame) ≡ false → mark_held held frame ≡ marks.Passed
 passed_mark None (Proto major minor revision) h = refl
@@ -148,7 +148,7 @@ held_again (Some held) = refl
 pub passed_keeps : (size : ℕ) (held : Option Held) (frame : Frame) → mark_held held frame ≡ marks.Passed → held_after size held frame ≡ held
 passed_keeps size held frame e = rw e (held_again held)
 
-recut_outside : (size : ℕ) (state : State Frame) (frame : Frame) → is_content (outline_of frame) ≡ false → canon frame ≡ canon_row (frame_recut size state frame)
+recut_outside : (size : ℕ) (state : State Frame) (frame : Frame) → is_content (outline_of frame) ≡ false → canon frame ≡ canon_frames (frame_recut size state frame)
 recut_outside size state (Proto major minor revision) h = as_it_is (Proto major minor revision)
 recut_outside size state Beat h = as_it_is Beat
 recut_outside size state (BadBeat channel) h = as_it_is (BadBeat channel)

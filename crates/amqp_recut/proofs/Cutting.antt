@@ -36,7 +36,7 @@ below_quotient n m k h fits = grind arith
 quotient_fits : (n m : ℕ) → 1 ≤ m → (n / m) * m ≤ n
 quotient_fits n m h = grind arith
 
-quotient_next : (n m : ℕ) → 1 ≤ m → n < (n / m + 1) * m
+pub quotient_next : (n m : ℕ) → 1 ≤ m → n < (n / m + 1) * m
 quotient_next n m h = grind arith
 
 times_more : (j k m : ℕ) → j ≤ k → j * m ≤ k * m
@@ -198,7 +198,7 @@ given_more size n before content h less =
 
 -- ---- pieces one by one
 
-whole_count : (n m : ℕ) → 1 ≤ m → m ≤ n → n / m ≡ suc ((n - m) / m)
+pub whole_count : (n m : ℕ) → 1 ≤ m → m ≤ n → n / m ≡ suc ((n - m) / m)
 whole_count n m h fits = grind arith
 
 no_whole : (n m : ℕ) → n < m → n / m ≡ 0

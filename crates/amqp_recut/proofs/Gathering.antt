@@ -9,15 +9,9 @@ use Rattle.amqp_stream.specs.Streaming.{IsStep, Writes, WriteFails}
 use Rattle.amqp_stream.proofs.Adding.{Gains-then, Gains-none, Rises-later}
 use Rattle.amqp_recut.specs.declared.recutter.Recutter.{Recutter}
 use Rattle.amqp_recut.specs.Stepping.{recutting, step_recutting, body_raw}
+use Rattle.amqp_stream.proofs.Transcribing.{gathered_then}
 
 -- ---- bytes after bytes
-
-pub gathered_more : {a b c : Store} {x y z p q : List ℕ} → Gathered a b x y p → Gathered b c y z q → Gathered a c x z (p ++ q)
-gathered_more {a = a} {b = b} {c = c} {x = x} {y = y} {z = z} {p = p} {q = q} f g = record {
-  written = f.written ++ g.written;
-  gains = Gains-then a b c f.written g.written f.gains g.gains;
-  parts = append_assoc f.written g.written z ∙ ap (λ (bytes : List ℕ). f.written ++ bytes) g.parts ∙ sym (append_assoc f.written y q) ∙ ap (λ (bytes : List ℕ). bytes ++ q) f.parts ∙ append_assoc x p q;
-}
 
 pub gather_fails_later : {a b c : Store} {x y z p q : List ℕ} → Gathered a b x y p → GatherFails b c y z q → GatherFails a c x z (p ++ q)
 gather_fails_later {a = a} {b = b} {c = c} {x = x} {y = y} {p = p} {q = q} f g = record {
@@ -30,7 +24,7 @@ gather_fails_later {a = a} {b = b} {c = c} {x = x} {y = y} {p = p} {q = q} f g =
 
 -- the first bytes were gathered, and then the others or not
 pub gathers_then : {a b : Store} {x y p : List ℕ} (c : Store) (z q : List ℕ) (r : Result (Unit {0}) SinkFault) → Gathered a b x y p → Gathers b c y z q r → Gathers a c x z (p ++ q) r
-gathers_then c z q (Ok done) f g = gathered_more f g
+gathers_then c z q (Ok done) f g = gathered_then f g
 gathers_then c z q (Err bad) f g = gather_fails_later f g
 
 -- the first bytes were not gathered, and so not all
@@ -71,7 +65,7 @@ body_unwritten {s = s} {t = t} {channel = channel} {payload = payload} {bytes = 
 
 -- and then some of what is pending was written
 pub settled : {s t : Recutter} {raw : Raw} {a b : Store} {x y : List ℕ} (c : Store) (z : List ℕ) → Writes recutting s t raw a b x y → Gathered b c y z [] → Writes recutting s t raw a c x z
-settled {a = a} {x = x} c z h g = record { bytes = h.bytes; step = h.step; gathered = subst (λ (bytes : List ℕ). Gathered a c x z bytes) (append-nil h.bytes) (gathered_more h.gathered g) }
+settled {a = a} {x = x} c z h g = record { bytes = h.bytes; step = h.step; gathered = subst (λ (bytes : List ℕ). Gathered a c x z bytes) (append-nil h.bytes) (gathered_then h.gathered g) }
 
 pub unsettled : {s t : Recutter} {raw : Raw} {a b : Store} {x y : List ℕ} (c : Store) (z : List ℕ) → Writes recutting s t raw a b x y → GatherFails b c y z [] → WriteFails recutting s raw a c x z
 unsettled {t = t} {a = a} {x = x} c z h g = record { bytes = h.bytes; next = t; step = h.step; failed = subst (λ (bytes : List ℕ). GatherFails a c x z bytes) (append-nil h.bytes) (gather_fails_later h.gathered g) }

@@ -9,7 +9,7 @@ use Rattle.std.specs.Map.{lookup}
 use Rattle.std.specs.Ordering.{nat_cmp, eq_by_cmp}
 use Rattle.std.proofs.lemmas.Grind.{common_steps}
 use Rattle.std.specs.BTreeMap.{BTreeMap, is_at, Updates, WritesThrough}
-use Rattle.amqp_recut.specs.Held.{Held, Holding, set_at}
+use Rattle.amqp_recut.specs.Held.{Held, HeldByChannel, set_at}
 
 -- a channel is itself, and no other
 pub at_itself : (k : ℕ) → eq_by_cmp nat_cmp k k ≡ true
@@ -21,15 +21,15 @@ at_other q k ne = grind (arith, common_steps)
 at_reversed : (k q : ℕ) → is_at (nat_cmp k) q ≡ eq_by_cmp nat_cmp q k
 at_reversed k q = (eq_by_cmp_equiv nat_cmp_total).symm k q
 
-pub get-set_at : (holding : Holding) (channel : ℕ) (held : Option Held) (q : ℕ) → finite.get (set_at holding channel held) q ≡ cond (eq_by_cmp nat_cmp q channel) held (finite.get holding q)
+pub get-set_at : (holding : HeldByChannel) (channel : ℕ) (held : Option Held) (q : ℕ) → finite.get (set_at holding channel held) q ≡ cond (eq_by_cmp nat_cmp q channel) held (finite.get holding q)
 get-set_at holding channel None q = get-remove nat_cmp_total holding channel q
 get-set_at holding channel (Some held) q = get-insert nat_cmp_total holding channel held q
 
-pub same_holding : (m n : Holding) → ((q : ℕ) → finite.get m q ≡ finite.get n q) → m ≡ n
+pub same_holding : (m n : HeldByChannel) → ((q : ℕ) → finite.get m q ≡ finite.get n q) → m ≡ n
 same_holding m n is = same_map nat_cmp_total nat_cmp-IsAntisymmetric m n is
 
 -- what is kept of a channel is set again
-pub set_at-same : (holding : Holding) (channel : ℕ) → holding ≡ set_at holding channel (finite.get holding channel)
+pub set_at-same : (holding : HeldByChannel) (channel : ℕ) → holding ≡ set_at holding channel (finite.get holding channel)
 set_at-same holding channel = same_holding holding _ (λ q. sym (get-set_at holding channel (finite.get holding channel) q ∙ stays q (eq_by_cmp nat_cmp q channel) refl))
   where
     stays : (q : ℕ) (b : Bool) → eq_by_cmp nat_cmp q channel ≡ b → cond b (finite.get holding channel) (finite.get holding q) ≡ finite.get holding q
@@ -37,14 +37,14 @@ set_at-same holding channel = same_holding holding _ (λ q. sym (get-set_at hold
     stays q false e = refl
 
 -- nothing is kept, or something of some channel
-pub none_held : (m : Holding) → finite.len m ≡ 0 → (q : ℕ) → finite.get m q ≡ None
+pub none_held : (m : HeldByChannel) → finite.len m ≡ 0 → (q : ℕ) → finite.get m q ≡ None
 none_held m e q = ap (λ h. finite.get h q) (empty_of_len m e) ∙ get-empty nat_cmp q
 
 some_in : (es : List (ℕ × Held)) → length es ≢ 0 → (k : ℕ) × (y : Held) × (find nat_cmp k es ≡ Some y)
 some_in [] some = absurd (some refl)
 some_in (e ∷ es) some = (e.0, e.1, ap (λ b. cond b (Some e.1) (find nat_cmp e.0 es)) (at_itself e.0))
 
-pub some_held : (m : Holding) → finite.len m ≢ 0 → (k : ℕ) × (y : Held) × (finite.get m k ≡ Some y)
+pub some_held : (m : HeldByChannel) → finite.len m ≢ 0 → (k : ℕ) × (y : Held) × (finite.get m k ≡ Some y)
 some_held m some =
     let found = some_in (finite.entries m) (λ e. some (len-entries m ∙ e)) in
     (found.0, found.1, get-entries m found.0 ∙ found.2)
@@ -53,7 +53,7 @@ module _ {X : Type 0} (f : X → Held) where
   abbrev pub entry_of : ℕ × X → ℕ × Held
   entry_of e = (e.0, f e.1)
 
-  abbrev pub holding_of : List (ℕ × X) → Holding
+  abbrev pub holding_of : List (ℕ × X) → HeldByChannel
   holding_of es = finite.from_entries (map entry_of es)
 
   find-map : (es : List (ℕ × X)) (q : ℕ) → find nat_cmp q (map entry_of es) ≡ option_map f (lookup (is_at (nat_cmp q)) es)

@@ -18,23 +18,17 @@ use Rattle.amqp_recut.specs.InTurn.{greatest}
 use Rattle.amqp_recut.specs.Cuts.{cuts_of}
 use Rattle.amqp_recut.specs.Stepping.{whole_pieces, left_over, pieces_given}
 use Rattle.amqp_recut.specs.Laws.{IsPiece}
-use Rattle.amqp_recut.proofs.Cutting.{given_last, given_more, whole-none, left-all, left-more, given-more, given-ended, given-nothing}
+use Rattle.amqp_recut.proofs.Cutting.{given_last, given_more, whole-none, left-all, left-more, given-more, given-ended, given-nothing, quotient_next, whole_count}
 use Rattle.amqp_recut.proofs.LawsChannels.{channel_recut, AreCutAfter}
 
 -- ---- bytes
-
-divided : (n m : ℕ) → 1 ≤ m → m ≤ n → n / m ≡ suc ((n - m) / m)
-divided n m h fits = grind arith
-
-quotient_below : (n m : ℕ) → 1 ≤ m → n < (n / m + 1) * m
-quotient_below n m h = grind arith
 
 itself_once : (m : ℕ) → 1 ≤ m → m / m ≡ 1
 itself_once m h = grind arith
 
 left_short : (size : ℕ) (bytes : List ℕ) → 1 ≤ size → length (left_over size bytes) < size
 left_short size bytes h =
-    let next = quotient_below (length bytes) size h in
+    let next = quotient_next (length bytes) size h in
     omega (arith, next, length-drop ((length bytes / size) * size) bytes)
 
 -- nothing is left over of one piece
@@ -47,7 +41,7 @@ left_none size bytes h e =
 -- what is left over is that of the bytes after the first piece
 left_later : (size : ℕ) (bytes : List ℕ) → 1 ≤ size → size ≤ length bytes → left_over size bytes ≡ left_over size (drop size bytes)
 left_later size bytes h fits =
-    let count = divided (length bytes) size h fits in
+    let count = whole_count (length bytes) size h fits in
     let place : (length bytes / size) * size ≡ size + ((length bytes - size) / size) * size = ap (λ n. n * size) count ∙ omega arith in
     ap (λ n. drop n bytes) place
     ∙ sym (drop-drop (((length bytes - size) / size) * size) size bytes)

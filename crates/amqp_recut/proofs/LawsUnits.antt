@@ -23,6 +23,7 @@ use Rattle.amqp_recut.specs.Cuts.{frame_recut}
 use Rattle.amqp_recut.specs.Stepping.{whole_pieces, left_over}
 use Rattle.amqp_recut.proofs.LawsChannels.{channel_recut, IsOn, all_front, all_back, IsCut, AreCutAfter, cut_append}
 use Rattle.amqp_recut.proofs.LawsPieces.{bodies_with, flat, joined_bodies, bytes_bodies, all_bodies, flat_push, whole_fit, open_bodies, closed_bodies, cut_given}
+use Rattle.amqp_content.proofs.Whole.{done_in-append}
 
 -- a unit recut: the body of a message in pieces
 abbrev pub unit_recut : (size channel : ℕ) → Finished Frame → List Frame
@@ -170,21 +171,14 @@ units_cut size channel (unit ∷ units) begun some finished is_begun on =
     ∙ ap (λ fs. unit_recut size channel unit ++ fs) (units_cut size channel units begun some finished.1 is_begun (all_back (IsOn channel) (finished_frames unit) rest on_all))
     ∙ sym (append_assoc (unit_recut size channel unit) (flat_map (unit_recut size channel) units) (begun_recut size channel begun))
 
--- ---- the messages that answers complete
+-- ---- the messages that outcomes complete
 
-done_append : (xs ys : List OutcomeView) → done_in (xs ++ ys) ≡ done_in xs ++ done_in ys
-done_append [] ys = refl
-done_append (passed frame ∷ xs) ys = done_append xs ys
-done_append (held ∷ xs) ys = done_append xs ys
-done_append (done content ∷ xs) ys = ap (λ cs. content ∷ cs) (done_append xs ys)
-done_append (wrong fault ∷ xs) ys = done_append xs ys
-
--- the messages of answers
+-- the messages of outcomes
 abbrev pub done_by : List (Answer Frame) → List Content
 done_by answers = done_in (map answer_outcome answers)
 
 pub done_by_append : (xs ys : List (Answer Frame)) → done_by (xs ++ ys) ≡ done_by xs ++ done_by ys
-done_by_append xs ys = ap done_in (map-append answer_outcome xs ys) ∙ done_append (map answer_outcome xs) (map answer_outcome ys)
+done_by_append xs ys = ap done_in (map-append answer_outcome xs ys) ∙ done_in-append (map answer_outcome xs) (map answer_outcome ys)
 
 held_bodies : (opening header : Frame) (before bodies : List Frame) → done_by (bodies_within opening header before bodies) ≡ []
 held_bodies opening header before [] = refl

@@ -1,3 +1,4 @@
+-- The lemmas of amqp_recut.
 pub mod Cutting
 pub mod Holding
 pub mod Current

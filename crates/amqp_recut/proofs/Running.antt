@@ -6,7 +6,7 @@ use Rattle.std.proofs.lemmas.Grind.{flat_map-append}
 use Rattle.std.proofs.lemmas.Bool.{cases_eq}
 use Rattle.amqp_frame.specs.Frames.{Frame, channel_id_of}
 use Rattle.amqp_frame.specs.Outlines.{outline_of}
-use Rattle.amqp_frame.specs.Canonical.{canon, canon_row}
+use Rattle.amqp_frame.specs.Canonical.{canon, canon_frames}
 use Rattle.amqp_content.specs.declared.fault.ContentFault.{ContentFault}
 use Rattle.amqp_content.specs.declared.mark.Mark.{Mark}
 use Rattle.amqp_content.specs.declared.mark.Mark.TheVariants as marks
@@ -111,7 +111,7 @@ pub record StandsFor (size : ℕ) (s : Recutter) (earlier : List Frame) : Type 0
   pub in_turn : (channel : ℕ) → state_on earlier channel ≢ Lost
 
 pub data Stepped (size : ℕ) (s : Recutter) (earlier : List Frame) (frame : Frame) : Type 0 where
-  takes : (t : Recutter) → step_recutting s frame ≡ Ok (canon_row (frame_recut size (state_on earlier (channel_id_of frame)) frame), t) → StandsFor size t (earlier ++ frame ∷ []) → Stepped size s earlier frame
+  takes : (t : Recutter) → step_recutting s frame ≡ Ok (canon_frames (frame_recut size (state_on earlier (channel_id_of frame)) frame), t) → StandsFor size t (earlier ++ frame ∷ []) → Stepped size s earlier frame
   refuses : (bad : ContentFault) → step_recutting s frame ≡ Err (refusals.BadContent bad) → state_on (earlier ++ frame ∷ []) (channel_id_of frame) ≡ Lost → IsLastAnswer outline_of greatest (of_channel outline_of (channel_id_of frame) (earlier ++ frame ∷ [])) (Wrong bad) → IsFresh bad frame → Stepped size s earlier frame
 
 -- the writer after a frame on a channel of which this is kept then
@@ -174,7 +174,7 @@ module _ (size : ℕ) (s : Recutter) (earlier : List Frame) (frame : Frame) (h :
       takes (after_with s frame (held_of_state size (step outline_of greatest now frame).1))
       (ap (λ k. step_marked s k frame (mark_held k frame)) held ∙ ap (step_marked s kept frame) marked ∙ goes_on s kept frame mark fine
       ∙ ap (λ n. Ok (written_marked n kept frame mark, after_with s frame (held_after n kept frame))) h.size_is
-      ∙ ap₂ (λ (bytes : List ℕ) (k : Option Held). Ok (bytes, after_with s frame k)) (written_is ∙ ap (λ st. canon_row (frame_recut size st frame)) (sym is)) held_is)
+      ∙ ap₂ (λ (bytes : List ℕ) (k : Option Held). Ok (bytes, after_with s frame k)) (written_is ∙ ap (λ st. canon_frames (frame_recut size st frame)) (sym is)) held_is)
       (stands_more (step outline_of greatest now frame).1 turn content (state_on-own earlier frame content ∙ ap (λ st. (step outline_of greatest st frame).1) is))
   step_content now content is (stops bad marked answer other) =
       let channel = channel_id_of frame in
@@ -214,7 +214,7 @@ pub record Ran (size : ℕ) (s : Recutter) (earlier frames : List Frame) : Type 
   pub front : List Frame
   pub rest : List Frame
   pub parts : frames ≡ front ++ rest
-  pub text_is : text recutting s frames ≡ canon_row (recut_after size earlier front)
+  pub text_is : text recutting s frames ≡ canon_frames (recut_after size earlier front)
   pub stands : StandsFor size (state recutting s frames) (earlier ++ front)
   pub ends : Ends earlier front rest (refused recutting s frames)
 
@@ -224,10 +224,10 @@ ends_on earlier front rest frame why (fault next more bad is e lost last other) 
     let same : (earlier ++ frame ∷ []) ++ front ≡ earlier ++ frame ∷ front = append_assoc earlier (frame ∷ []) front in
     fault next more bad is e (subst (λ (fs : List Frame). state_on (fs ++ next ∷ []) (channel_id_of next) ≡ Lost) same lost) (subst (λ (fs : List Frame). IsLastAnswer outline_of greatest (of_channel outline_of (channel_id_of next) (fs ++ next ∷ [])) (Wrong bad)) same last) other
 
-ran_more : (size : ℕ) (s t : Recutter) (earlier : List Frame) (frame : Frame) (frames : List Frame) → step_recutting s frame ≡ Ok (canon_row (frame_recut size (state_on earlier (channel_id_of frame)) frame), t) → Ran size t (earlier ++ frame ∷ []) frames → Ran size s earlier (frame ∷ frames)
+ran_more : (size : ℕ) (s t : Recutter) (earlier : List Frame) (frame : Frame) (frames : List Frame) → step_recutting s frame ≡ Ok (canon_frames (frame_recut size (state_on earlier (channel_id_of frame)) frame), t) → Ran size t (earlier ++ frame ∷ []) frames → Ran size s earlier (frame ∷ frames)
 unfolding text refused state
 ran_more size s t earlier frame frames e ran =
-    let bytes = canon_row (frame_recut size (state_on earlier (channel_id_of frame)) frame) in
+    let bytes = canon_frames (frame_recut size (state_on earlier (channel_id_of frame)) frame) in
     let state_is : state recutting s (frame ∷ frames) ≡ state recutting t frames = ap (λ r. state_at s r (λ u. state recutting u frames)) e in
     let why_is : refused recutting s (frame ∷ frames) ≡ refused recutting t frames = ap (λ r. refused_at r (λ u. refused recutting u frames)) e in
     record {

@@ -11,7 +11,7 @@ use Rattle.amqp_frame.specs.declared.frame_type.AMQPFrameType.TheVariants as kin
 use Rattle.amqp_frame.specs.declared.outline.FrameOutline.{FrameOutline}
 use Rattle.amqp_frame.specs.Frames.{Raw, Frame, Proto, Meth, Head, Body, channel_id_of, beat_on, IsTyped}
 use Rattle.amqp_frame.specs.Outlines.{outline_of}
-use Rattle.amqp_frame.specs.Canonical.{canon, canon_row}
+use Rattle.amqp_frame.specs.Canonical.{canon, canon_frames}
 use Rattle.amqp_frame.specs.Verdicts.{whole, whole_as, all_of}
 use Rattle.amqp_frame.proofs.Encoded.{read_as}
 use Rattle.amqp_content.specs.declared.fault.ContentFault.{ContentFault}
@@ -32,7 +32,7 @@ use Rattle.amqp_recut.specs.declared.errors.Refusal.TheVariants as refusals
 use Rattle.amqp_recut.specs.declared.recutter.Recutter.{Recutter}
 use Rattle.amqp_recut.specs.InTurn.{greatest}
 use Rattle.amqp_recut.specs.Held.{Held, progress_in, kept_in, held_with, set_at}
-use Rattle.amqp_recut.specs.Stepping.{frames_given, left_over, kept_marked, mark_held, held_at, step_marked, step_recutting, recutting, is_content_type, body_raw, Refuses}
+use Rattle.amqp_recut.specs.Stepping.{frames_given, left_over, bytes_kept, mark_held, held_at, step_marked, step_recutting, recutting, is_content_type, body_raw, RefusesFrame}
 use Rattle.amqp_recut.proofs.Holding.{set_at-same}
 use Rattle.amqp_recut.proofs.Channels.{passed_mark, passed_keeps}
 
@@ -191,7 +191,7 @@ beat_is_outside = tt
 
 -- ---- what is returned
 
-pub refused_as : (s : Recutter) (raw : Raw) (bad : ContentFault) (ending : Ending Refusal) (a : Store) (x y : List ℕ) → y ≡ x → ((frame : Frame) → whole raw ≡ Ok frame → step_recutting s frame ≡ Err (refusals.BadContent bad)) → Refuses raw bad ending → WritesBy recutting s s raw a a x y ending
+pub refused_as : (s : Recutter) (raw : Raw) (bad : ContentFault) (ending : Ending Refusal) (a : Store) (x y : List ℕ) → y ≡ x → ((frame : Frame) → whole raw ≡ Ok frame → step_recutting s frame ≡ Err (refusals.BadContent bad)) → RefusesFrame raw bad ending → WritesBy recutting s s raw a a x y ending
 refused_as s raw bad (refused_by (refusals.BadContent other)) a x y same steps h =
     (record { frame = h.0; is_whole = h.1; at_level = refl; refuses = steps h.0 h.1 ∙ ap (λ f. Err (refusals.BadContent f)) (sym h.2) }, kept a x y same, refl)
 refused_as s raw bad (refused_by refusals.OpenContent) a x y same steps h = absurd h
@@ -267,27 +267,27 @@ goes_at n after progress e = by_test (eqb after n) refl
     by_test true is = let other = rw is at e in absurd cc
 
 -- a piece of a body, by the mark that it has
-body_steps : (s : Recutter) (channel : ℕ) (payload : List ℕ) (before after n : ℕ) (progress : Option Progress) → marks.Body before after n ≡ body_mark_of s channel payload → progress ≡ body_progress s channel payload → step_recutting s (Body channel payload) ≡ Ok (canon_row (frames_given s.size channel (eqb after n) (kept_in (held_at s channel) ++ payload)), record s { messages = set_at s.messages channel (held_with progress (left_over s.size (kept_in (held_at s channel) ++ payload))) })
+body_steps : (s : Recutter) (channel : ℕ) (payload : List ℕ) (before after n : ℕ) (progress : Option Progress) → marks.Body before after n ≡ body_mark_of s channel payload → progress ≡ body_progress s channel payload → step_recutting s (Body channel payload) ≡ Ok (canon_frames (frames_given s.size channel (eqb after n) (kept_in (held_at s channel) ++ payload)), record s { messages = set_at s.messages channel (held_with progress (left_over s.size (kept_in (held_at s channel) ++ payload))) })
 body_steps s channel payload before after n progress e is =
     let held = held_at s channel in
     let frame = Body channel payload in
-    let bytes = canon_row (frames_given s.size channel (eqb after n) (kept_in held ++ payload)) in
+    let bytes = canon_frames (frames_given s.size channel (eqb after n) (kept_in held ++ payload)) in
     ap (step_marked s held frame) (sym e)
-    ∙ ap (λ m. Ok (bytes, record s { messages = set_at s.messages channel (held_with (body_progress s channel payload) (kept_marked s.size held frame m)) })) (sym e)
+    ∙ ap (λ m. Ok (bytes, record s { messages = set_at s.messages channel (held_with (body_progress s channel payload) (bytes_kept s.size held frame m)) })) (sym e)
     ∙ ap (λ p. Ok (bytes, record s { messages = set_at s.messages channel (held_with p (left_over s.size (kept_in held ++ payload))) })) (sym is)
 
 headed_by : (s : Recutter) (channel : ℕ) (payload : List ℕ) (before after n : ℕ) → marks.Body before after n ≡ body_mark_of s channel payload → body_progress s channel payload ≡ headed_progress n after
 headed_by s channel payload before after n e = ap (progress_marked (progress_in (held_at s channel)) (outline_of (Body channel payload))) (sym e)
 
-pub body_ends : (s : Recutter) (channel : ℕ) (payload : List ℕ) (before after n : ℕ) → marks.Body before after n ≡ body_mark_of s channel payload → None ≡ body_progress s channel payload → step_recutting s (Body channel payload) ≡ Ok (canon_row (frames_given s.size channel true (kept_in (held_at s channel) ++ payload)), record s { messages = finite.remove s.messages channel })
+pub body_ends : (s : Recutter) (channel : ℕ) (payload : List ℕ) (before after n : ℕ) → marks.Body before after n ≡ body_mark_of s channel payload → None ≡ body_progress s channel payload → step_recutting s (Body channel payload) ≡ Ok (canon_frames (frames_given s.size channel true (kept_in (held_at s channel) ++ payload)), record s { messages = finite.remove s.messages channel })
 body_ends s channel payload before after n e none =
     body_steps s channel payload before after n None e none
-    ∙ ap (λ b. Ok (canon_row (frames_given s.size channel b (kept_in (held_at s channel) ++ payload)), record s { messages = finite.remove s.messages channel })) (ends_at n after (none ∙ headed_by s channel payload before after n e))
+    ∙ ap (λ b. Ok (canon_frames (frames_given s.size channel b (kept_in (held_at s channel) ++ payload)), record s { messages = finite.remove s.messages channel })) (ends_at n after (none ∙ headed_by s channel payload before after n e))
 
-pub body_goes_on : (s : Recutter) (channel : ℕ) (payload : List ℕ) (before after n : ℕ) (progress : Progress) → marks.Body before after n ≡ body_mark_of s channel payload → Some progress ≡ body_progress s channel payload → step_recutting s (Body channel payload) ≡ Ok (canon_row (frames_given s.size channel false (kept_in (held_at s channel) ++ payload)), record s { messages = finite.insert s.messages channel (record { progress = progress; kept = left_over s.size (kept_in (held_at s channel) ++ payload) }) })
+pub body_goes_on : (s : Recutter) (channel : ℕ) (payload : List ℕ) (before after n : ℕ) (progress : Progress) → marks.Body before after n ≡ body_mark_of s channel payload → Some progress ≡ body_progress s channel payload → step_recutting s (Body channel payload) ≡ Ok (canon_frames (frames_given s.size channel false (kept_in (held_at s channel) ++ payload)), record s { messages = finite.insert s.messages channel (record { progress = progress; kept = left_over s.size (kept_in (held_at s channel) ++ payload) }) })
 body_goes_on s channel payload before after n progress e some =
     body_steps s channel payload before after n (Some progress) e some
-    ∙ ap (λ b. Ok (canon_row (frames_given s.size channel b (kept_in (held_at s channel) ++ payload)), record s { messages = finite.insert s.messages channel (record { progress = progress; kept = left_over s.size (kept_in (held_at s channel) ++ payload) }) })) (goes_at n after progress (some ∙ headed_by s channel payload before after n e))
+    ∙ ap (λ b. Ok (canon_frames (frames_given s.size channel b (kept_in (held_at s channel) ++ payload)), record s { messages = finite.insert s.messages channel (record { progress = progress; kept = left_over s.size (kept_in (held_at s channel) ++ payload) }) })) (goes_at n after progress (some ∙ headed_by s channel payload before after n e))
 
 pub body_there : (held : Option Held) (channel : ℕ) (payload : List ℕ) (before after n : ℕ) → marks.Body before after n ≡ mark_held held (Body channel payload) → IsSome held
 body_there (Some held) channel payload before after n e = refl

@@ -10,7 +10,7 @@ use Rattle.amqp_frame.specs.Frames.{Frame, Proto, Meth, Head, Body, Beat, BadBea
 use Rattle.amqp_frame.specs.Outlines.{outline_of}
 use Rattle.amqp_frame.specs.Spelling.{SpellsFrames, Spells}
 use Rattle.amqp_frame.proofs.Outlined.{header_front}
-use Rattle.amqp_frame.proofs.Rows.{front-is_row}
+use Rattle.amqp_frame.proofs.Sequences.{front-is_sequence}
 use Rattle.amqp_content.specs.declared.fault.ContentFault.{ContentFault}
 use Rattle.amqp_content.specs.declared.fault.ContentFault.TheVariants as faults
 use Rattle.amqp_content.specs.Units.{Begun, Nothing, Opened, Headed, of_channel, size_in}
@@ -21,11 +21,11 @@ use Rattle.amqp_stream.specs.declared.errors.StreamError.{StreamError}
 use Rattle.amqp_stream.specs.declared.errors.StreamError.TheVariants as streams
 use Rattle.amqp_stream.specs.declared.errors.RunError.{RunError}
 use Rattle.amqp_stream.specs.declared.errors.RunError.TheVariants as runs_end
-use Rattle.amqp_stream.specs.Errors.{error_of, Cause, faulty, cut_short, turns_spent, read_failed, write_failed, out_of_memory, cause_of}
+use Rattle.amqp_stream.specs.Errors.{error_for, Cause, faulty, cut_short, turns_spent, read_failed, write_failed, out_of_memory, cause_of}
 use Rattle.amqp_stream.specs.Ends.{Supply, Store}
 use Rattle.amqp_stream.specs.Writing.{IsPrefix}
-use Rattle.amqp_stream.specs.Transcribing.{answer_to, IsCausedBy, UnlessStopped}
-use Rattle.amqp_stream.specs.Streaming.{Ending, finished, refused_by, stopped_by, ending_of, text_of, refused_of, state_of, AtWanting, HasWrittenBy, HasCauseBy, Streams, RunNeverBegan, answer_at_end, answer_of, IsExact, UnlessStoppedBy, StreamsExactly, IsWelcome, IsDoneOrWanting}
+use Rattle.amqp_stream.specs.Transcribing.{answer_to, IsCausedBy, UnlessStopped, IsWrittenUnless}
+use Rattle.amqp_stream.specs.Streaming.{Ending, finished, refused_by, stopped_by, ending_of, text_of, refused_of, state_of, AtWanting, HasWrittenBy, HasCauseBy, Streams, RunNeverBegan, answer_at_end, answer_of, IsExactRun, UnlessStoppedBy, StreamsExactly, IsWelcome, IsDoneOrWanting}
 use Rattle.amqp_recut.specs.declared.errors.RecutError.{RecutError}
 use Rattle.amqp_recut.specs.declared.errors.RecutError.TheVariants as errors
 use Rattle.amqp_recut.specs.declared.errors.Refusal.{Refusal}
@@ -35,10 +35,11 @@ use Rattle.amqp_recut.specs.Errors.{as_recut}
 use Rattle.amqp_recut.specs.InTurn.{greatest, AreInTurn, IsNextFault, IsOpen, NoneIsOpen, state_on}
 use Rattle.amqp_recut.specs.Held.{Held}
 use Rattle.amqp_recut.specs.Stepping.{recutting, end_recutting}
-use Rattle.amqp_recut.specs.Recutting.{frames_at, recut_bytes, AtContent, IsAllInTurn, HasCauseRecut, IsWrittenUnless, HasWrittenRecut, Recuts, NeverBegan, IsAnsweredTo, IsRecutExactly, UnlessStoppedRecut, RecutsExactly, IsComplete, IsOkOrNoMemory}
+use Rattle.amqp_recut.specs.Recutting.{frames_at, recut_bytes, AtContent, IsAllInTurn, HasCauseRecut, HasWrittenRecut, Recuts, NeverBegan, IsAnsweredTo, IsRecutExactly, UnlessStoppedRecut, RecutsExactly, IsComplete, IsOkOrNoMemory}
 use Rattle.amqp_recut.proofs.Holding.{none_held, some_held}
 use Rattle.amqp_recut.proofs.Channels.{held_of_state}
 use Rattle.amqp_recut.proofs.Running.{StandsFor, Ends, all, fault, Ran, runs, longest_ran, none_lost, lost_later}
+use Rattle.amqp_stream.proofs.Transcribing.{error_by, error_by-cause, unless, caused_by}
 
 -- ---- results
 
@@ -69,17 +70,6 @@ none_is_kept kept e = cc
 -- why a writer may not end that keeps so many messages
 abbrev end_by : ℕ → Option Refusal
 end_by n = cond (eqb n 0) None (Some refusals.OpenContent)
-
-abbrev error_by : Cause → StreamError
-error_by (faulty bad) = error_of bad
-error_by cut_short = streams.CutShort
-error_by turns_spent = streams.TurnsSpent
-error_by read_failed = streams.ReadFault
-error_by write_failed = streams.WriteFault
-error_by out_of_memory = streams.NoMemory
-
-error_by-cause : (error : StreamError) → error_by (cause_of error) ≡ error
-error_by-cause error = grind arith
 
 -- an ending as a result
 abbrev recut_ending : Ending Refusal → Result (Unit {0}) RecutError
@@ -211,31 +201,23 @@ in_turn_by s m taken written frames read_failed h whole = whole h.none_refused
 
 at_content : (size : ℕ) (s : Recutter) (m : ℕ) (taken written : List ℕ) → 1 ≤ size → IsNew size s → AtWanting recutting s m taken written → AtContent m size taken written
 at_content size s m taken written some new h =
-    let ran = ran_all size s (frames_at m h.row) some new in
+    let ran = ran_all size s (frames_at m h.sequence) some new in
     record {
-      row = h.row;
+      sequence = h.sequence;
       rest = h.rest;
       parts = h.parts;
-      is_row = h.is_row;
+      is_sequence = h.is_sequence;
       content = h.wanting;
       frames = ran.front;
-      in_turn = longest_ran size s (frames_at m h.row) ran;
+      in_turn = longest_ran size s (frames_at m h.sequence) ran;
       written_is = h.written_is ∙ ran.text_is;
     }
-
-caused_by : (m turns : ℕ) (taken : List ℕ) (a b : Supply) (k l : Store) {P Q : Type 0} (cause : Cause) → (P → Q) → IsCausedBy plain m turns taken a b k l P cause → IsCausedBy plain m turns taken a b k l Q cause
-caused_by m turns taken a b k l (faulty bad) f h = h
-caused_by m turns taken a b k l cut_short f h = h
-caused_by m turns taken a b k l turns_spent f h = h
-caused_by m turns taken a b k l read_failed f h = h
-caused_by m turns taken a b k l write_failed f h = h
-caused_by m turns taken a b k l out_of_memory f h = f h
 
 cause_recut : (size : ℕ) (s : Recutter) (m turns : ℕ) (taken written : List ℕ) (a b : Supply) (k l : Store) (r : Result (Unit {0}) (RunError Refusal)) → 1 ≤ size → IsNew size s → (ran : Ran size s [] (frames_at m taken)) → HasWrittenBy recutting s m taken written (ending_of r) → HasCauseBy recutting s m turns taken written a b k l (ending_of r) → HasCauseRecut m size turns taken written ran.front a b k l (as_recut r)
 cause_recut size s m turns taken written a b k l (Ok done) some new ran wrote h =
     (h.0, h.1, whole_by (frames_at m taken) ran.front ran.rest (refused_of recutting s m taken) ran.parts ran.ends wrote.none_refused, ended_none size (state_of recutting s m taken) ran.front ran.stands h.2)
 cause_recut size s m turns taken written a b k l (Err (runs_end.Stream error)) some new ran wrote h =
-    (caused_by m turns taken a b k l (cause_of error) (at_content size s m taken written some new) h, in_turn_by s m taken written ran.front (cause_of error) wrote (whole_by (frames_at m taken) ran.front ran.rest (refused_of recutting s m taken) ran.parts ran.ends))
+    (caused_by plain m turns taken a b k l (cause_of error) (at_content size s m taken written some new) h, in_turn_by s m taken written ran.front (cause_of error) wrote (whole_by (frames_at m taken) ran.front ran.rest (refused_of recutting s m taken) ran.parts ran.ends))
 cause_recut size s m turns taken written a b k l (Err (runs_end.Refused (refusals.BadContent bad))) some new ran wrote (inl is) =
     next_by (frames_at m taken) ran.front ran.rest (refused_of recutting s m taken) bad ran.parts ran.ends is
 cause_recut size s m turns taken written a b k l (Err (runs_end.Refused (refusals.BadContent bad))) some new ran wrote (inr h) =
@@ -243,7 +225,7 @@ cause_recut size s m turns taken written a b k l (Err (runs_end.Refused (refusal
 cause_recut size s m turns taken written a b k l (Err (runs_end.Refused refusals.OpenContent)) some new ran wrote (inl is) =
     absurd (never_open ran.front ran.rest (refused_of recutting s m taken) ran.ends is)
 cause_recut size s m turns taken written a b k l (Err (runs_end.Refused refusals.OpenContent)) some new ran wrote (inr h) =
-    (h.row, h.empty, whole_by (frames_at m taken) ran.front ran.rest (refused_of recutting s m taken) ran.parts ran.ends h.none_refused, ended_open size (state_of recutting s m taken) ran.front refusals.OpenContent ran.stands h.ends)
+    (h.sequence, h.empty, whole_by (frames_at m taken) ran.front ran.rest (refused_of recutting s m taken) ran.parts ran.ends h.none_refused, ended_open size (state_of recutting s m taken) ran.front refusals.OpenContent ran.stands h.ends)
 
 turns_by : (r : Result (Unit {0}) (RunError Refusal)) (error : StreamError) → as_recut r ≡ Err (errors.Stream error) → ending_of r ≡ stopped_by (cause_of error)
 turns_by (Ok done) error e = absurd cc
@@ -255,7 +237,7 @@ recuts : (size : ℕ) (s t : Recutter) (m turns : ℕ) (a b : Supply) (k l : Sto
 recuts size s t m turns a b k l r some new run =
     let ran = ran_all size s (frames_at m run.taken) some new in
     let short = run.short_by in
-    let behind = ran_all size s (frames_at m short.row) some new in
+    let behind = ran_all size s (frames_at m short.sequence) some new in
     record {
       taken = run.taken;
       are_bytes = run.are_bytes;
@@ -270,12 +252,12 @@ recuts size s t m turns a b k l r some new run =
       writes = writes_recut s m run.taken run.written (recut_bytes size ran.front) r run.writes ran.text_is;
       cause = cause_recut size s m turns run.taken run.written a b k l r some new ran run.writes run.cause;
       behind = record {
-        row = short.row;
+        sequence = short.sequence;
         rest = short.rest;
         parts = short.parts;
-        is_row = short.is_row;
+        is_sequence = short.is_sequence;
         frames = behind.front;
-        in_turn = longest_ran size s (frames_at m short.row) behind;
+        in_turn = longest_ran size s (frames_at m short.sequence) behind;
         written_begins = subst (λ (text_is : List ℕ). IsPrefix text_is run.written) behind.text_is short.written_begins;
         few = short.few;
       };
@@ -309,9 +291,9 @@ spelled_fits bytes (Body channel content) h = omega arith
 spelled_fits bytes Beat h = omega arith
 spelled_fits bytes (BadBeat channel) h = omega arith
 
-row_fits : (m : Option ℕ) (bytes : List ℕ) (frames : List Frame) → SpellsFrames plain m bytes frames → AllByRecursion Fits frames
-row_fits m bytes [] h = tt
-row_fits m bytes (frame ∷ frames) h = (spelled_fits h.0 frame h.3, row_fits m h.1 frames h.5)
+sequence_fits : (m : Option ℕ) (bytes : List ℕ) (frames : List Frame) → SpellsFrames plain m bytes frames → AllByRecursion Fits frames
+sequence_fits m bytes [] h = tt
+sequence_fits m bytes (frame ∷ frames) h = (spelled_fits h.0 frame h.3, sequence_fits m h.1 frames h.5)
 
 fits_at : (front : List Frame) (next : Frame) (more : List Frame) → AllByRecursion Fits (front ++ next ∷ more) → Fits next
 fits_at [] next more h = h.0
@@ -331,8 +313,8 @@ fresh_run size s t m turns a b k l bad some new run = by_cause run.cause
     by_cause : HasCauseBy recutting s m turns run.taken run.written a b k l (refused_by (refusals.BadContent bad)) → (bad ≢ faults.BodyTooLarge) × (bad ≢ faults.Faulted)
     by_cause (inl is) =
         let ran = ran_all size s (frames_at m run.taken) some new in
-        let row = front-is_row plain (Some m) run.taken run.are_bytes in
-        fresh_by (frames_at m run.taken) ran.front ran.rest (refused_of recutting s m run.taken) bad ran.parts (row_fits (Some m) row.used (frames_at m run.taken) row.row) ran.ends is
+        let sequence = front-is_sequence plain (Some m) run.taken run.are_bytes in
+        fresh_by (frames_at m run.taken) ran.front ran.rest (refused_of recutting s m run.taken) bad ran.parts (sequence_fits (Some m) sequence.used (frames_at m run.taken) sequence.sequence) ran.ends is
     by_cause (inr h) = absurd (bad_is_not_open bad (end_some (finite.len (state_of recutting s m run.taken).messages) (refusals.BadContent bad) h.ends).1)
 
 pub fresh : (size : ℕ) (s t : Recutter) (m turns : ℕ) (a b : Supply) (k l : Store) (r : Result (Unit {0}) (RunError Refusal)) (bad : ContentFault) → 1 ≤ size → IsNew size s → Streams recutting s t m turns a b k l (ending_of r) ⊎ RunNeverBegan s t a b k l (ending_of r) → as_recut r ≡ Err (errors.BadContent bad) → (bad ≢ faults.BodyTooLarge) × (bad ≢ faults.Faulted)
@@ -359,7 +341,7 @@ answered size m bytes front rest t None ends parts h = answered_end size m bytes
 answered size m bytes front rest t (Some (refusals.BadContent bad)) ends parts h = next_by (frames_at m bytes) front rest (Some (refusals.BadContent bad)) bad parts ends refl
 answered size m bytes front rest t (Some refusals.OpenContent) ends parts h = absurd (never_open front rest (Some refusals.OpenContent) ends refl)
 
-exactly : (size : ℕ) (s : Recutter) (m : ℕ) (bytes written : List ℕ) (r : Result (Unit {0}) (RunError Refusal)) → 1 ≤ size → IsNew size s → IsExact recutting s m bytes written (ending_of r) → IsRecutExactly m size bytes written (as_recut r)
+exactly : (size : ℕ) (s : Recutter) (m : ℕ) (bytes written : List ℕ) (r : Result (Unit {0}) (RunError Refusal)) → 1 ≤ size → IsNew size s → IsExactRun recutting s m bytes written (ending_of r) → IsRecutExactly m size bytes written (as_recut r)
 exactly size s m bytes written r some new h =
     let ran = ran_all size s (frames_at m bytes) some new in
     record {
@@ -368,14 +350,6 @@ exactly size s m bytes written r some new h =
       answered = subst (λ (x : Result (Unit {0}) RecutError). IsAnsweredTo m bytes ran.front x) (sym (back r ∙ ap recut_ending h.answer)) (answered size m bytes ran.front ran.rest (state_of recutting s m bytes) (refused_of recutting s m bytes) ran.ends ran.parts ran.stands);
       written_is = h.text_is ∙ ran.text_is;
     }
-
-unless : {P Q : Type 0} (cause : Cause) → (P → Q) → UnlessStopped cause P → UnlessStopped cause Q
-unless (faulty bad) g h = g h
-unless cut_short g h = g h
-unless turns_spent g h = tt
-unless read_failed g h = tt
-unless write_failed g h = tt
-unless out_of_memory g h = tt
 
 unless_recut : {P Q : Type 0} (r : Result (Unit {0}) (RunError Refusal)) → (P → Q) → UnlessStoppedBy (ending_of r) P → UnlessStoppedRecut (as_recut r) Q
 unless_recut (Ok done) g h = g h

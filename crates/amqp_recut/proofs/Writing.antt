@@ -19,7 +19,7 @@ use Rattle.amqp_stream.specs.Streaming.{error_ending, stopped_by, WritesBy}
 use Rattle.amqp_stream.proofs.Writes.{IsNone, is_none, refusing, is_faulty, kept}
 use Rattle.amqp_recut.specs.declared.errors.Refusal.{Refusal}
 use Rattle.amqp_recut.specs.declared.recutter.Recutter.{Recutter}
-use Rattle.amqp_recut.specs.Stepping.{recutting, left_over, Refuses}
+use Rattle.amqp_recut.specs.Stepping.{recutting, left_over, RefusesFrame}
 
 -- ---- a payload that is none
 
@@ -29,10 +29,10 @@ not_memory error some e = some cc
 no_frame : (raw : Raw) (error : ParserError) → IsPayloadFault error → RefusesWhole error (whole raw) → IsNone raw (cause_of (payload_fault error))
 no_frame raw error fault h = is_none raw error fault.0 (not_memory error fault.1) h
 
-pub refuses_faulty : (raw : Raw) (other : ContentFault) (error : ParserError) → IsPayloadFault error → RefusesWhole error (whole raw) → Refuses raw other (stopped_by (cause_of (payload_fault error)))
+pub refuses_faulty : (raw : Raw) (other : ContentFault) (error : ParserError) → IsPayloadFault error → RefusesWhole error (whole raw) → RefusesFrame raw other (stopped_by (cause_of (payload_fault error)))
 refuses_faulty raw other error fault h =
     let none = no_frame raw error fault h in
-    subst (λ cause. Refuses raw other (stopped_by cause)) none.tells (is_faulty plain raw none.bad none.is_whole none.other)
+    subst (λ cause. RefusesFrame raw other (stopped_by cause)) none.tells (is_faulty plain raw none.bad none.is_whole none.other)
 
 pub faulty_frame : (s : Recutter) (raw : Raw) (error : ParserError) (a : Store) (x y : List ℕ) → y ≡ x → IsPayloadFault error → RefusesWhole error (whole raw) → WritesBy recutting s s raw a a x y (stopped_by (cause_of (payload_fault error)))
 faulty_frame s raw error a x y same fault h =

@@ -34,6 +34,8 @@ abbrev pub cuts_of : (size n : ℕ) (before content : List ℕ) → List (List �
 cuts_of size n before content =
     map (λ k. cut_bytes size n k (before ++ content)) (cuts_reached size n (length before) (length before + length content))
 
+-- What a body frame is replaced by: in a message, whose content header announces how long the whole body is, a body frame for each cut whose last byte
+-- it brings; a body that is not in turn stays (AMQP 0-9-1, section 4.2.6).
 abbrev pub body_recut : (size channel : ℕ) → State Frame → List ℕ → List Frame
 body_recut size channel (At (Headed opening header bodies)) content =
     map (λ bytes. Body channel bytes) (cuts_of size (size_in (outline_of header)) (joined bodies) content)

@@ -11,26 +11,30 @@ pub record Held : Type 0 where
   pub progress : Progress
   pub kept : List ℕ
 
+-- a message as contracts see it, its kept bytes as a list
 abbrev pub held_of : Message → Held
 held_of message = record { progress = message.progress; kept = message.kept.items }
 
+-- a channel with its message as contracts see it
 abbrev pub entry_held : ℕ × Message → ℕ × Held
 entry_held entry = (entry.0, held_of entry.1)
 
 -- what is kept of each channel of which something is
-abbrev pub Holding : Type 0
-Holding = finite.FinMap nat_cmp Held
+abbrev pub HeldByChannel : Type 0
+HeldByChannel = finite.FinMap nat_cmp Held
 
+-- how far the content of a channel has come; None where nothing is kept of it
 abbrev pub progress_in : Option Held → Option Progress
 progress_in None = None
 progress_in (Some held) = Some held.progress
 
+-- the bytes of a body that are not written yet; none where nothing is kept of the channel
 abbrev pub kept_in : Option Held → List ℕ
 kept_in None = []
 kept_in (Some held) = held.kept
 
--- this is kept of a channel now
-abbrev pub set_at : Holding → ℕ → Option Held → Holding
+-- what is kept once this is kept of a channel, in the place of what was; of None nothing
+abbrev pub set_at : HeldByChannel → ℕ → Option Held → HeldByChannel
 set_at holding channel None = finite.remove holding channel
 set_at holding channel (Some held) = finite.insert holding channel held
 
@@ -41,21 +45,22 @@ held_with (Some progress) kept = Some (record { progress = progress; kept = kept
 
 -- ---- one message is kept beside the others
 
+-- there is a current message, and it is of this channel
 abbrev pub is_of : Option Current → ℕ → Bool
 is_of None channel = false
 is_of (Some current) channel = current.channel_id == channel
 
 -- a message becomes the current one where no other has begun
-abbrev pub takes : Option Current → Holding → ℕ → Bool
+abbrev pub takes : Option Current → HeldByChannel → ℕ → Bool
 takes None others channel = finite.len others == 0
 takes (Some current) others channel = current.channel_id == channel
 
 -- what is kept in all
-abbrev pub with_current : Option Current → Holding → Holding
+abbrev pub with_current : Option Current → HeldByChannel → HeldByChannel
 with_current None others = others
 with_current (Some current) others = finite.insert others current.channel_id (held_of current.message)
 
 -- of the current message's channel nothing else is kept
-abbrev pub IsApart : Option Current → Holding → Type 0
+abbrev pub IsApart : Option Current → HeldByChannel → Type 0
 IsApart None others = Unit {0}
 IsApart (Some current) others = finite.get others current.channel_id ≡ None

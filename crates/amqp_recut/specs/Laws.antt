@@ -46,8 +46,8 @@ CutBodiesStay = (size : ℕ) (frames : List Frame) → 1 ≤ size → AreCut siz
 abbrev pub TwiceIsOnce : Type 0
 TwiceIsOnce = (size : ℕ) (frames : List Frame) → 1 ≤ size → AreInTurn frames → recut size (recut size frames) ≡ recut size frames
 
--- Where no content is open at the end, a channel has the frames of the last size alone. (Frames of other channels may stand elsewhere between them, and of open content
--- bytes may be pending for the first size.)
+-- Where no content is open at the end, a channel has the frames of the last size alone. (Frames of other channels may stand elsewhere between them, and
+-- of open content bytes may be pending for the first size.)
 abbrev pub LastSizeCounts : Type 0
 LastSizeCounts = (first last : ℕ) (frames : List Frame) → 1 ≤ first → 1 ≤ last → AreInTurn frames → NoneIsOpen frames → (channel : ℕ)
     → of_channel outline_of channel (recut last (recut first frames)) ≡ of_channel outline_of channel (recut last frames)

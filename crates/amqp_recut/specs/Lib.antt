@@ -1,3 +1,4 @@
+-- The definitions of amqp_recut.
 pub mod InTurn
 pub mod Cuts
 pub mod Held

@@ -3,14 +3,14 @@ use Rattle.std.specs.Prelude.{◌≡◌, ℕ, ◌+◌, ◌≤◌, IsTrue, List, 
 use Rattle.amqp_types.specs.Levels.{plain}
 use Rattle.amqp_types.specs.Judging.{IsBytes}
 use Rattle.amqp_frame.specs.Frames.{Frame}
-use Rattle.amqp_frame.specs.Canonical.{canon_row}
+use Rattle.amqp_frame.specs.Canonical.{canon_frames}
 use Rattle.amqp_frame.specs.Fronts.{front}
 use Rattle.amqp_frame.specs.Outer.{BeginsWith}
 use Rattle.amqp_stream.specs.declared.errors.StreamError.TheVariants as streams
 use Rattle.amqp_stream.specs.Errors.{Cause, write_failed, out_of_memory, cause_of}
 use Rattle.amqp_stream.specs.Ends.{Supply, Store, Takes, Gains, IsEmpty}
 use Rattle.amqp_stream.specs.Writing.{IsPrefix}
-use Rattle.amqp_stream.specs.Transcribing.{IsRow, IsCausedBy, UnlessStopped, IsOutOfMemory, answer_to}
+use Rattle.amqp_stream.specs.Transcribing.{IsSequence, IsCausedBy, UnlessStopped, IsOutOfMemory, answer_to, IsWrittenUnless}
 use Rattle.amqp_recut.specs.declared.errors.RecutError.{RecutError}
 use Rattle.amqp_recut.specs.declared.errors.RecutError.TheVariants as errors
 use Rattle.amqp_recut.specs.InTurn.{IsLongestInTurn, IsNextFault, IsOpen, NoneIsOpen, AreInTurn}
@@ -23,27 +23,27 @@ frames_at m bytes = front plain (Some m) bytes
 
 -- what is written for frames
 abbrev pub recut_bytes : ℕ → List Frame → List ℕ
-recut_bytes size frames = canon_row (recut size frames)
+recut_bytes size frames = canon_frames (recut size frames)
 
 -- A sequence of frames was written for, as far as it is in turn, and then a method, a content header or a body has come.
 pub record AtContent (m size : ℕ) (taken written : List ℕ) : Type 0 where
-  pub row : List ℕ
+  pub sequence : List ℕ
   pub rest : List ℕ
-  pub parts : taken ≡ row ++ rest
-  pub is_row : IsRow plain m row
+  pub parts : taken ≡ sequence ++ rest
+  pub is_sequence : IsSequence plain m sequence
   pub content : BeginsWith (λ kind. IsTrue (is_content_type kind)) (Some m) rest
   pub frames : List Frame
-  pub in_turn : IsLongestInTurn (frames_at m row) frames
+  pub in_turn : IsLongestInTurn (frames_at m sequence) frames
   pub written_is : written ≡ recut_bytes size frames
 
 -- At most n of the bytes taken come after a sequence of frames that was written for, as far as it is in turn.
 pub record IsRecutBehindBy (m size : ℕ) (taken written : List ℕ) (n : ℕ) : Type 0 where
-  pub row : List ℕ
+  pub sequence : List ℕ
   pub rest : List ℕ
-  pub parts : taken ≡ row ++ rest
-  pub is_row : IsRow plain m row
+  pub parts : taken ≡ sequence ++ rest
+  pub is_sequence : IsSequence plain m sequence
   pub frames : List Frame
-  pub in_turn : IsLongestInTurn (frames_at m row) frames
+  pub in_turn : IsLongestInTurn (frames_at m sequence) frames
   pub written_begins : IsPrefix (recut_bytes size frames) written
   pub few : length rest ≤ n
 
@@ -55,18 +55,13 @@ IsAllInTurn all frames cause = frames ≡ all
 
 -- When each result comes. `frames` is the longest prefix in turn of the frames at the front of the bytes taken.
 abbrev pub HasCauseRecut : ℕ → ℕ → ℕ → List ℕ → List ℕ → List Frame → Supply → Supply → Store → Store → Result (Unit {0}) RecutError → Type 0
-HasCauseRecut m size turns taken written frames a b k l (Ok done) = IsRow plain m taken × IsEmpty b.left × (frames ≡ frames_at m taken) × NoneIsOpen frames
+HasCauseRecut m size turns taken written frames a b k l (Ok done) = IsSequence plain m taken × IsEmpty b.left × (frames ≡ frames_at m taken) × NoneIsOpen frames
 HasCauseRecut m size turns taken written frames a b k l (Err (errors.BadContent fault)) = IsNextFault (frames_at m taken) frames fault
-HasCauseRecut m size turns taken written frames a b k l (Err errors.OpenContent) = IsRow plain m taken × IsEmpty b.left × (frames ≡ frames_at m taken) × IsOpen frames
+HasCauseRecut m size turns taken written frames a b k l (Err errors.OpenContent) = IsSequence plain m taken × IsEmpty b.left × (frames ≡ frames_at m taken) × IsOpen frames
 HasCauseRecut m size turns taken written frames a b k l (Err (errors.Stream error)) =
     IsCausedBy plain m turns taken a b k l (AtContent m size taken written) (cause_of error) × IsAllInTurn (frames_at m taken) frames (cause_of error)
 
--- what was written of a text: all of it, or a part of its front where a write or memory failed
-abbrev pub IsWrittenUnless : List ℕ → List ℕ → Cause → Type 0
-IsWrittenUnless text written write_failed = IsPrefix written text
-IsWrittenUnless text written out_of_memory = IsPrefix written text
-IsWrittenUnless text written cause = written ≡ text
-
+-- what was written of a text, by the result: all of it, unless a write or memory failed
 abbrev pub HasWrittenRecut : List ℕ → List ℕ → Result (Unit {0}) RecutError → Type 0
 HasWrittenRecut text written (Ok done) = written ≡ text
 HasWrittenRecut text written (Err (errors.BadContent fault)) = written ≡ text
@@ -95,14 +90,15 @@ pub record NeverBegan (a b : Supply) (k l : Store) (result : Result (Unit {0}) R
   pub source : b ≡ a
   pub sink : l ≡ k
 
--- What is returned for all the bytes of a source: the fault of the first frame that is not in turn, or else what their place has; and at their end, whether content is open.
+-- What is returned for all the bytes of a source: the fault of the first frame that is not in turn; or else the result of canonicalizing them, and where
+-- that is Ok, whether content is open.
 abbrev pub IsAnsweredTo : ℕ → List ℕ → List Frame → Result (Unit {0}) RecutError → Type 0
 IsAnsweredTo m bytes frames (Ok done) = (frames ≡ frames_at m bytes) × (answer_to plain m bytes ≡ Ok tt) × NoneIsOpen frames
 IsAnsweredTo m bytes frames (Err (errors.BadContent fault)) = IsNextFault (frames_at m bytes) frames fault
 IsAnsweredTo m bytes frames (Err errors.OpenContent) = (frames ≡ frames_at m bytes) × (answer_to plain m bytes ≡ Ok tt) × IsOpen frames
 IsAnsweredTo m bytes frames (Err (errors.Stream error)) = (frames ≡ frames_at m bytes) × (answer_to plain m bytes ≡ Err error)
 
--- by the bytes alone
+-- what is written and returned, by the bytes alone
 pub record IsRecutExactly (m size : ℕ) (bytes written : List ℕ) (result : Result (Unit {0}) RecutError) : Type 0 where
   pub frames : List Frame
   pub in_turn : IsLongestInTurn (frames_at m bytes) frames
@@ -127,6 +123,7 @@ pub record IsComplete (m : ℕ) (bytes : List ℕ) : Type 0 where
   pub in_turn : AreInTurn (frames_at m bytes)
   pub none_open : NoneIsOpen (frames_at m bytes)
 
+-- the result is Ok, or memory ran out
 abbrev pub IsOkOrNoMemory : Result (Unit {0}) RecutError → Type 0
 IsOkOrNoMemory (Ok done) = Unit {0}
 IsOkOrNoMemory (Err (errors.BadContent fault)) = ⊥

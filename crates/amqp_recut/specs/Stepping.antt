@@ -7,7 +7,7 @@ use Rattle.amqp_frame.specs.declared.frame_type.AMQPFrameType.{AMQPFrameType}
 use Rattle.amqp_frame.specs.declared.frame_type.AMQPFrameType.TheVariants as kinds
 use Rattle.amqp_frame.specs.Frames.{Raw, Frame, Body, channel_id_of}
 use Rattle.amqp_frame.specs.Outlines.{outline_of}
-use Rattle.amqp_frame.specs.Canonical.{canon, canon_row}
+use Rattle.amqp_frame.specs.Canonical.{canon, canon_frames}
 use Rattle.amqp_frame.specs.Verdicts.{whole}
 use Rattle.amqp_content.specs.declared.fault.ContentFault.{ContentFault}
 use Rattle.amqp_content.specs.declared.mark.Mark.{Mark}
@@ -40,24 +40,29 @@ abbrev pub pieces_given : ℕ → Bool → List ℕ → List (List ℕ)
 pieces_given size true bytes = pieces size bytes
 pieces_given size false bytes = whole_pieces size bytes
 
+-- the body frames on a channel with the pieces that are written, in order
 abbrev pub frames_given : ℕ → ℕ → Bool → List ℕ → List Frame
 frames_given size channel ends bytes = map (λ piece. Body channel piece) (pieces_given size ends bytes)
 
 -- ---- one frame
 
+-- The bytes written for a frame with this mark: for a body, a body frame for each whole piece of the kept bytes and its own, and at the end of the body
+-- one for the rest too; for a content fault none; for any other frame its canonical bytes.
 abbrev pub written_marked : ℕ → Option Held → Frame → Mark → List ℕ
-written_marked size held frame (marks.Body before after n) = canon_row (frames_given size (channel_id_of frame) (after == n) (kept_in held ++ bytes_of frame))
+written_marked size held frame (marks.Body before after n) = canon_frames (frames_given size (channel_id_of frame) (after == n) (kept_in held ++ bytes_of frame))
 written_marked size held frame marks.Passed = canon frame
 written_marked size held frame marks.Opening = canon frame
 written_marked size held frame marks.Header = canon frame
 written_marked size held frame (marks.Fault bad) = []
 
-abbrev pub kept_marked : ℕ → Option Held → Frame → Mark → List ℕ
-kept_marked size held frame (marks.Body before after n) = left_over size (kept_in held ++ bytes_of frame)
-kept_marked size held frame marks.Passed = kept_in held
-kept_marked size held frame marks.Opening = []
-kept_marked size held frame marks.Header = []
-kept_marked size held frame (marks.Fault bad) = []
+-- The bytes kept after a frame with this mark: of a body, those after the last whole piece; at an opening, a content header or a content fault none.
+-- A frame of no message leaves them as they are. (At the end of a body `held_with` keeps nothing.)
+abbrev pub bytes_kept : ℕ → Option Held → Frame → Mark → List ℕ
+bytes_kept size held frame (marks.Body before after n) = left_over size (kept_in held ++ bytes_of frame)
+bytes_kept size held frame marks.Passed = kept_in held
+bytes_kept size held frame marks.Opening = []
+bytes_kept size held frame marks.Header = []
+bytes_kept size held frame (marks.Fault bad) = []
 
 -- what is kept of a channel
 abbrev pub held_at : Recutter → ℕ → Option Held
@@ -67,13 +72,16 @@ held_at s channel = finite.get s.messages channel
 abbrev pub mark_held : Option Held → Frame → Mark
 mark_held held frame = mark_after greatest (progress_in held) (outline_of frame)
 
+-- what is kept of the channel of a frame after it: how far its content has come, and the bytes of the body not written yet; nothing between messages
 abbrev pub held_after : ℕ → Option Held → Frame → Option Held
-held_after size held frame = held_with (progress_after greatest (progress_in held) (outline_of frame)) (kept_marked size held frame (mark_held held frame))
+held_after size held frame = held_with (progress_after greatest (progress_in held) (outline_of frame)) (bytes_kept size held frame (mark_held held frame))
 
+-- A step by the mark of the frame: a content fault is refused, and after any other frame what is kept of its channel is replaced.
 abbrev pub step_marked : Recutter → Option Held → Frame → Mark → Result (List ℕ × Recutter) Refusal
 step_marked s held frame (marks.Fault bad) = Err (refusals.BadContent bad)
 step_marked s held frame mark = Ok (written_marked s.size held frame mark, record s { messages = set_at s.messages (channel_id_of frame) (held_after s.size held frame) })
 
+-- A step of recutting: of all that is kept, only what is kept of the channel of the frame matters, and only that changes.
 abbrev pub step_recutting : Recutter → Frame → Result (List ℕ × Recutter) Refusal
 step_recutting s frame = step_marked s (held_at s (channel_id_of frame)) frame (mark_held (held_at s (channel_id_of frame)) frame)
 
@@ -82,16 +90,16 @@ abbrev pub body_raw : ℕ → List ℕ → Raw
 body_raw channel payload = record { kind = kinds.Body; channel = channel; payload = payload }
 
 -- A frame is refused for this fault, or for a fault of its payload.
-abbrev pub Refuses : Raw → ContentFault → Ending Refusal → Type 0
-Refuses raw fault (refused_by (refusals.BadContent bad)) = (frame : Frame) × (whole raw ≡ Ok frame) × (bad ≡ fault)
-Refuses raw fault (refused_by refusals.OpenContent) = ⊥
-Refuses raw fault (stopped_by (faulty bad)) = IsFaulty plain raw bad
-Refuses raw fault (stopped_by cause) = ⊥
-Refuses raw fault finished = ⊥
+abbrev pub RefusesFrame : Raw → ContentFault → Ending Refusal → Type 0
+RefusesFrame raw fault (refused_by (refusals.BadContent bad)) = (frame : Frame) × (whole raw ≡ Ok frame) × (bad ≡ fault)
+RefusesFrame raw fault (refused_by refusals.OpenContent) = ⊥
+RefusesFrame raw fault (stopped_by (faulty bad)) = IsFaulty plain raw bad
+RefusesFrame raw fault (stopped_by cause) = ⊥
+RefusesFrame raw fault finished = ⊥
 
 -- ---- a stream
 
--- memory is wanted where something is kept
+-- the types of frames at which memory may run out: after a method, a content header or a body something may be kept of its channel
 abbrev pub is_content_type : AMQPFrameType → Bool
 is_content_type kinds.Method = true
 is_content_type kinds.Header = true
@@ -103,5 +111,6 @@ is_content_type kinds.Heartbeat = false
 abbrev pub end_recutting : Recutter → Option Refusal
 end_recutting s = if finite.len s.messages == 0 then None else Some refusals.OpenContent
 
+-- recutting as a manner of writing: frames are read at level plain, and a content fault, or content that is open at the end of input, is refused
 abbrev pub recutting : Manner Recutter Refusal
 recutting = record { level = plain; step = step_recutting; end = end_recutting; wants = is_content_type; compact = true }

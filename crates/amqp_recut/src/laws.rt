@@ -14,7 +14,8 @@ pub fn bodies_are_cut()
     ensures stay { CutBodiesStay }
 {}
 
-/// Recutting twice by one size is recutting once; and where no content is open at the end, the last of two sizes counts alone.
+/// Recutting twice by one size is recutting once; and where no content is open at the end, the last of two sizes counts
+/// alone.
 pub fn last_size_counts()
     ensures twice { TwiceIsOnce }
     ensures last { LastSizeCounts }

@@ -40,8 +40,8 @@ fn takes(current: &Option<Current>, others: &Others, channel_id: ChannelId) -> b
     }
 }
 
-/// The messages that are not complete. One is kept beside the map of the others, which stays empty where the messages of a
-/// stream come one after another.
+/// The messages that are not complete. One is kept beside the map of the others, which stays empty where the messages
+/// of a stream come one after another.
 #[derive(Drop)]
 pub(crate) struct Messages {
     alloc: Global,
@@ -52,9 +52,9 @@ pub(crate) struct Messages {
 impl Model for Messages {
     ghost use Rattle.std.specs.Coded.{codes};
     ghost use Rattle.std.specs.FinMap as finite;
-    ghost use Rattle.amqp_recut.specs.Held.{Holding, with_current, IsApart};
+    ghost use Rattle.amqp_recut.specs.Held.{HeldByChannel, with_current, IsApart};
 
-    ghost Value = { Holding };
+    ghost Value = { HeldByChannel };
 
     ghost coded = { Prim.hlevel (codes, finite.code) };
 

@@ -21,9 +21,9 @@ impl Model for Others {
     ghost use Rattle.std.specs.Prelude.{map};
     ghost use Rattle.std.specs.Coded.{codes};
     ghost use Rattle.std.specs.FinMap as finite;
-    ghost use Rattle.amqp_recut.specs.Held.{Holding, entry_held};
+    ghost use Rattle.amqp_recut.specs.Held.{HeldByChannel, entry_held};
 
-    ghost Value = { Holding };
+    ghost Value = { HeldByChannel };
 
     ghost coded = { Prim.hlevel (codes, finite.code) };
 

@@ -1,14 +1,15 @@
 //! Body frames that are cut out of two parts, of which one follows the other.
 
 ghost use Rattle.std.specs.Prelude.{◌≡◌, ◌+◌, ◌-◌, ◌++◌, ◌^◌, ◌<◌, ◌≤◌, [], length, drop, IfOk};
-ghost use Rattle.amqp_frame.specs.Canonical.{canon_row};
+ghost use Rattle.amqp_frame.specs.Canonical.{canon_frames};
 ghost use Rattle.amqp_frame.specs.Spelling.{framed};
 ghost use Rattle.amqp_stream.specs.Writing.{Gathers};
 ghost use Rattle.amqp_recut.specs.Stepping.{frames_given};
+ghost use Rattle.amqp_types.specs.Constants.{body_byte};
 
 use amqp_frame::frame_head;
 use amqp_stream::{OutputBuffer, Sink, SinkFault, flush, gather};
-use amqp_types::{ChannelId, NoMemory};
+use amqp_types::{ChannelId, FRAME_BODY, FRAME_END, NoMemory};
 use std::alloc::Global;
 
 /// Pieces up to this size are pending with the small frames.
@@ -20,12 +21,12 @@ fn push_piece(out: &mut OutputBuffer, channel_id: ChannelId, front: &[u8], back:
     requires few { length front.now + length back.now < 2 ^ 32 }
     requires room { length out.old.bytes + (length front.now + length back.now + 8) ≤ out.old.room }
     ensures room { out.new.room ≡ out.old.room }
-    ensures pushed { out.new.bytes ≡ out.old.bytes ++ framed 3 channel_id (front.now ++ back.now) }
+    ensures pushed { out.new.bytes ≡ out.old.bytes ++ framed body_byte channel_id (front.now ++ back.now) }
 {
-    out.push(&frame_head(3, channel_id, (front.len() + back.len()) as u32));
+    out.push(&frame_head(FRAME_BODY, channel_id, (front.len() + back.len()) as u32));
     out.push(front);
     out.push(back);
-    out.push(&[206]);
+    out.push(&[FRAME_END]);
 }
 
 /// Gathers a body frame whose payload is two parts.
@@ -39,7 +40,7 @@ fn write_piece<K: Sink>(
 ) -> Result<(), SinkFault>
     requires few { length front.now + length back.now < 2 ^ 32 }
     ensures room { out.new.room ≡ out.old.room }
-    ensures gathers { Gathers (K.store sink.old) (K.store sink.new) out.old.bytes out.new.bytes (framed 3 channel_id (front.now ++ back.now)) result }
+    ensures gathers { Gathers (K.store sink.old) (K.store sink.new) out.old.bytes out.new.bytes (framed body_byte channel_id (front.now ++ back.now)) result }
 {
     let len = front.len() + back.len();
     if len <= SMALL_PIECE && len + 8 <= out.room() {
@@ -59,9 +60,9 @@ fn gather_piece<K: Sink>(
 ) -> Result<(), SinkFault>
     requires few { length front.now + length back.now < 2 ^ 32 }
     ensures room { out.new.room ≡ out.old.room }
-    ensures gathers { Gathers (K.store sink.old) (K.store sink.new) out.old.bytes out.new.bytes (framed 3 channel_id (front.now ++ back.now)) result }
+    ensures gathers { Gathers (K.store sink.old) (K.store sink.new) out.old.bytes out.new.bytes (framed body_byte channel_id (front.now ++ back.now)) result }
 {
-    let head = frame_head(3, channel_id, (front.len() + back.len()) as u32);
+    let head = frame_head(FRAME_BODY, channel_id, (front.len() + back.len()) as u32);
     match gather(out, sink, &head) {
         Err(fault) => return Err(fault),
         Ok(()) => {}
@@ -74,7 +75,7 @@ fn gather_piece<K: Sink>(
         Err(fault) => return Err(fault),
         Ok(()) => {}
     }
-    let end = gather(out, sink, &[206]);
+    let end = gather(out, sink, &[FRAME_END]);
     end
 }
 
@@ -92,7 +93,7 @@ pub(crate) fn write_pieces<K: Sink>(
     requires few { size < 2 ^ 32 }
     ensures room { out.new.room ≡ out.old.room }
     ensures gathers { Gathers (K.store sink.old) (K.store sink.new) out.old.bytes out.new.bytes
-        (canon_row (frames_given size channel_id ends (front.now ++ back.now))) result }
+        (canon_frames (frames_given size channel_id ends (front.now ++ back.now))) result }
 {
     let mut first = front;
     let mut second = back;

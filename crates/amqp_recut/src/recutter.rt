@@ -27,13 +27,13 @@ impl Recutter {
     ghost use Rattle.std.specs.Prelude.{◌≡◌, ◌+◌, ◌++◌, [], length, Ok, Err, Some, None, IsSome, OnOk, OnErr, true, false};
     ghost use Rattle.std.specs.FinMap as finite;
     ghost use Rattle.amqp_frame.specs.Frames.{Frame, Body, raw_of, IsTyped};
-    ghost use Rattle.amqp_frame.specs.Canonical.{canon, canon_row};
+    ghost use Rattle.amqp_frame.specs.Canonical.{canon, canon_frames};
     ghost use Rattle.amqp_frame.specs.Verdicts.{whole};
     ghost use Rattle.amqp_stream.specs.Ends.{Store};
     ghost use Rattle.amqp_stream.specs.Writing.{frame_length};
     ghost use Rattle.amqp_stream.specs.Streaming.{WritesBy, ending_of};
     ghost use Rattle.amqp_recut.specs.Held.{held_with, set_at, kept_in};
-    ghost use Rattle.amqp_recut.specs.Stepping.{recutting, step_recutting, held_at, frames_given, left_over, body_raw, Refuses};
+    ghost use Rattle.amqp_recut.specs.Stepping.{recutting, step_recutting, held_at, frames_given, left_over, body_raw, RefusesFrame};
 
     /// A writer that has taken no frame.
     pub(crate) fn new(alloc: Global, size: u32) -> Recutter
@@ -97,7 +97,7 @@ impl Recutter {
 
     /// Why a frame that is not in turn is refused: a fault of its payload comes first.
     fn refuse(raw: AMQPRawFrame<'_>, fault: ContentFault) -> Result<(), RunError<Refusal>>
-        ensures { Refuses (raw_of raw.entry) fault (ending_of result) }
+        ensures { RefusesFrame (raw_of raw.entry) fault (ending_of result) }
     {
         match judge_frame(raw) {
             Ok(_) => Err(RunError::Refused(Refusal::BadContent(fault))),
@@ -105,8 +105,8 @@ impl Recutter {
         }
     }
 
-    /// Puts a method or content header that is part of a message after the pending bytes. Where memory runs out, it is taken
-    /// back.
+    /// Puts a method or content header that is part of a message after the pending bytes. Where memory runs out, it is
+    /// taken back.
     #[inline(always)]
     fn write_part(
         &mut self,
@@ -179,7 +179,7 @@ impl Recutter {
     ) -> Result<(), RunError<Refusal>>
         requires steps { step_recutting self.old (Body channel_id payload.now)
             ≡ Ok (
-              canon_row (frames_given self.old.size channel_id true (kept_in (held_at self.old channel_id) ++ payload.now)),
+              canon_frames (frames_given self.old.size channel_id true (kept_in (held_at self.old channel_id) ++ payload.now)),
               record self.old { messages = finite.remove self.old.messages channel_id },
             ) }
         ensures room { out.new.room ≡ out.old.room }
@@ -208,7 +208,7 @@ impl Recutter {
         requires there { IsSome (held_at self.old channel_id) }
         requires steps { step_recutting self.old (Body channel_id payload.now)
             ≡ Ok (
-              canon_row (frames_given self.old.size channel_id false (kept_in (held_at self.old channel_id) ++ payload.now)),
+              canon_frames (frames_given self.old.size channel_id false (kept_in (held_at self.old channel_id) ++ payload.now)),
               record self.old {
                 messages = finite.insert self.old.messages channel_id
                     (record { progress = progress; kept = left_over self.old.size (kept_in (held_at self.old channel_id) ++ payload.now) });

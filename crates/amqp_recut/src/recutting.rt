@@ -23,9 +23,9 @@ fn as_recut(answer: Result<(), RunError<Refusal>>) -> Result<(), RecutError>
     }
 }
 
-/// Writes the canonical bytes of a stream's frames, with the bodies of messages cut into body frames of `size` bytes, the
-/// last of a message shorter. It goes on to the end of input, the first frame that is not in turn, or an error. Each read
-/// takes one of the read budget. Of each message that is not complete, fewer than `size` bytes are held.
+/// Writes the canonical bytes of a stream's frames, with the bodies of messages cut into body frames of `size` bytes,
+/// the last of a message shorter. It goes on to the end of input, the first frame that is not in turn, or an error.
+/// Each read takes one of the read budget. Of each message that is not complete, fewer than `size` bytes are held.
 pub fn recut<S: Source, K: Sink>(
     alloc: Global,
     source: &mut S,

@@ -1,3 +1,4 @@
+-- The lemmas of amqp_select.
 pub mod Numerals
 pub mod Words
 pub mod Reading

@@ -17,7 +17,7 @@ use Rattle.std.proofs.lemmas.List.{take-append-drop, drop_at}
 use Rattle.std.proofs.lemmas.Slice.Eq.{bytes_eq-Decides}
 use Rattle.std.proofs.lemmas.Str.Parse.{IsNumeralModel, numerals_by_value, tells_digits, digit_from_value}
 use Rattle.amqp_select.specs.Rules.{IsNumber}
-use Rattle.amqp_select.specs.Reading.{digits_in_front, has_leading_zero, number_named, read_number}
+use Rattle.amqp_select.specs.Reading.{digits_in_front, has_leading_zero, number_named, read_count}
 
 pub numerals : IsNumeralModel (AllDigits 10) (digits_value 10)
 numerals = numerals_by_value _ tells_digits
@@ -88,7 +88,7 @@ pub record Front {A : Type 0} (text : A → List ℕ) (Is : A → Type 0) (bytes
   pub is : bytes ≡ text found.0 ++ found.1
   pub valid : Is found.0
 
-pub number_taken : (n : ℕ) (rest : List ℕ) → IsNumber n → BeginsNoDigit rest → read_number (decimal n ++ rest) ≡ Some (n, rest)
+pub number_taken : (n : ℕ) (rest : List ℕ) → IsNumber n → BeginsNoDigit rest → read_count (decimal n ++ rest) ≡ Some (n, rest)
 number_taken n rest h ends =
     let count = digits_in_front-append (decimal n) rest (digits_decimal numerals n (small n h)) ends in
     rw count (rw (take-append_seam (decimal n) rest) (rw (drop_at (decimal n) rest (length (decimal n)) refl) (rw (named-decimal n h) refl)))
@@ -97,7 +97,7 @@ mapped : (o : Option ℕ) (rest : List ℕ) (found : ℕ × List ℕ) → option
 mapped None rest found e = absurd cc
 mapped (Some n) rest found e = (ap (option_map (λ (p : ℕ × List ℕ). p.0)) e, cc)
 
-pub number_front : (bytes : List ℕ) (found : ℕ × List ℕ) → read_number bytes ≡ Some found → Front decimal IsNumber bytes found
+pub number_front : (bytes : List ℕ) (found : ℕ × List ℕ) → read_count bytes ≡ Some found → Front decimal IsNumber bytes found
 number_front bytes found e =
     let count = digits_in_front bytes in
     let h = mapped (number_named (take count bytes)) (drop count bytes) found e in
@@ -112,7 +112,7 @@ number_front bytes found e =
 at_most : (n : ℕ) → nat_le n 65535 ≡ true → n ≤ 65535
 at_most n e = grind (arith, nat_tests)
 
-picked-none : (a b : Bool) (n : ℕ) → (a ≡ true → b ≡ true → ⊥) → (if a && b then Some n else None) ≡ None
+pub picked-none : (a b : Bool) (n : ℕ) → (a ≡ true → b ≡ true → ⊥) → (if a && b then Some n else None) ≡ None
 picked-none true true n h = absurd (h refl refl)
 picked-none true false n h = refl
 picked-none false b n h = refl
@@ -124,7 +124,7 @@ unprinted digits h =
     let n = digits_value 10 digits in
     picked-none (bytes_eq digits (decimal n)) (nat_le n 65535) n (λ same few. h n ((bytes_eq-Decides digits (decimal n)).0 same) (at_most n few))
 
-printed_zero : (n : ℕ) → n ≤ 0 → length (decimal n) ≡ 1
+pub printed_zero : (n : ℕ) → n ≤ 0 → length (decimal n) ≡ 1
 printed_zero n h = ap (λ k. length (decimal k)) {x = n} {y = 0} (omega arith) ∙ ap length (decimal_digit 0 (omega arith))
 
 printed_short : (n : ℕ) → IsNumber n → get_or (decimal n) 0 0 ≡ 48 → length (decimal n) ≤ 1

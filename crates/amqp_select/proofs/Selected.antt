@@ -6,7 +6,7 @@ use Rattle.std.specs.List.{flat_map}
 use Rattle.std.specs.declared.string.ParseError.{Infallible}
 use Rattle.amqp_types.specs.Levels.{plain}
 use Rattle.amqp_frame.specs.Frames.{Raw, Frame}
-use Rattle.amqp_frame.specs.Canonical.{canon, canon_row}
+use Rattle.amqp_frame.specs.Canonical.{canon, canon_frames}
 use Rattle.amqp_frame.specs.declared.outline.FrameOutline.{FrameOutline}
 use Rattle.amqp_frame.specs.Outlines.{outline_of}
 use Rattle.amqp_frame.specs.Verdicts.{whole}
@@ -31,8 +31,8 @@ all_kept : (rules : List Rule) → ((outline : FrameOutline) → true ≡ decide
 all_kept rules all [] = refl
 all_kept rules all (frame ∷ frames) = rw (sym (all (outline_of frame))) (ap (λ fs. frame ∷ fs) (all_kept rules all frames))
 
-pub selects_all : (rules : List Rule) → ((outline : FrameOutline) → true ≡ decides rules outline) → canon_row ≡ selection rules
-selects_all rules all = fun_ext λ frames. ap canon_row (sym (all_kept rules all frames))
+pub selects_all : (rules : List Rule) → ((outline : FrameOutline) → true ≡ decides rules outline) → canon_frames ≡ selection rules
+selects_all rules all = fun_ext λ frames. ap canon_frames (sym (all_kept rules all frames))
 
 -- where all are kept, what is canonicalized is what is selected
 pub all_stream : (rules : List Rule) (m turns : ℕ) (a b : Supply) (k l : Store) (r : Result (Unit {0}) StreamError) → ((outline : FrameOutline) → true ≡ decides rules outline) → Canonicalizes plain m turns a b k l r ⊎ NeverBegan a b k l r → Transcribes (selection rules) plain m turns a b k l r ⊎ NeverBegan a b k l r
@@ -80,7 +80,7 @@ written s raw a b before after keep (Err error) decided e h = unwritten s raw a 
 
 -- ---- a stream
 
-selection_more : (b : Bool) (frame : Frame) (rest : List Frame) (bytes : List ℕ) → bytes ≡ canon_row rest → (if b then canon frame else []) ++ bytes ≡ canon_row (cond b (frame ∷ rest) rest)
+selection_more : (b : Bool) (frame : Frame) (rest : List Frame) (bytes : List ℕ) → bytes ≡ canon_frames rest → (if b then canon frame else []) ++ bytes ≡ canon_frames (cond b (frame ∷ rest) rest)
 selection_more true frame rest bytes e = ap (λ (xs : List ℕ). canon frame ++ xs) e
 selection_more false frame rest bytes e = e
 

@@ -13,8 +13,8 @@ use Rattle.amqp_frame.specs.declared.frame_type.AMQPFrameType.TheVariants as kin
 use Rattle.amqp_select.specs.declared.rule.Span.{Span}
 use Rattle.amqp_select.specs.declared.rule.Span.TheVariants as spans
 use Rattle.amqp_select.specs.declared.rule.Rule.{Rule}
-use Rattle.amqp_select.specs.Rules.{IsNumber, IsSpan, IsRule, verb_text, span_text, kind_text, part_text, spelled}
-use Rattle.amqp_select.specs.Reading.{Read, ◌>>=◌, after, or_else, read_verb, read_number, range_to, span_from, read_span, read_kind, part_at, read_part, at_end, read_rule}
+use Rattle.amqp_select.specs.Rules.{IsNumber, IsSpanOfNumbers, IsRule, verb_text, span_text, type_text, part_text, spelled}
+use Rattle.amqp_select.specs.Reading.{Read, ◌>>=◌, after, or_else, read_verb, read_count, range_to, span_from, read_span, read_kind, part_at, read_part, at_end, read_rule}
 use Rattle.amqp_select.proofs.Numerals.{BeginsNoDigit, Front, number_taken, number_front}
 
 -- ---- texts in front
@@ -41,7 +41,7 @@ verb_taken : (keep : Bool) (rest : List ℕ) → read_verb (verb_text keep ++ re
 verb_taken true rest = refl
 verb_taken false rest = refl
 
-kind_taken : (kind : AMQPFrameType) (rest : List ℕ) → read_kind (kind_text kind ++ rest) ≡ Some (kind, rest)
+kind_taken : (kind : AMQPFrameType) (rest : List ℕ) → read_kind (type_text kind ++ rest) ≡ Some (kind, rest)
 kind_taken kinds.ProtocolHeader rest = refl
 kind_taken kinds.Method rest = refl
 kind_taken kinds.Header rest = refl
@@ -63,13 +63,13 @@ verb_front bytes found e =
     one_of verb_text bytes true _ found _ refl e (λ e.
     one_of verb_text bytes false _ found _ refl e (none_of verb_text bytes found))
 
-kind_front : (bytes : List ℕ) (found : AMQPFrameType × List ℕ) → read_kind bytes ≡ Some found → Front kind_text Always bytes found
+kind_front : (bytes : List ℕ) (found : AMQPFrameType × List ℕ) → read_kind bytes ≡ Some found → Front type_text Always bytes found
 kind_front bytes found e =
-    one_of kind_text bytes kinds.ProtocolHeader _ found _ refl e (λ e.
-    one_of kind_text bytes kinds.Method _ found _ refl e (λ e.
-    one_of kind_text bytes kinds.Header _ found _ refl e (λ e.
-    one_of kind_text bytes kinds.Body _ found _ refl e (λ e.
-    one_of kind_text bytes kinds.Heartbeat _ found _ refl e (none_of kind_text bytes found)))))
+    one_of type_text bytes kinds.ProtocolHeader _ found _ refl e (λ e.
+    one_of type_text bytes kinds.Method _ found _ refl e (λ e.
+    one_of type_text bytes kinds.Header _ found _ refl e (λ e.
+    one_of type_text bytes kinds.Body _ found _ refl e (λ e.
+    one_of type_text bytes kinds.Heartbeat _ found _ refl e (none_of type_text bytes found)))))
 
 -- what went before, and what was made of it
 record Bound {A B : Type 0} (o : Option A) (f : A → Option B) (b : B) : Type 0 where
@@ -99,7 +99,7 @@ no_dash (byte ∷ rest) h = rw h refl
 in_order : (first last : ℕ) → first ≤ last → nat_le first last ≡ true
 in_order first last h = grind (arith, nat_tests)
 
-span_taken : (span : Span) (rest : List ℕ) → IsSpan span → IsTail rest → read_span (span_text span ++ rest) ≡ Some (span, rest)
+span_taken : (span : Span) (rest : List ℕ) → IsSpanOfNumbers span → IsTail rest → read_span (span_text span ++ rest) ≡ Some (span, rest)
 span_taken (spans.One only) rest h tail = rw (number_taken only rest h (no_digit rest tail)) (rw (no_dash rest tail) refl)
 span_taken (spans.Range first last) rest h tail =
     let few : first ≤ 65535 = omega (arith, h.0, h.1) in
@@ -115,26 +115,26 @@ ordered false span rest found e = absurd cc
 at_most : (first last : ℕ) → nat_le first last ≡ true → first ≤ last
 at_most first last e = grind (arith, nat_tests)
 
-range_front : (bytes rest : List ℕ) (first : ℕ) (last : Read ℕ) (found : Span × List ℕ) → read_number rest ≡ last → bytes ≡ decimal first ++ (codes "-" ++ rest) → range_to first last ≡ Some found → Front span_text IsSpan bytes found
+range_front : (bytes rest : List ℕ) (first : ℕ) (last : Read ℕ) (found : Span × List ℕ) → read_count rest ≡ last → bytes ≡ decimal first ++ (codes "-" ++ rest) → range_to first last ≡ Some found → Front span_text IsSpanOfNumbers bytes found
 range_front bytes rest first None found is front e = absurd cc
 range_front bytes rest first (Some last) found is front e =
     let second = number_front rest last is in
     let h = ordered (nat_le first last.0) (spans.Range first last.0) last.1 found e in
-    subst (Front span_text IsSpan bytes) h.1 (record {
+    subst (Front span_text IsSpanOfNumbers bytes) h.1 (record {
       is = front ∙ ap (λ more. decimal first ++ (codes "-" ++ more)) second.is ∙ sym (append_assoc (decimal first) (codes "-" ++ decimal last.0) last.1);
       valid = (at_most first last.0 h.0, second.valid);
     })
 
-span_end : (bytes : List ℕ) (first : ℕ × List ℕ) (dash : Option (List ℕ)) (found : Span × List ℕ) → Front decimal IsNumber bytes first → after (codes "-") first.1 ≡ dash → span_from first dash ≡ Some found → Front span_text IsSpan bytes found
+span_end : (bytes : List ℕ) (first : ℕ × List ℕ) (dash : Option (List ℕ)) (found : Span × List ℕ) → Front decimal IsNumber bytes first → after (codes "-") first.1 ≡ dash → span_from first dash ≡ Some found → Front span_text IsSpanOfNumbers bytes found
 span_end bytes first None found front is e =
     let same : (spans.One first.0, first.1) ≡ found = cc in
-    subst (Front span_text IsSpan bytes) same (record { is = front.is; valid = front.valid })
+    subst (Front span_text IsSpanOfNumbers bytes) same (record { is = front.is; valid = front.valid })
 span_end bytes first (Some rest) found front is e =
-    range_front bytes rest first.0 (read_number rest) found refl (front.is ∙ ap (λ more. decimal first.0 ++ more) (after_is (codes "-") first.1 rest is)) e
+    range_front bytes rest first.0 (read_count rest) found refl (front.is ∙ ap (λ more. decimal first.0 ++ more) (after_is (codes "-") first.1 rest is)) e
 
-span_front : (bytes : List ℕ) (found : Span × List ℕ) → read_span bytes ≡ Some found → Front span_text IsSpan bytes found
+span_front : (bytes : List ℕ) (found : Span × List ℕ) → read_span bytes ≡ Some found → Front span_text IsSpanOfNumbers bytes found
 span_front bytes found e =
-    let h = bound (read_number bytes) (λ first. span_from first (after (codes "-") first.1)) found e in
+    let h = bound (read_count bytes) (λ first. span_from first (after (codes "-") first.1)) found e in
     span_end bytes h.a _ found (number_front bytes h.a h.is) refl h.gives
 
 -- ---- parts
@@ -181,7 +181,7 @@ abbrev class_text : Option ℕ → List ℕ
 class_text id = part_text (codes ",class=") decimal id
 
 abbrev kind_part_text : Option AMQPFrameType → List ℕ
-kind_part_text kind = part_text (codes ",kind=") kind_text kind
+kind_part_text kind = part_text (codes ",kind=") type_text kind
 
 after_class : (method : Option ℕ) → IsAfter (codes ",class=") (method_text method)
 after_class None = record { none = refl; tail = tt }
@@ -204,18 +204,18 @@ always : {A : Type 0} (part : Option A) → IfSome part Always
 always None = tt
 always (Some a) = tt
 
-channel_taken : (part : Option Span) (rest : List ℕ) → IsAfter (codes ",channel=") rest → IfSome part IsSpan → read_part (codes ",channel=") read_span (part_text (codes ",channel=") span_text part ++ rest) ≡ Some (part, rest)
-channel_taken part rest ends h = part_taken (codes ",channel=") span_text IsSpan read_span part rest (λ span valid. span_taken span rest valid ends.tail) ends.none h
+channel_taken : (part : Option Span) (rest : List ℕ) → IsAfter (codes ",channel=") rest → IfSome part IsSpanOfNumbers → read_part (codes ",channel=") read_span (part_text (codes ",channel=") span_text part ++ rest) ≡ Some (part, rest)
+channel_taken part rest ends h = part_taken (codes ",channel=") span_text IsSpanOfNumbers read_span part rest (λ span valid. span_taken span rest valid ends.tail) ends.none h
 
 kind_part_taken : (part : Option AMQPFrameType) (rest : List ℕ) → IsAfter (codes ",kind=") rest → read_part (codes ",kind=") read_kind (kind_part_text part ++ rest) ≡ Some (part, rest)
-kind_part_taken part rest ends = part_taken (codes ",kind=") kind_text Always read_kind part rest (λ kind valid. kind_taken kind rest) ends.none (always part)
+kind_part_taken part rest ends = part_taken (codes ",kind=") type_text Always read_kind part rest (λ kind valid. kind_taken kind rest) ends.none (always part)
 
-id_taken : (name : List ℕ) (part : Option ℕ) (rest : List ℕ) → IsAfter name rest → IfSome part IsNumber → read_part name read_number (part_text name decimal part ++ rest) ≡ Some (part, rest)
-id_taken name part rest ends h = part_taken name decimal IsNumber read_number part rest (λ id valid. number_taken id rest valid (no_digit rest ends.tail)) ends.none h
+id_taken : (name : List ℕ) (part : Option ℕ) (rest : List ℕ) → IsAfter name rest → IfSome part IsNumber → read_part name read_count (part_text name decimal part ++ rest) ≡ Some (part, rest)
+id_taken name part rest ends h = part_taken name decimal IsNumber read_count part rest (λ id valid. number_taken id rest valid (no_digit rest ends.tail)) ends.none h
 
-method_taken : (part : Option ℕ) → IfSome part IsNumber → read_part (codes ",method=") read_number (method_text part) ≡ Some (part, [])
+method_taken : (part : Option ℕ) → IfSome part IsNumber → read_part (codes ",method=") read_count (method_text part) ≡ Some (part, [])
 method_taken part h =
-    subst (λ bytes. read_part (codes ",method=") read_number bytes ≡ Some (part, [])) (append-nil (method_text part))
+    subst (λ bytes. read_part (codes ",method=") read_count bytes ≡ Some (part, [])) (append-nil (method_text part))
     (id_taken (codes ",method=") part [] (record { none = refl; tail = tt }) h)
 
 pub rule_taken : (rule : Rule) → IsRule rule → read_rule (spelled rule) ≡ Some rule
@@ -243,14 +243,14 @@ rule_front word rule e =
     let verb = bound (read_verb word) _ rule e in
     let channel = bound (read_part (codes ",channel=") read_span verb.a.1) _ rule verb.gives in
     let kind = bound (read_part (codes ",kind=") read_kind channel.a.1) _ rule channel.gives in
-    let class = bound (read_part (codes ",class=") read_number kind.a.1) _ rule kind.gives in
-    let method = bound (read_part (codes ",method=") read_number class.a.1) _ rule class.gives in
+    let class = bound (read_part (codes ",class=") read_count kind.a.1) _ rule kind.gives in
+    let method = bound (read_part (codes ",method=") read_count class.a.1) _ rule class.gives in
     let at = ended (record { keep = verb.a.0; channel = channel.a.0; kind = kind.a.0; class_id = class.a.0; method_id = method.a.0 }) method.a.1 rule method.gives in
     let verb_is = verb_front word verb.a verb.is in
-    let channel_is = part_front (codes ",channel=") span_text IsSpan read_span verb.a.1 channel.a span_front channel.is in
-    let kind_is = part_front (codes ",kind=") kind_text Always read_kind channel.a.1 kind.a kind_front kind.is in
-    let class_is = part_front (codes ",class=") decimal IsNumber read_number kind.a.1 class.a number_front class.is in
-    let method_is = part_front (codes ",method=") decimal IsNumber read_number class.a.1 method.a number_front method.is in
+    let channel_is = part_front (codes ",channel=") span_text IsSpanOfNumbers read_span verb.a.1 channel.a span_front channel.is in
+    let kind_is = part_front (codes ",kind=") type_text Always read_kind channel.a.1 kind.a kind_front kind.is in
+    let class_is = part_front (codes ",class=") decimal IsNumber read_count kind.a.1 class.a number_front class.is in
+    let method_is = part_front (codes ",method=") decimal IsNumber read_count class.a.1 method.a number_front method.is in
     subst (Spells word) at.1 (record {
       is_rule = record { channel = channel_is.valid; class_id = class_is.valid; method_id = method_is.valid };
       is =

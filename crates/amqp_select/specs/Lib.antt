@@ -1,3 +1,4 @@
+-- The definitions of amqp_select.
 pub mod Rules
 pub mod Reading
 pub mod Refusals

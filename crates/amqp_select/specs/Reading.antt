@@ -20,8 +20,9 @@ Read A = Option (A × List ℕ)
 abbrev pub Gives : {A R : Type 0} → (R → List ℕ) → Option (A × R) → Read A → Type 0
 Gives bytes_of result read = option_map (λ found. (found.0, bytes_of found.1)) result ≡ read
 
--- what is read next, where something was read
+-- reading on, from the left
 infixl 10 ◌>>=◌
+-- what is read next, by what was read; None where nothing was
 abbrev pub ◌>>=◌ : {A B : Type 0} → Option A → (A → Option B) → Option B
 None >>= f = None
 (Some a) >>= f = f a
@@ -39,7 +40,7 @@ or_else (Some rest) a others = Some (a, rest)
 abbrev pub read_verb : List ℕ → Read Bool
 read_verb bytes = or_else (after (codes "keep") bytes) true (or_else (after (codes "drop") bytes) false None)
 
--- the number that is printed so
+-- the number up to 65535 that is printed so, in decimal digits without a leading zero
 unfoldable pub number_named : List ℕ → Option ℕ
 number_named digits =
     let n = digits_value 10 digits in
@@ -54,8 +55,8 @@ abbrev pub digits_in_front : List ℕ → ℕ
 digits_in_front bytes = prefix_len is_ascii_digit bytes
 
 -- the number that the digits in front name
-abbrev pub read_number : List ℕ → Read ℕ
-read_number bytes = option_map (λ n. (n, drop (digits_in_front bytes) bytes)) (number_named (take (digits_in_front bytes) bytes))
+abbrev pub read_count : List ℕ → Read ℕ
+read_count bytes = option_map (λ n. (n, drop (digits_in_front bytes) bytes)) (number_named (take (digits_in_front bytes) bytes))
 
 -- a range up to the number that was read, which is no less than its first
 abbrev pub range_to : ℕ → Read ℕ → Read Span
@@ -65,12 +66,12 @@ range_to first (Some last) = if nat_le first last.0 then Some (spans.Range first
 -- a channel alone, or the first of a range where a dash follows
 abbrev pub span_from : ℕ × List ℕ → Option (List ℕ) → Read Span
 span_from first None = Some (spans.One first.0, first.1)
-span_from first (Some rest) = range_to first.0 (read_number rest)
+span_from first (Some rest) = range_to first.0 (read_count rest)
 
 -- a channel or a range of channels
 abbrev pub read_span : List ℕ → Read Span
 read_span bytes = do
-  first ← read_number bytes
+  first ← read_count bytes
   span_from first (after (codes "-") first.1)
 
 -- the kind of a frame
@@ -102,6 +103,6 @@ read_rule word = do
   verb ← read_verb word
   channel ← read_part (codes ",channel=") read_span verb.1
   kind ← read_part (codes ",kind=") read_kind channel.1
-  class ← read_part (codes ",class=") read_number kind.1
-  method ← read_part (codes ",method=") read_number class.1
+  class ← read_part (codes ",class=") read_count kind.1
+  method ← read_part (codes ",method=") read_count class.1
   at_end (record { keep = verb.0; channel = channel.0; kind = kind.0; class_id = class.0; method_id = method.0 }) method.1

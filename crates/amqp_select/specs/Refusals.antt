@@ -40,17 +40,17 @@ pub record IsFirstMalformed (words : List (List ℕ)) (place : ℕ) : Type 0 whe
   pub no_rule : ¬ IsRuleWord word
 
 -- When each result comes. Memory runs out only where the words stand for rules.
-abbrev pub Parses : List (List ℕ) → Result (List Rule) RuleError → Type 0
-Parses words (Ok rules) = Spell words rules
-Parses words (Err errors.Count) = (length words ≡ 0) ⊎ (64 < length words)
-Parses words (Err (errors.Malformed place)) = IsFirstMalformed words place
-Parses words (Err errors.NoMemory) = (rules : List Rule) × Spell words rules
+abbrev pub ParsesRules : List (List ℕ) → Result (List Rule) RuleError → Type 0
+ParsesRules words (Ok rules) = Spell words rules
+ParsesRules words (Err errors.Count) = (length words ≡ 0) ⊎ (64 < length words)
+ParsesRules words (Err (errors.Malformed place)) = IsFirstMalformed words place
+ParsesRules words (Err errors.NoMemory) = (rules : List Rule) × Spell words rules
 
 -- The same of a call that gives them in a vector, and that does not look at all words where memory runs out.
 abbrev pub ParsesItems : List (List ℕ) → Result (Vec Rule Global) RuleError → Type 0
 ParsesItems words (Ok rules) = Spell words rules.items
 ParsesItems words (Err errors.NoMemory) = IsCount (length words)
-ParsesItems words (Err error) = Parses words (Err error)
+ParsesItems words (Err error) = ParsesRules words (Err error)
 
 -- the text of an error
 abbrev pub error_text : RuleError → List ℕ

@@ -12,13 +12,13 @@ abbrev pub IsNumber : ℕ → Type 0
 IsNumber n = n ≤ 65535
 
 -- a channel, or a range that ends no lower than it begins
-abbrev pub IsSpan : Span → Type 0
-IsSpan (spans.One only) = IsNumber only
-IsSpan (spans.Range first last) = (first ≤ last) × IsNumber last
+abbrev pub IsSpanOfNumbers : Span → Type 0
+IsSpanOfNumbers (spans.One only) = IsNumber only
+IsSpanOfNumbers (spans.Range first last) = (first ≤ last) × IsNumber last
 
 -- the rules that a word can stand for
 pub record IsRule (rule : Rule) : Type 0 where
-  pub channel : IfSome rule.channel IsSpan
+  pub channel : IfSome rule.channel IsSpanOfNumbers
   pub class_id : IfSome rule.class_id IsNumber
   pub method_id : IfSome rule.method_id IsNumber
 
@@ -33,12 +33,12 @@ span_text (spans.One only) = decimal only
 span_text (spans.Range first last) = decimal first ++ (codes "-" ++ decimal last)
 
 -- the word for a kind of frames
-abbrev pub kind_text : AMQPFrameType → List ℕ
-kind_text kinds.ProtocolHeader = codes "proto"
-kind_text kinds.Method = codes "method"
-kind_text kinds.Header = codes "header"
-kind_text kinds.Body = codes "body"
-kind_text kinds.Heartbeat = codes "beat"
+abbrev pub type_text : AMQPFrameType → List ℕ
+type_text kinds.ProtocolHeader = codes "proto"
+type_text kinds.Method = codes "method"
+type_text kinds.Header = codes "header"
+type_text kinds.Body = codes "body"
+type_text kinds.Heartbeat = codes "beat"
 
 -- a part with its name in front, where it is there
 abbrev pub part_text : {A : Type 0} → List ℕ → (A → List ℕ) → Option A → List ℕ
@@ -50,6 +50,6 @@ abbrev pub spelled : Rule → List ℕ
 spelled rule =
     verb_text rule.keep
     ++ (part_text (codes ",channel=") span_text rule.channel
-    ++ (part_text (codes ",kind=") kind_text rule.kind
+    ++ (part_text (codes ",kind=") type_text rule.kind
     ++ (part_text (codes ",class=") decimal rule.class_id
     ++ part_text (codes ",method=") decimal rule.method_id)))

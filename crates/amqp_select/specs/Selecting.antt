@@ -3,7 +3,7 @@ use Rattle.std.specs.Prelude.{ℕ, List, [], true, if◌then◌else◌}
 use Rattle.std.specs.declared.string.ParseError.{Infallible}
 use Rattle.amqp_types.specs.Levels.{plain}
 use Rattle.amqp_frame.specs.Frames.{Frame}
-use Rattle.amqp_frame.specs.Canonical.{canon, canon_row}
+use Rattle.amqp_frame.specs.Canonical.{canon, canon_frames}
 use Rattle.amqp_frame.specs.Outlines.{outline_of}
 use Rattle.amqp_stream.specs.Steps.{Manner}
 use Rattle.amqp_stream.specs.Manners.{mapping}
@@ -13,12 +13,12 @@ use Rattle.amqp_select.specs.Matching.{decides, kept}
 
 -- the canonical bytes of the frames that are kept
 abbrev pub selection : List Rule → List Frame → List ℕ
-selection rules frames = canon_row (kept rules frames)
+selection rules frames = canon_frames (kept rules frames)
 
 -- the canonical bytes of a frame, where it is kept
 abbrev pub selected : List Rule → Frame → List ℕ
 selected rules frame = if decides rules (outline_of frame) then canon frame else []
 
--- frame by frame, of whatever can be read
+-- selecting as a manner of writing: frames are read at level plain, none is refused, and the input may end after any of them
 abbrev pub selecting : Manner Selector Infallible
 selecting = mapping plain (λ s frame. selected s.rules.now frame) true

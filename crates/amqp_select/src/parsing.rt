@@ -3,7 +3,7 @@
 ghost use Rattle.std.specs.Prelude.{◌≡◌, codes};
 ghost use Rattle.std.specs.Option.{option_copied};
 ghost use Rattle.std.specs.Str.Parse.{AllDigits};
-ghost use Rattle.amqp_select.specs.Reading.{Gives, after, at_end, digits_in_front, has_leading_zero, number_named, read_kind, read_number, read_part, read_rule, read_span, read_verb};
+ghost use Rattle.amqp_select.specs.Reading.{Gives, after, at_end, digits_in_front, has_leading_zero, number_named, read_kind, read_count, read_part, read_rule, read_span, read_verb};
 
 use crate::rule::{Rule, Span};
 use amqp_frame::AMQPFrameType;
@@ -59,8 +59,8 @@ fn number_of(digits: &[u8]) -> Option<u16>
 }
 
 /// A number.
-fn read_number(bytes: &[u8]) -> Option<(u16, &[u8])>
-    ensures { Gives (λ rest. rest.now) result (read_number bytes.now) }
+fn read_count(bytes: &[u8]) -> Option<(u16, &[u8])>
+    ensures { Gives (λ rest. rest.now) result (read_count bytes.now) }
 {
     let (digits, rest) = bytes.split_at(count_digits(bytes));
     let number = number_of(digits)?;
@@ -71,11 +71,11 @@ fn read_number(bytes: &[u8]) -> Option<(u16, &[u8])>
 fn read_span(bytes: &[u8]) -> Option<(Span, &[u8])>
     ensures { Gives (λ rest. rest.now) result (read_span bytes.now) }
 {
-    let (first, rest) = read_number(bytes)?;
+    let (first, rest) = read_count(bytes)?;
     let Some(rest) = after(b"-", rest) else {
         return Some((Span::One(first), rest));
     };
-    let (last, rest) = read_number(rest)?;
+    let (last, rest) = read_count(rest)?;
     if first > last {
         return None;
     }
@@ -126,12 +126,12 @@ fn read_kind_part(bytes: &[u8]) -> Option<(Option<AMQPFrameType>, &[u8])>
 
 /// A number, where a part with this name stands in front.
 fn read_id_part<'a>(name: &[u8], bytes: &'a [u8]) -> Option<(Option<u16>, &'a [u8])>
-    ensures { Gives (λ rest. rest.now) result (read_part name.now read_number bytes.now) }
+    ensures { Gives (λ rest. rest.now) result (read_part name.now read_count bytes.now) }
 {
     let Some(rest) = after(name, bytes) else {
         return Some((None, bytes));
     };
-    let (id, rest) = read_number(rest)?;
+    let (id, rest) = read_count(rest)?;
     Some((Some(id), rest))
 }
 

@@ -51,10 +51,19 @@ impl Span {
 /// Keeps or drops the frames for which each part that is there holds.
 #[derive(Clone, Copy, Debug, PartialEq, Eq)]
 pub(crate) struct Rule {
+    /// Whether the frames that the rule matches are kept, or dropped.
     pub keep: bool,
+
+    /// The channels of these frames.
     pub channel: Option<Span>,
+
+    /// Their type.
     pub kind: Option<AMQPFrameType>,
+
+    /// The class id, which only methods and content headers have.
     pub class_id: Option<Identifier>,
+
+    /// The method id, which only methods have.
     pub method_id: Option<Identifier>,
 }
 

@@ -7,7 +7,7 @@ ghost use Rattle.amqp_frame.specs.Outlines.{outline_of};
 ghost use Rattle.amqp_frame.specs.declared.outline.FrameOutline.{FrameOutline};
 ghost use Rattle.amqp_select.specs.Matching.{decides, first_match};
 ghost use Rattle.amqp_select.specs.Covering.{covered, covers, uncovered};
-ghost use Rattle.amqp_select.specs.Refusals.{IsCount, Parses, ParsesItems, texts_of};
+ghost use Rattle.amqp_select.specs.Refusals.{IsCount, ParsesRules, ParsesItems, texts_of};
 
 use crate::errors::RuleError;
 use crate::parsing::read_rule;
@@ -38,7 +38,7 @@ impl Model for Rules {
 impl Rules {
     /// The rules that 1 to 64 words stand for, one a word. Whether they do is found without memory.
     pub fn parse(alloc: Global, words: &[String]) -> Result<Rules, RuleError>
-        ensures { Parses (texts_of words.now) result }
+        ensures { ParsesRules (texts_of words.now) result }
     {
         match parse_rules(alloc, words) {
             Ok(rules) => Ok(Rules { rules }),
@@ -115,7 +115,7 @@ fn parse_rules(alloc: Global, words: &[String]) -> Result<Vec<Rule>, RuleError>
 /// Why as many words were refused as there may be, where memory ran out before all of them were looked at.
 fn why_refused(words: &[String]) -> RuleError
     requires { IsCount (length words.now) }
-    ensures { Parses (texts_of words.now) (Err result) }
+    ensures { ParsesRules (texts_of words.now) (Err result) }
 {
     for (place, word) in words.iter().enumerate() {
         match read_rule(word.as_bytes()) {

@@ -68,8 +68,8 @@ impl<'a> FrameWriter for Selector<'a> {
     }
 }
 
-/// Writes the canonical bytes of the frames that rules keep of a stream, to the end of input or an error. The others are
-/// read and decoded all the same. Each read takes one of the read budget.
+/// Writes the canonical bytes of the frames that rules keep of a stream, to the end of input or an error. The others
+/// are read and decoded all the same. Each read takes one of the read budget.
 pub fn select<S: Source, K: Sink>(
     alloc: Global,
     rules: &Rules,

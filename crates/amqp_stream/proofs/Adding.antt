@@ -3,7 +3,7 @@ use Rattle.std.proofs.Common.{◌≡◌, ℕ, ◌+◌, ◌-◌, ◌<◌, ◌≤�
 use Rattle.std.proofs.lemmas.Bool.{cases_lt}
 use Rattle.std.proofs.lemmas.List.{length-append, get_or_append_left, get_or-append-add}
 use Rattle.amqp_types.specs.Judging.{IsBytes}
-use Rattle.amqp_stream.specs.Ends.{Supply, Takes, Told, Nothing, Number, Bytes, Store, Gains, Rises, prepended, counted, grown, last}
+use Rattle.amqp_stream.specs.Ends.{Supply, Takes, Reported, Nothing, Number, Bytes, Store, Gains, Rises, prepended, counted, grown, last}
 
 -- ---- counts of faults
 
@@ -41,12 +41,12 @@ Takes-none a = record { bytes = prepended-nil a.left; counts = sym (counted-zero
 
 -- ---- sinks
 
-grown-grown : (t : Told) (p q : List ℕ) → grown (grown t p) q ≡ grown t (p ++ q)
+grown-grown : (t : Reported) (p q : List ℕ) → grown (grown t p) q ≡ grown t (p ++ q)
 grown-grown Nothing p q = refl
 grown-grown (Number n) p q = ap Number (omega (arith, length-append p q))
 grown-grown (Bytes bytes) p q = ap Bytes (append_assoc bytes p q)
 
-grown-nil : (t : Told) → grown t [] ≡ t
+grown-nil : (t : Reported) → grown t [] ≡ t
 grown-nil Nothing = refl
 grown-nil (Number n) = ap Number (omega arith)
 grown-nil (Bytes bytes) = ap Bytes (append-nil bytes)

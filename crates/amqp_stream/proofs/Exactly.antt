@@ -7,14 +7,14 @@ use Rattle.amqp_frame.specs.Frames.{Frame}
 use Rattle.amqp_frame.specs.Verdicts.{verdict}
 use Rattle.amqp_frame.specs.Fronts.{front, place}
 use Rattle.amqp_frame.proofs.Cuts.{verdict-none}
-use Rattle.amqp_frame.proofs.Rows.{splits_of, place_fault, front_fault, row_place}
+use Rattle.amqp_frame.proofs.Sequences.{splits_of, place_fault, front_fault, sequence_place}
 use Rattle.amqp_stream.specs.declared.errors.StreamError.{StreamError}
 use Rattle.amqp_stream.specs.declared.errors.StreamError.TheVariants as errors
-use Rattle.amqp_stream.specs.Errors.{error_of, faulty, cut_short, turns_spent, read_failed, write_failed, out_of_memory, cause_of}
+use Rattle.amqp_stream.specs.Errors.{error_for, faulty, cut_short, turns_spent, read_failed, write_failed, out_of_memory, cause_of}
 use Rattle.amqp_stream.specs.Ends.{Supply, Store, Gains, IsEmpty, prepended}
-use Rattle.amqp_stream.specs.Transcribing.{place_verdict, answer_at, answer_to, IsRow, IsValid, NoFaults}
+use Rattle.amqp_stream.specs.Transcribing.{place_verdict, answer_at, answer_to, IsSequence, IsValid, NoFaults}
 use Rattle.amqp_stream.specs.Steps.{Manner, text, refused}
-use Rattle.amqp_stream.specs.Streaming.{Ending, finished, refused_by, stopped_by, text_of, refused_of, state_of, IsUnended, IsAllWritten, Streams, RunNeverBegan, answer_at_end, answer_of, answer_by, IsExact, UnlessStoppedBy, StreamsExactly, IsWelcome, IsDoneOrWanting}
+use Rattle.amqp_stream.specs.Streaming.{Ending, finished, refused_by, stopped_by, text_of, refused_of, state_of, IsUnended, IsAllWritten, Streams, RunNeverBegan, answer_at_end, answer_of, answer_by, IsExactRun, UnlessStoppedBy, StreamsExactly, IsWelcome, IsDoneOrWanting}
 use Rattle.amqp_stream.proofs.Adding.{Gains-none}
 use Rattle.amqp_stream.proofs.Passing.{settled}
 
@@ -47,14 +47,14 @@ answer_more level m bytes h e = answer_at-some (place level (Some m) bytes) (pla
 no_bad : (level : Level) (m : ℕ) (bytes : List ℕ) (bad : Fault) → place_verdict level m bytes ≡ fault bad → place level (Some m) bytes ≢ []
 no_bad level m bytes bad h e = absurd (let n : verdict level (Some m) [] ≡ fault bad = subst (λ (xs : List ℕ). verdict level (Some m) xs ≡ fault bad) e h in let o = verdict-none level (Some m) in cc)
 
-answer_bad : (level : Level) (m : ℕ) (bytes : List ℕ) (bad : Fault) → place_verdict level m bytes ≡ fault bad → answer_to level m bytes ≡ Err (error_of bad)
-answer_bad level m bytes bad e = answer_at-some (place level (Some m) bytes) (place_verdict level m bytes) (fault bad) (Err (error_of bad)) (no_bad level m bytes bad e) e (λ x xs. refl)
+answer_bad : (level : Level) (m : ℕ) (bytes : List ℕ) (bad : Fault) → place_verdict level m bytes ≡ fault bad → answer_to level m bytes ≡ Err (error_for bad)
+answer_bad level m bytes bad e = answer_at-some (place level (Some m) bytes) (place_verdict level m bytes) (fault bad) (Err (error_for bad)) (no_bad level m bytes bad e) e (λ x xs. refl)
 
-pub answer_row : (level : Level) (m : ℕ) (bytes : List ℕ) → IsRow level m bytes → answer_to level m bytes ≡ Ok tt
-answer_row level m bytes row = ap (λ p. answer_at p (place_verdict level m bytes)) (row_place level (Some m) bytes row.0 row.1)
+pub answer_sequence : (level : Level) (m : ℕ) (bytes : List ℕ) → IsSequence level m bytes → answer_to level m bytes ≡ Ok tt
+answer_sequence level m bytes sequence = ap (λ p. answer_at p (place_verdict level m bytes)) (sequence_place level (Some m) bytes sequence.0 sequence.1)
 
 -- each fault has an error that reports it
-cause-error_of : (bad : Fault) → cause_of (error_of bad) ≡ faulty bad
+cause-error_of : (bad : Fault) → cause_of (error_for bad) ≡ faulty bad
 cause-error_of bad = grind arith
 
 -- the front of more bytes begins with the front
@@ -62,7 +62,7 @@ front-append : (level : Level) (m : ℕ) (bytes rest : List ℕ) → front level
 front-append level m bytes rest =
     let s = splits_of level (Some m) bytes in
     let p = place level (Some m) bytes in
-    ap (λ (xs : List ℕ). front level (Some m) (xs ++ rest)) s.parts ∙ ap (front level (Some m)) (append_assoc s.used p rest) ∙ s.row.row (p ++ rest)
+    ap (λ (xs : List ℕ). front level (Some m) (xs ++ rest)) s.parts ∙ ap (front level (Some m)) (append_assoc s.used p rest) ∙ s.sequence.sequence (p ++ rest)
 
 -- ---- a run over all of the bytes
 
@@ -79,18 +79,18 @@ known_error : {S E : Type 0} (w : Manner S E) (s : S) (m : ℕ) (bytes : List �
 known_error w s m bytes error p r = known w s m bytes None _ (Err error) p refl r ∙ answer_at_error (w.end (state_of w s m bytes)) error
 
 -- a fault of bytes
-exact_bad : {S E : Type 0} (w : Manner S E) (s : S) (m : ℕ) (bytes taken written : List ℕ) (left : Option (List ℕ)) (bad : Fault) → Some bytes ≡ prepended taken left → place_verdict w.level m taken ≡ fault bad → IsAllWritten w s m taken written → IsExact w s m bytes written (stopped_by (faulty bad))
+exact_bad : {S E : Type 0} (w : Manner S E) (s : S) (m : ℕ) (bytes taken written : List ℕ) (left : Option (List ℕ)) (bad : Fault) → Some bytes ≡ prepended taken left → place_verdict w.level m taken ≡ fault bad → IsAllWritten w s m taken written → IsExactRun w s m bytes written (stopped_by (faulty bad))
 exact_bad w s m bytes taken written left bad e h all =
     let t = split_of bytes taken left e in
     let at : place_verdict w.level m bytes ≡ fault bad = ap (place_verdict w.level m) t.parts ∙ place_fault w.level (Some m) taken t.rest bad h in
     let same : front w.level (Some m) bytes ≡ front w.level (Some m) taken = ap (front w.level (Some m)) t.parts ∙ front_fault w.level (Some m) taken t.rest bad h in
     record {
-      answer = sym (known_error w s m bytes (error_of bad) (ap (refused w s) same ∙ all.none_refused) (answer_bad w.level m bytes bad at) ∙ ap stopped_by (cause-error_of bad));
+      answer = sym (known_error w s m bytes (error_for bad) (ap (refused w s) same ∙ all.none_refused) (answer_bad w.level m bytes bad at) ∙ ap stopped_by (cause-error_of bad));
       text_is = all.text_is ∙ ap (text w s) (sym same);
     }
 
 -- a frame that is refused
-exact_refused : {S E : Type 0} (w : Manner S E) (s : S) (m : ℕ) (bytes taken written : List ℕ) (left : Option (List ℕ)) (why : E) → Some bytes ≡ prepended taken left → written ≡ text_of w s m taken → refused_of w s m taken ≡ Some why → IsExact w s m bytes written (refused_by why)
+exact_refused : {S E : Type 0} (w : Manner S E) (s : S) (m : ℕ) (bytes taken written : List ℕ) (left : Option (List ℕ)) (why : E) → Some bytes ≡ prepended taken left → written ≡ text_of w s m taken → refused_of w s m taken ≡ Some why → IsExactRun w s m bytes written (refused_by why)
 exact_refused w s m bytes taken written left why e text_is is =
     let t = split_of bytes taken left e in
     let more = front w.level (Some m) (place w.level (Some m) taken ++ t.rest) in
@@ -102,26 +102,26 @@ exact_refused w s m bytes taken written left why e text_is is =
     }
 
 -- what was refused is a frame, or the end of input
-exact_refusal : {S E : Type 0} (w : Manner S E) (s : S) (m : ℕ) (bytes taken written : List ℕ) (b : Supply) (why : E) → Some bytes ≡ prepended taken b.left → written ≡ text_of w s m taken → (refused_of w s m taken ≡ Some why) ⊎ IsUnended w s m taken b why → IsExact w s m bytes written (refused_by why)
+exact_refusal : {S E : Type 0} (w : Manner S E) (s : S) (m : ℕ) (bytes taken written : List ℕ) (b : Supply) (why : E) → Some bytes ≡ prepended taken b.left → written ≡ text_of w s m taken → (refused_of w s m taken ≡ Some why) ⊎ IsUnended w s m taken b why → IsExactRun w s m bytes written (refused_by why)
 exact_refusal w s m bytes taken written b why e text_is cause = elim cause [
   | inl is ↦ exact_refused w s m bytes taken written b.left why e text_is is
-  | inr h ↦ let P : List ℕ → Type 0 = λ xs. IsExact w s m xs written (refused_by why) in subst P (all_taken bytes taken b.left e h.empty) (record {
-    answer = sym (known w s m taken None (Some why) (Ok tt) h.none_refused h.ends (answer_row w.level m taken h.row));
+  | inr h ↦ let P : List ℕ → Type 0 = λ xs. IsExactRun w s m xs written (refused_by why) in subst P (all_taken bytes taken b.left e h.empty) (record {
+    answer = sym (known w s m taken None (Some why) (Ok tt) h.none_refused h.ends (answer_sequence w.level m taken h.sequence));
     text_is = text_is;
   })
 ]
 
-exact_at : {S E : Type 0} (w : Manner S E) (s t : S) (m turns : ℕ) (a b : Supply) (k l : Store) (e : Ending E) (bytes : List ℕ) → a.left ≡ Some bytes → (c : Streams w s t m turns a b k l e) → UnlessStoppedBy e (IsExact w s m bytes c.written e)
+exact_at : {S E : Type 0} (w : Manner S E) (s t : S) (m turns : ℕ) (a b : Supply) (k l : Store) (e : Ending E) (bytes : List ℕ) → a.left ≡ Some bytes → (c : Streams w s t m turns a b k l e) → UnlessStoppedBy e (IsExactRun w s m bytes c.written e)
 exact_at w s t m turns a b k l finished bytes left c =
-    let P : List ℕ → Type 0 = λ xs. IsExact w s m xs c.written finished in
+    let P : List ℕ → Type 0 = λ xs. IsExactRun w s m xs c.written finished in
     subst P (all_taken bytes c.taken b.left (sym left ∙ c.takes.bytes) c.cause.1) (record {
-      answer = sym (known w s m c.taken None None (Ok tt) c.writes.none_refused c.cause.2 (answer_row w.level m c.taken c.cause.0));
+      answer = sym (known w s m c.taken None None (Ok tt) c.writes.none_refused c.cause.2 (answer_sequence w.level m c.taken c.cause.0));
       text_is = c.writes.text_is;
     })
 exact_at w s t m turns a b k l (refused_by why) bytes left c = exact_refusal w s m bytes c.taken c.written b why (sym left ∙ c.takes.bytes) c.writes c.cause
 exact_at w s t m turns a b k l (stopped_by (faulty bad)) bytes left c = exact_bad w s m bytes c.taken c.written b.left bad (sym left ∙ c.takes.bytes) c.cause c.writes
 exact_at w s t m turns a b k l (stopped_by cut_short) bytes left c =
-    let P : List ℕ → Type 0 = λ xs. IsExact w s m xs c.written (stopped_by cut_short) in
+    let P : List ℕ → Type 0 = λ xs. IsExactRun w s m xs c.written (stopped_by cut_short) in
     subst P (all_taken bytes c.taken b.left (sym left ∙ c.takes.bytes) c.cause.1) (record {
       answer = sym (known_error w s m c.taken errors.CutShort c.writes.none_refused (answer_more w.level m c.taken c.cause.0.0 c.cause.0.1));
       text_is = c.writes.text_is;
@@ -134,7 +134,7 @@ streams_exactly {w = w} {s = s} {t = t} {m = m} {turns = turns} {a = a} {b = b} 
 -- ---- completeness
 
 -- valid input that is not refused is done, unless memory runs out
-done_at : {S E : Type 0} (w : Manner S E) (s t : S) (m turns : ℕ) (a b : Supply) (k l : Store) (e : Ending E) (bytes : List ℕ) → answer_by w s m bytes ≡ finished → length bytes < turns → a.left ≡ Some bytes → NoFaults a b k l → (c : Streams w s t m turns a b k l e) → UnlessStoppedBy e (IsExact w s m bytes c.written e) → IsDoneOrWanting e
+done_at : {S E : Type 0} (w : Manner S E) (s t : S) (m turns : ℕ) (a b : Supply) (k l : Store) (e : Ending E) (bytes : List ℕ) → answer_by w s m bytes ≡ finished → length bytes < turns → a.left ≡ Some bytes → NoFaults a b k l → (c : Streams w s t m turns a b k l e) → UnlessStoppedBy e (IsExactRun w s m bytes c.written e) → IsDoneOrWanting e
 done_at w s t m turns a b k l finished bytes p enough left f c h = tt
 done_at w s t m turns a b k l (stopped_by turns_spent) bytes p enough left f c h =
     let t = split_of bytes c.taken b.left (sym left ∙ c.takes.bytes) in
@@ -146,14 +146,14 @@ done_at w s t m turns a b k l e bytes p enough left f c h = absurd (let x = h.an
 
 pub completes : {S E : Type 0} {w : Manner S E} {s t : S} {m turns : ℕ} {a b : Supply} {k l : Store} {e : Ending E} (bytes : List ℕ) → a.left ≡ Some bytes → Streams w s t m turns a b k l e → IsValid w.level m turns bytes → IsWelcome w s m bytes → NoFaults a b k l → IsDoneOrWanting e
 completes {w = w} {s = s} {t = t} {m = m} {turns = turns} {a = a} {b = b} {k = k} {l = l} {e = e} bytes left c v welcome f =
-    done_at w s t m turns a b k l e bytes (known w s m bytes None None (Ok tt) welcome.none_refused welcome.ends (answer_row w.level m bytes v.row)) v.enough left f c (exact_at w s t m turns a b k l e bytes left c)
+    done_at w s t m turns a b k l e bytes (known w s m bytes None None (Ok tt) welcome.none_refused welcome.ends (answer_sequence w.level m bytes v.sequence)) v.enough left f c (exact_at w s t m turns a b k l e bytes left c)
 
 -- the same where the codec could not be opened
 pub exactly_or_never : {S E : Type 0} (w : Manner S E) {s t : S} (m : ℕ) {a b : Supply} {k l : Store} {e : Ending E} (bytes : List ℕ) → RunNeverBegan s t a b k l e → StreamsExactly w s m bytes k l e
 exactly_or_never w {s = s} m {k = k} bytes n = record {
   written = [];
   gains = subst (λ (x : Store). Gains k x []) (sym n.sink) (Gains-none k);
-  answer = subst (λ x. UnlessStoppedBy x (IsExact w s m bytes [] x)) (sym n.no_memory) tt;
+  answer = subst (λ x. UnlessStoppedBy x (IsExactRun w s m bytes [] x)) (sym n.no_memory) tt;
 }
 
 pub completes_or_never : {S E : Type 0} {s t : S} {a b : Supply} {k l : Store} {e : Ending E} → RunNeverBegan s t a b k l e → IsDoneOrWanting e

@@ -9,7 +9,7 @@ use Rattle.amqp_frame.specs.Outer.{outer}
 use Rattle.amqp_frame.specs.Verdicts.{verdict, judged}
 use Rattle.amqp_frame.specs.Fronts.{front, place}
 use Rattle.amqp_frame.proofs.Cuts.{IsStop, front-stop, front-got, front-none, place-none, stop-none, verdict-more, verdict-bad, verdict-whole}
-use Rattle.amqp_frame.proofs.Rows.{row_of_all}
+use Rattle.amqp_frame.proofs.Sequences.{sequence_of_all}
 use Rattle.amqp_stream.specs.declared.errors.ReadError.{ReadError}
 use Rattle.amqp_stream.specs.declared.errors.ReadError.TheVariants as reads
 use Rattle.amqp_stream.specs.declared.errors.RunError.{RunError}
@@ -20,7 +20,7 @@ use Rattle.amqp_stream.specs.Errors.{stream_error, read_fault, Cause, faulty, cu
 use Rattle.amqp_stream.specs.Ends.{Supply, Store, Gains, Rises, IsEmpty}
 use Rattle.amqp_stream.specs.Reading.{ReadsMore}
 use Rattle.amqp_stream.specs.Writing.{IsPrefix, WritesAll, GatherFails, IsFaulty, AsksTidy}
-use Rattle.amqp_stream.specs.Transcribing.{place_verdict, IsRow}
+use Rattle.amqp_stream.specs.Transcribing.{place_verdict, IsSequence}
 use Rattle.amqp_stream.specs.Steps.{Manner, text, refused, state}
 use Rattle.amqp_stream.specs.Streaming.{Ending, finished, refused_by, stopped_by, error_ending, ending_of, IsRefused, WriteFails, WritesBy, end_with, ended, EndsWith, text_of, state_of, IsShortBy, HasCauseBy, IsAllWritten, HasWrittenBy, HasStateBy, Streams}
 use Rattle.amqp_stream.proofs.Adding.{Gains-then, Rises-later}
@@ -31,17 +31,17 @@ use Rattle.amqp_stream.proofs.Going.{Start, Spans, Clear, Going, Clear-flushed, 
 
 -- the sequence of frames that some bytes are
 record IsSpanned {S E : Type 0} (w : Manner S E) (m : ℕ) (s t : S) (bytes text : List ℕ) : Type 0 where
-  row : IsRow w.level m bytes
+  sequence : IsSequence w.level m bytes
   text_is : text_of w s m bytes ≡ text
   state_is : state_of w s m bytes ≡ t
 
 spanned : {S E : Type 0} {w : Manner S E} {m : ℕ} {s t : S} {bytes text : List ℕ} → Spans w m s t bytes text → IsBytes bytes → IsSpanned w m s t bytes text
 spanned {w = w} {m = m} {s = s} {bytes = bytes} h fits =
-    let fronts : front w.level (Some m) bytes ≡ h.frames = ap (front w.level (Some m)) (sym (append-nil bytes)) ∙ h.row.row [] ∙ ap (λ (fs : List Frame). h.frames ++ fs) (front-none w.level (Some m)) ∙ append-nil h.frames in
-    let none : place w.level (Some m) bytes ≡ [] = ap (place w.level (Some m)) (sym (append-nil bytes)) ∙ h.row.after [] ∙ place-none w.level (Some m) in
+    let fronts : front w.level (Some m) bytes ≡ h.frames = ap (front w.level (Some m)) (sym (append-nil bytes)) ∙ h.sequence.sequence [] ∙ ap (λ (fs : List Frame). h.frames ++ fs) (front-none w.level (Some m)) ∙ append-nil h.frames in
+    let none : place w.level (Some m) bytes ≡ [] = ap (place w.level (Some m)) (sym (append-nil bytes)) ∙ h.sequence.after [] ∙ place-none w.level (Some m) in
     let all = Passes-all h.passes in
     record {
-      row = (front w.level (Some m) bytes, row_of_all w.level (Some m) bytes fits none);
+      sequence = (front w.level (Some m) bytes, sequence_of_all w.level (Some m) bytes fits none);
       text_is = ap (text w s) fronts ∙ all.text_is;
       state_is = ap (state w s) fronts ∙ all.state_is;
     }
@@ -52,7 +52,7 @@ front_bytes a b fits = subst IsBytes (take_at a b (length a) refl) (IsBytes-take
 short_by : {S E : Type 0} {w : Manner S E} {m : ℕ} {s t : S} {used text : List ℕ} (rest more : List ℕ) → Spans w m s t used text → IsBytes (used ++ rest) → length rest ≤ m + 8 → IsShortBy w s m (used ++ rest) (text ++ more) (m + 8)
 short_by {w = w} {m = m} {s = s} {used = used} {text = text} rest more h fits few =
     let is = spanned h (front_bytes used rest fits) in
-    record { row = used; rest = rest; parts = refl; is_row = is.row; written_begins = (more, ap (λ (xs : List ℕ). xs ++ more) is.text_is); few = few }
+    record { sequence = used; rest = rest; parts = refl; is_sequence = is.sequence; written_begins = (more, ap (λ (xs : List ℕ). xs ++ more) is.text_is); few = few }
 
 -- ---- a run that ends with nothing pending
 
@@ -68,8 +68,8 @@ at_place {r = r} {held = held} h stop =
     let w = r.w in
     let m = r.m in
     let rest = front-stop w.level (Some m) held stop in
-    let fronts : front w.level (Some m) (h.used ++ held) ≡ h.spans.frames = h.spans.row.row held ∙ ap (λ (fs : List Frame). h.spans.frames ++ fs) rest.0 ∙ append-nil h.spans.frames in
-    let places : place w.level (Some m) (h.used ++ held) ≡ held = h.spans.row.after held ∙ rest.1 in
+    let fronts : front w.level (Some m) (h.used ++ held) ≡ h.spans.frames = h.spans.sequence.sequence held ∙ ap (λ (fs : List Frame). h.spans.frames ++ fs) rest.0 ∙ append-nil h.spans.frames in
+    let places : place w.level (Some m) (h.used ++ held) ≡ held = h.spans.sequence.after held ∙ rest.1 in
     let all = Passes-all h.spans.passes in
     record {
       all = record { text_is = sym (ap (text w r.s) fronts ∙ all.text_is); none_refused = ap (refused w r.s) fronts ∙ all.none_refused };
@@ -142,12 +142,12 @@ finish_unread {r = r} {u = u} {b = b} {c = c} {held = held} {after = after} k mo
 at_end : {S E : Type 0} {r : Start S E} {u : S} {left : ℕ} {c : Supply} {l : Store} (held : List ℕ) (end : Option E) → Clear r u left c l held 1 → outer (Some r.m) held ≡ past → IsEmpty c.left → r.w.end u ≡ end → Streams r.w r.s u r.m r.turns r.source c r.sink l (end_with held end)
 at_end {r = r} {u = u} [] None h more empty may =
     let at = at_place h (stop-none r.w.level (Some r.m)) in
-    let row = row_of_all r.w.level (Some r.m) (h.used ++ []) h.taken.are_bytes at.place_is in
-    finish u finished h (λ e. absurd cc) at.all at.state_is ((_, row), empty, ap r.w.end (sym at.state_is) ∙ may) (λ e. absurd cc)
+    let sequence = sequence_of_all r.w.level (Some r.m) (h.used ++ []) h.taken.are_bytes at.place_is in
+    finish u finished h (λ e. absurd cc) at.all at.state_is ((_, sequence), empty, ap r.w.end (sym at.state_is) ∙ may) (λ e. absurd cc)
 at_end {r = r} {u = u} [] (Some why) h more empty may =
     let at = at_place h (stop-none r.w.level (Some r.m)) in
-    let row = row_of_all r.w.level (Some r.m) (h.used ++ []) h.taken.are_bytes at.place_is in
-    finish u (refused_by why) h (λ e. absurd cc) at.all.text_is at.state_is (inr (record { row = (_, row); empty = empty; none_refused = at.all.none_refused; ends = ap r.w.end (sym at.state_is) ∙ may })) (λ e. absurd cc)
+    let sequence = sequence_of_all r.w.level (Some r.m) (h.used ++ []) h.taken.are_bytes at.place_is in
+    finish u (refused_by why) h (λ e. absurd cc) at.all.text_is at.state_is (inr (record { sequence = (_, sequence); empty = empty; none_refused = at.all.none_refused; ends = ap r.w.end (sym at.state_is) ∙ may })) (λ e. absurd cc)
 at_end {r = r} {u = u} (byte ∷ bytes) end h more empty may =
     let held = byte ∷ bytes in
     let undecided = verdict-more r.w.level (Some r.m) held more in
@@ -171,10 +171,10 @@ finish_faulty {r = r} raw n bad h found is = finish_bad bad h (ap (judged r.w.le
 finish_refused : {S E : Type 0} {r : Start S E} {u : S} {left : ℕ} {c : Supply} {l : Store} {held : List ℕ} (raw : Raw) (n : ℕ) (why : E) → Clear r u left c l held 0 → outer (Some r.m) held ≡ took raw n → IsRefused r.w u raw why → Streams r.w r.s u r.m r.turns r.source c r.sink l (refused_by why)
 finish_refused {r = r} {u = u} {held = held} raw n why h found is =
     let w = r.w in
-    let fronts = (front-got w.level (Some r.m) held is.frame n (verdict-whole w.level (Some r.m) held raw n is.frame found is.at_level is.is_whole)).row in
+    let fronts = (front-got w.level (Some r.m) held is.frame n (verdict-whole w.level (Some r.m) held raw n is.frame found is.at_level is.is_whole)).sequence in
     let here = refuses_here w u is.frame (front w.level (Some r.m) (drop n held)) why is.refuses in
     let passes = h.spans.passes in
-    let all = h.spans.row.row held in
+    let all = h.spans.sequence.sequence held in
     let written : text_of w r.s r.m (h.used ++ held) ≡ h.text = ap (text w r.s) all ∙ passes.text_is _ ∙ ap (λ (xs : List ℕ). h.text ++ xs) (ap (text w u) fronts ∙ here.text_is) ∙ append-nil h.text in
     finish u (refused_by why) h (λ e. absurd cc) (sym written) (sym (ap (state w r.s) all ∙ passes.state_is _ ∙ ap (state w u) fronts ∙ here.state_is)) (inl (ap (refused w r.s) all ∙ passes.refused_is _ ∙ ap (refused w u) fronts ∙ here.refused_is)) (λ e. absurd cc)
 
@@ -182,12 +182,12 @@ finish_refused {r = r} {u = u} {held = held} raw n why h found is =
 finish_memory : {S E : Type 0} {r : Start S E} {u : S} {left : ℕ} {c : Supply} {l : Store} {held : List ℕ} (t : S) (raw : Raw) (n : ℕ) → Clear r u left c l held 0 → outer (Some r.m) held ≡ took raw n → IsTrue (r.w.wants raw.kind) → Streams r.w r.s t r.m r.turns r.source c r.sink l (stopped_by out_of_memory)
 finish_memory {r = r} {u = u} {held = held} t raw n h found wants =
     let is = spanned h.spans (front_bytes h.used held h.taken.are_bytes) in
-    let more : h.text ++ text_of r.w u r.m held ≡ text_of r.w r.s r.m (h.used ++ held) = sym (ap (text r.w r.s) (h.spans.row.row held) ∙ h.spans.passes.text_is _) in
+    let more : h.text ++ text_of r.w u r.m held ≡ text_of r.w r.s r.m (h.used ++ held) = sym (ap (text r.w r.s) (h.spans.sequence.sequence held) ∙ h.spans.passes.text_is _) in
     finish t (stopped_by out_of_memory) h (λ e. absurd cc) (_, more) tt (record {
-      row = h.used;
+      sequence = h.used;
       rest = held;
       parts = refl;
-      is_row = is.row;
+      is_sequence = is.sequence;
       wanting = record { raw = raw; used = n; found = found; such = wants };
       written_is = sym is.text_is;
     }) (λ e. absurd cc)
@@ -199,7 +199,7 @@ finish_unwritten : {S E : Type 0} {r : Start S E} {u : S} {left : ℕ} {c : Supp
 finish_unwritten {r = r} {u = u} {left = left} {l = l} {l' = l'} {held = held} {pending = pending} {piece = piece} t tail rest g gains prefix text_is rises =
     let w = r.w in
     let taken = g.used ++ (g.since ++ held) in
-    let all : text_of w r.s r.m taken ≡ g.text ++ (g.text_since ++ (tail ++ rest)) = ap (text w r.s) (g.spans.row.row (g.since ++ held)) ∙ g.spans.passes.text_is _ ∙ ap (λ (xs : List ℕ). g.text ++ xs) (ap (text w g.between) (g.spans_since.row.row held) ∙ g.spans_since.passes.text_is _ ∙ ap (λ (xs : List ℕ). g.text_since ++ xs) text_is) in
+    let all : text_of w r.s r.m taken ≡ g.text ++ (g.text_since ++ (tail ++ rest)) = ap (text w r.s) (g.spans.sequence.sequence (g.since ++ held)) ∙ g.spans.passes.text_is _ ∙ ap (λ (xs : List ℕ). g.text ++ xs) (ap (text w g.between) (g.spans_since.sequence.sequence held) ∙ g.spans_since.passes.text_is _ ∙ ap (λ (xs : List ℕ). g.text_since ++ xs) text_is) in
     let piece_is : piece ++ (prefix.0 ++ rest) ≡ pending ++ (tail ++ rest) = sym (append_assoc piece prefix.0 rest) ∙ ap (λ (xs : List ℕ). xs ++ rest) prefix.1 ∙ append_assoc pending tail rest in
     let since_is : g.written ++ (piece ++ (prefix.0 ++ rest)) ≡ g.text_since ++ (tail ++ rest) = ap (λ (xs : List ℕ). g.written ++ xs) piece_is ∙ sym (append_assoc g.written pending (tail ++ rest)) ∙ ap (λ (xs : List ℕ). xs ++ (tail ++ rest)) g.parts in
     let whole : ((g.text ++ g.written) ++ piece) ++ (prefix.0 ++ rest) ≡ text_of w r.s r.m taken = append_assoc (g.text ++ g.written) piece (prefix.0 ++ rest) ∙ append_assoc g.text g.written (piece ++ (prefix.0 ++ rest)) ∙ ap (λ (xs : List ℕ). g.text ++ xs) since_is ∙ sym all in
@@ -229,7 +229,7 @@ finish_frame : {S E : Type 0} {r : Start S E} {u : S} {left : ℕ} {c : Supply} 
 finish_frame {r = r} {u = u} {l = l} {l' = l'} {held = held} t raw n g found h =
     let w = r.w in
     let is = h.step in
-    let fronts = (front-got w.level (Some r.m) held is.frame n (verdict-whole w.level (Some r.m) held raw n is.frame found is.at_level is.is_whole)).row in
+    let fronts = (front-got w.level (Some r.m) held is.frame n (verdict-whole w.level (Some r.m) held raw n is.frame found is.at_level is.is_whole)).sequence in
     let one = Passes-one w u h.next is.frame h.bytes is.steps in
     finish_unwritten t h.bytes (text w h.next (front w.level (Some r.m) (drop n held))) g h.failed.gains h.failed.prefix (ap (text w u) fronts ∙ one.text_is (front w.level (Some r.m) (drop n held))) (λ low. Rises-later r.sink.faults l.faults l'.faults low h.failed.gains.faults h.failed.rises)
 

@@ -10,10 +10,10 @@ use Rattle.amqp_frame.specs.declared.looking.FrameLayout.{FrameLayout}
 use Rattle.amqp_frame.specs.Frames.{Raw, Frame}
 use Rattle.amqp_frame.specs.Outer.{outer}
 use Rattle.amqp_frame.specs.Looks.{laid_out}
-use Rattle.amqp_frame.specs.Fronts.{front, Precedes}
+use Rattle.amqp_frame.specs.Fronts.{front, ComesBefore}
 use Rattle.amqp_frame.proofs.OuterLook.{outer-in_bounds}
 use Rattle.amqp_frame.proofs.Encoded.{outer-beside}
-use Rattle.amqp_frame.proofs.Cuts.{Precedes-none, Precedes-more, verdict-whole}
+use Rattle.amqp_frame.proofs.Cuts.{ComesBefore-none, ComesBefore-more, verdict-whole}
 use Rattle.amqp_stream.specs.declared.source.SourceFault.{SourceFault}
 use Rattle.amqp_stream.specs.Ends.{Supply, Store, Takes, Gains}
 use Rattle.amqp_stream.specs.Reading.{ReadsMore, Lies}
@@ -35,26 +35,26 @@ pub record Start (S E : Type 0) : Type 0 where
 -- These bytes are a sequence of frames, whatever follows, and this text is written for them from the state s to t.
 pub record Spans {S E : Type 0} (w : Manner S E) (m : ℕ) (s t : S) (bytes text : List ℕ) : Type 0 where
   pub frames : List Frame
-  pub row : Precedes w.level (Some m) bytes frames
+  pub sequence : ComesBefore w.level (Some m) bytes frames
   pub passes : Passes w s t frames text
 
 pub Spans-none : {S E : Type 0} (w : Manner S E) (m : ℕ) (s : S) → Spans w m s s [] []
-Spans-none w m s = record { frames = []; row = Precedes-none w.level (Some m); passes = Passes-none w s }
+Spans-none w m s = record { frames = []; sequence = ComesBefore-none w.level (Some m); passes = Passes-none w s }
 
-Precedes-then : {level : Level} {m : ℕ} {a b : List ℕ} {fs gs : List Frame} → Precedes level (Some m) a fs → Precedes level (Some m) b gs → Precedes level (Some m) (a ++ b) (fs ++ gs)
-Precedes-then {level = level} {m = m} {a = a} {b = b} {fs = fs} {gs = gs} p q = record {
-  row = λ rest. rw (append_assoc a b rest, append_assoc fs gs (front level (Some m) rest)) (p.row (b ++ rest) ∙ ap (λ (hs : List Frame). fs ++ hs) (q.row rest));
+ComesBefore-then : {level : Level} {m : ℕ} {a b : List ℕ} {fs gs : List Frame} → ComesBefore level (Some m) a fs → ComesBefore level (Some m) b gs → ComesBefore level (Some m) (a ++ b) (fs ++ gs)
+ComesBefore-then {level = level} {m = m} {a = a} {b = b} {fs = fs} {gs = gs} p q = record {
+  sequence = λ rest. rw (append_assoc a b rest, append_assoc fs gs (front level (Some m) rest)) (p.sequence (b ++ rest) ∙ ap (λ (hs : List Frame). fs ++ hs) (q.sequence rest));
   after = λ rest. rw (append_assoc a b rest) (p.after (b ++ rest) ∙ q.after rest);
 }
 
 pub Spans-then : {S E : Type 0} {w : Manner S E} {m : ℕ} {s t u : S} {a b p q : List ℕ} → Spans w m s t a p → Spans w m t u b q → Spans w m s u (a ++ b) (p ++ q)
-Spans-then g h = record { frames = g.frames ++ h.frames; row = Precedes-then g.row h.row; passes = Passes-then g.passes h.passes }
+Spans-then g h = record { frames = g.frames ++ h.frames; sequence = ComesBefore-then g.sequence h.sequence; passes = Passes-then g.passes h.passes }
 
 -- the frame that lies at the front of what is held
 pub Spans-one : {S E : Type 0} {w : Manner S E} {s t : S} {raw : Raw} {bytes : List ℕ} (m : ℕ) (held : List ℕ) (n : ℕ) → outer (Some m) held ≡ took raw n → IsStep w s t raw bytes → Spans w m s t (take n held) bytes
 Spans-one {w = w} {s = s} {t = t} {raw = raw} {bytes = bytes} m held n found is = record {
   frames = is.frame ∷ [];
-  row = Precedes-more w.level (Some m) [] held [] is.frame n (Precedes-none w.level (Some m)) (verdict-whole w.level (Some m) held raw n is.frame found is.at_level is.is_whole);
+  sequence = ComesBefore-more w.level (Some m) [] held [] is.frame n (ComesBefore-none w.level (Some m)) (verdict-whole w.level (Some m) held raw n is.frame found is.at_level is.is_whole);
   passes = Passes-one w s t is.frame bytes is.steps;
 }
 

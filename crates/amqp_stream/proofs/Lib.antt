@@ -1,3 +1,4 @@
+-- The lemmas of amqp_stream.
 pub mod Spans
 pub mod Adding
 pub mod Pulling
@@ -12,6 +13,6 @@ pub mod Tidying
 pub mod Putting
 pub mod Flushes
 pub mod MadeSizes
-pub mod MadeRows
+pub mod MadeSequences
 pub mod MadeFrames
 pub mod Giving

@@ -20,8 +20,8 @@ use Rattle.amqp_types.specs.MethodSpelling.{SpellsPayload}
 use Rattle.amqp_values.proofs.MethodLaws.{payloads_lawful}
 use Rattle.amqp_frame.specs.Frames.{Frame, Meth, Body, Beat}
 use Rattle.amqp_frame.specs.Spelling.{Spells}
-use Rattle.amqp_stream.specs.Made.{made_channel, made_payload, made_frame, select_payload, declare_payload, MadeIsARow}
-use Rattle.amqp_stream.proofs.MadeRows.{made_row}
+use Rattle.amqp_stream.specs.Made.{made_channel, made_payload, made_frame, select_payload, declare_payload, MadeIsASequence}
+use Rattle.amqp_stream.proofs.MadeSequences.{made_sequence}
 
 -- ---- payloads that are decoded by computing
 
@@ -115,11 +115,11 @@ flags_slots = kept_slot (flags_form 5) ∷ table_slots
 abbrev name_slots : List Slot
 name_slots = kept_slot short_string_form ∷ flags_slots
 
-abbrev unused : Slot
-unused = reserved_slot (number_form bytes2) (number_item 0 ∷ [])
-
 abbrev from_table : List Item
 from_table = entries_item (entry true ∷ []) ∷ []
+
+abbrev unused : Slot
+unused = reserved_slot (number_form bytes2) (number_item 0 ∷ [])
 
 table_slots_judged : judge_slots table_slots table_bytes ≡ took from_table 12
 unfolding judge_slots judge_form
@@ -189,5 +189,5 @@ frame_spelled i =
       spelled = declare_spelled;
     })
 
-pub all_made : MadeIsARow
-all_made = made_row frame_at frame_spelled 0
+pub all_made : MadeIsASequence
+all_made = made_sequence frame_at frame_spelled 0

@@ -108,9 +108,6 @@ err_as P Q m old new turns_old turns before after e p = record { b = p.b; pulls 
 pub none_as : {X Y : Type 0} (P : List ℕ → List ℕ → X → Type 0) (Q : List ℕ → List ℕ → Y → Type 0) (m : ℕ) (old new : Supply) (turns_old turns_new : ℕ) (before after : List ℕ) → PullsTo P m old new turns_old turns_new before after (Ok None) → PullsTo Q m old new turns_old turns_new before after (Ok None)
 none_as P Q m old new turns_old turns_new before after p = record { b = p.b; pulls = p.pulls; ends = p.ends; few = p.few }
 
-abbrev pub raw_with : FrameLayout → List ℕ → Raw
-raw_with layout payload = record { kind = layout.frame_type; channel = layout.channel_id; payload = payload }
-
 abbrev pub holding : ℕ → List ℕ → Holding
 holding m held = record { limit = m; held = held }
 
@@ -123,15 +120,15 @@ held_room m s t turns_old turns before after (Err error) p = omega (arith, ap le
 fault_decided : (j : Judged Raw) (bad : Fault) → j ≡ fault bad → j ≢ past
 fault_decided j bad e h = absurd cc
 
-fault_told : (j : Judged Raw) (bad other : Fault) → j ≡ fault bad → j ≡ fault other → Some other ≡ Some bad
-fault_told j bad other e h = cc
+fault_same : (j : Judged Raw) (bad other : Fault) → j ≡ fault bad → j ≡ fault other → Some other ≡ Some bad
+fault_same j bad other e h = cc
 
 -- the error of a call over bytes at whose front a fault stands
 tells : (m : ℕ) (b : List ℕ) (s t : Supply) (turns : ℕ) (error : ReadError) (bad : Fault) → outer (Some m) b ≡ fault bad → Fails m b s t turns error → read_fault error ≡ Some bad
-tells m b s t turns errors.UnknownFrameType bad e h = fault_told (outer (Some m) b) bad _ e h
-tells m b s t turns errors.BadProtocolHeader bad e h = fault_told (outer (Some m) b) bad _ e h
-tells m b s t turns errors.TooLarge bad e h = fault_told (outer (Some m) b) bad _ e h
-tells m b s t turns errors.BadFrameEnd bad e h = fault_told (outer (Some m) b) bad _ e h
+tells m b s t turns errors.UnknownFrameType bad e h = fault_same (outer (Some m) b) bad _ e h
+tells m b s t turns errors.BadProtocolHeader bad e h = fault_same (outer (Some m) b) bad _ e h
+tells m b s t turns errors.TooLarge bad e h = fault_same (outer (Some m) b) bad _ e h
+tells m b s t turns errors.BadFrameEnd bad e h = fault_same (outer (Some m) b) bad _ e h
 tells m b s t turns error bad e h = absurd (fault_decided (outer (Some m) b) bad e h.0)
 
 -- a fault that is held is returned again

@@ -1,25 +1,26 @@
--- A run of a writer that refuses nothing and wants no memory transcribes its stream.
-use Rattle.std.proofs.Common.{◌≡◌, ◌≢◌, ℕ, List, [], ◌∷◌, ◌++◌, length, Some, None, Result, Ok, Err, IsTrue, Bool, refl, sym, ap, subst, ◌∙◌, arith, append-nil}
+-- A run of a writer that refuses nothing and takes no memory transcribes its stream.
+use Rattle.std.proofs.Common.{◌≡◌, ◌≢◌, ℕ, List, [], ◌∷◌, ◌++◌, length, Some, None, Result, Ok, Err, IsTrue, Bool, refl, sym, ap, subst, ◌∙◌, arith, append-nil, append_assoc}
 use Rattle.std.proofs.lemmas.List.{length-append}
 use Rattle.std.specs.List.{flat_map}
 use Rattle.amqp_types.specs.Levels.{Level}
 use Rattle.amqp_frame.specs.declared.frame_type.AMQPFrameType.{AMQPFrameType}
 use Rattle.amqp_frame.specs.Frames.{Frame}
-use Rattle.amqp_frame.specs.Canonical.{canon, canon_row}
+use Rattle.amqp_frame.specs.Canonical.{canon, canon_frames}
 use Rattle.amqp_frame.specs.Fronts.{front}
 use Rattle.amqp_frame.proofs.Strictness.{canon_front-short}
 use Rattle.amqp_stream.specs.declared.errors.StreamError.{StreamError}
 use Rattle.amqp_stream.specs.declared.errors.StreamError.TheVariants as errors
-use Rattle.amqp_stream.specs.Errors.{error_of, Cause, faulty, cut_short, turns_spent, read_failed, write_failed, out_of_memory, cause_of}
+use Rattle.amqp_stream.specs.Errors.{error_for, Cause, faulty, cut_short, turns_spent, read_failed, write_failed, out_of_memory, cause_of}
 use Rattle.amqp_stream.specs.Ends.{Supply, Store}
-use Rattle.amqp_stream.specs.Writing.{IsPrefix}
+use Rattle.amqp_stream.specs.Writing.{IsPrefix, Gathered}
+use Rattle.amqp_stream.proofs.Adding.{Gains-then}
 use Rattle.amqp_stream.specs.Steps.{Manner, text, refused}
 use Rattle.amqp_stream.specs.Manners.{mapping, canonical_at}
 use Rattle.amqp_stream.specs.Transcribing.{transcript, answer_to, IsCausedBy, HasCause, IsWrittenUpTo, HasWritten, Transcribes, NeverBegan, UnlessStopped, IsExactly, IsAnswerTo, TranscribesExactly, IsOutOfMemory}
 use Rattle.amqp_stream.specs.Canonicalizing.{Canonicalizes}
-use Rattle.amqp_stream.specs.Streaming.{Ending, finished, refused_by, stopped_by, ending_of, as_run, text_of, state_of, Streams, RunNeverBegan, answer_at_end, answer_of, IsExact, UnlessStoppedBy, StreamsExactly, IsWelcome, IsDoneOrWanting}
+use Rattle.amqp_stream.specs.Streaming.{Ending, finished, refused_by, stopped_by, ending_of, as_run, text_of, state_of, Streams, RunNeverBegan, answer_at_end, answer_of, IsExactRun, UnlessStoppedBy, StreamsExactly, IsWelcome, IsDoneOrWanting}
 
--- From this state on the writer has this text for frames, refuses none, wants no memory, and may end anywhere.
+-- From this state on the writer has this text for frames, refuses none, takes no memory, and may end anywhere.
 pub record Transcriber {S E : Type 0} (w : Manner S E) (s : S) (text_for : List Frame → List ℕ) : Type 0 where
   pub text_is : (frames : List Frame) → text w s frames ≡ text_for frames
   pub none_refused : (frames : List Frame) → refused w s frames ≡ None
@@ -55,11 +56,11 @@ transcribes {w = w} {m = m} {r = r} is run =
       cause = end.1;
       tidy_only = λ e. run.tidy_only (ap (λ x. ending_of (as_run x)) e);
       behind = record {
-        row = short.row;
+        sequence = short.sequence;
         rest = short.rest;
         parts = short.parts;
-        is_row = short.is_row;
-        written_begins = subst (λ (xs : List ℕ). IsPrefix xs run.written) (is.text_is (front w.level (Some m) short.row)) short.written_begins;
+        is_sequence = short.is_sequence;
+        written_begins = subst (λ (xs : List ℕ). IsPrefix xs run.written) (is.text_is (front w.level (Some m) short.sequence)) short.written_begins;
         few = short.few;
       };
     }
@@ -95,15 +96,15 @@ is_done {level = level} {m = m} {turns = turns} {a = a} {b = b} {k = k} {l = l} 
 
 -- ---- an ending as the result of a stream
 
-abbrev error_by : Cause → StreamError
-error_by (faulty bad) = error_of bad
+abbrev pub error_by : Cause → StreamError
+error_by (faulty bad) = error_for bad
 error_by cut_short = errors.CutShort
 error_by turns_spent = errors.TurnsSpent
 error_by read_failed = errors.ReadFault
 error_by write_failed = errors.WriteFault
 error_by out_of_memory = errors.NoMemory
 
-error_by-cause : (error : StreamError) → error_by (cause_of error) ≡ error
+pub error_by-cause : (error : StreamError) → error_by (cause_of error) ≡ error
 error_by-cause error = grind arith
 
 -- where nothing is refused
@@ -125,19 +126,19 @@ never_began {E = E} {r = r} h = record { no_memory = sym (returned-run E r) ∙ 
 
 -- ---- the result by all of the bytes
 
-exactly : {S E : Type 0} {w : Manner S E} {s : S} {f : List Frame → List ℕ} {m : ℕ} {bytes written : List ℕ} {r : Result (Unit {0}) StreamError} → Transcriber w s f → IsExact w s m bytes written (ending_of (as_run r)) → IsExactly f w.level m bytes written r
+exactly : {S E : Type 0} {w : Manner S E} {s : S} {f : List Frame → List ℕ} {m : ℕ} {bytes written : List ℕ} {r : Result (Unit {0}) StreamError} → Transcriber w s f → IsExactRun w s m bytes written (ending_of (as_run r)) → IsExactly f w.level m bytes written r
 exactly {E = E} {w = w} {s = s} {m = m} {bytes = bytes} {r = r} is h =
     let frames = front w.level (Some m) bytes in
     let answer = answer_to w.level m bytes in
     let ending = h.answer ∙ ap (λ why. answer_of why (w.end (state_of w s m bytes)) answer) (is.none_refused frames) ∙ ap (λ end. answer_at_end end answer) (is.ends _) in
     (sym (returned-run E r) ∙ ap returned ending ∙ returned-at_end E answer, h.text_is ∙ is.text_is frames)
 
-unless : {P Q : Type 0} (cause : Cause) → (P → Q) → UnlessStopped cause P → UnlessStopped cause Q
+pub unless : {P Q : Type 0} (cause : Cause) → (P → Q) → UnlessStopped cause P → UnlessStopped cause Q
 unless (faulty bad) g h = g h
 unless cut_short g h = g h
 unless cause g h = tt
 
-exactly_unless : {S E : Type 0} {w : Manner S E} {s : S} {f : List Frame → List ℕ} (m : ℕ) (bytes written : List ℕ) (r : Result (Unit {0}) StreamError) → Transcriber w s f → UnlessStoppedBy (ending_of {E = E} (as_run r)) (IsExact w s m bytes written (ending_of (as_run r))) → IsAnswerTo f w.level m bytes written r
+exactly_unless : {S E : Type 0} {w : Manner S E} {s : S} {f : List Frame → List ℕ} (m : ℕ) (bytes written : List ℕ) (r : Result (Unit {0}) StreamError) → Transcriber w s f → UnlessStoppedBy (ending_of {E = E} (as_run r)) (IsExactRun w s m bytes written (ending_of (as_run r))) → IsAnswerTo f w.level m bytes written r
 exactly_unless m bytes written (Ok done) is h = exactly is h
 exactly_unless m bytes written (Err error) is h = unless (cause_of error) (exactly is) h
 
@@ -166,10 +167,27 @@ maps {E = E} {level = level} {compact = compact} bytes_of s = record {
 
 -- ---- writers of canonical bytes
 
-pub canonical : {S E : Type 0} {level : Level} {s : S} → Transcriber {E = E} (canonical_at level) s canon_row
+pub canonical : {S E : Type 0} {level : Level} {s : S} → Transcriber {E = E} (canonical_at level) s canon_frames
 canonical {s = s} = maps (λ s f. canon f) s
 
-pub canonicalizes : {level : Level} {m turns : ℕ} {a b : Supply} {k l : Store} {r : Result (Unit {0}) StreamError} → Transcribes canon_row level m turns a b k l r → Canonicalizes level m turns a b k l r
+pub canonicalizes : {level : Level} {m turns : ℕ} {a b : Supply} {k l : Store} {r : Result (Unit {0}) StreamError} → Transcribes canon_frames level m turns a b k l r → Canonicalizes level m turns a b k l r
 canonicalizes {level = level} {m = m} call =
     let begun = begins call in
     record { run = call; no_longer = omega (arith, ap length begun.1, length-append call.written begun.0, canon_front-short level (Some m) call.taken call.are_bytes) }
+
+-- what is known where memory ran out is replaced in the cause of an error
+pub caused_by : (level : Level) (m turns : ℕ) (taken : List ℕ) (a b : Supply) (k l : Store) {P Q : Type 0} (cause : Cause) → (P → Q) → IsCausedBy level m turns taken a b k l P cause → IsCausedBy level m turns taken a b k l Q cause
+caused_by level m turns taken a b k l (faulty bad) f h = h
+caused_by level m turns taken a b k l cut_short f h = h
+caused_by level m turns taken a b k l turns_spent f h = h
+caused_by level m turns taken a b k l read_failed f h = h
+caused_by level m turns taken a b k l write_failed f h = h
+caused_by level m turns taken a b k l out_of_memory f h = f h
+
+-- bytes gathered after bytes
+pub gathered_then : {a b c : Store} {x y z p q : List ℕ} → Gathered a b x y p → Gathered b c y z q → Gathered a c x z (p ++ q)
+gathered_then {a = a} {b = b} {c = c} {x = x} {y = y} {z = z} {p = p} {q = q} g h = record {
+  written = g.written ++ h.written;
+  gains = Gains-then a b c g.written h.written g.gains h.gains;
+  parts = append_assoc g.written h.written z ∙ ap (λ (xs : List ℕ). g.written ++ xs) h.parts ∙ sym (append_assoc g.written y q) ∙ ap (λ (xs : List ℕ). xs ++ q) g.parts ∙ append_assoc x p q;
+}

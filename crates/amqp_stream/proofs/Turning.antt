@@ -82,7 +82,7 @@ turn_after_frame turn finds is same writes compact room_is limit held = record {
 pub frame_shortens : {S E : Type 0} {r : Start S E} {room : ℕ} {x : Loop S} {found : Option FrameLayout} {layout : FrameLayout} {held : List ℕ} → Turn r room x → Finds x.reader.limit x.reader.held (Ok found) → found ≡ Some layout → held ≡ drop layout.frame_len x.reader.held → x.left * (r.m + 9) + length held < x.left * (r.m + 9) + length x.reader.held
 frame_shortens {r = r} {x = x} {layout = layout} turn finds is same = rw same (frame_falls r.m x.left x.reader.held layout (frame_at turn finds is))
 
--- ---- neither, so that what is pending is written, and more bytes are wanted
+-- ---- neither, so that what is pending is written, and more bytes are needed
 
 pub ends_unflushed : {S E : Type 0} {r : Start S E} {room : ℕ} {x : Loop S} {l : Store} {bad : SinkFault} → Turn r room x → WritesAll x.sink l x.out.bytes (Err bad) → Ended r x.writer x.source l (stopped_by write_failed)
 ends_unflushed turn failed = finish_unflushed _ turn.going failed

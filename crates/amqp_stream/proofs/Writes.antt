@@ -21,6 +21,7 @@ use Rattle.amqp_stream.specs.Writing.{payload_fault, WritesAll, WritesFrame, IsU
 use Rattle.amqp_stream.specs.Steps.{Manner}
 use Rattle.amqp_stream.specs.Streaming.{finished, stopped_by, ending_of, as_run, WritesBy}
 use Rattle.amqp_stream.proofs.Adding.{Rises-later, Gains-none, Gains-then}
+use Rattle.amqp_frame.proofs.Rewritten.{canon_beat}
 
 -- one more write
 pub Gains-more : (a b c : Store) (bytes : List ℕ) (done n : ℕ) → Gains a b (take done bytes) → Gains b c (take n (take (length bytes - done) (drop done bytes))) → Gains a c (take (done + n) bytes)
@@ -97,16 +98,9 @@ pub wrote-body : (raw : Raw) (a b : Store) (before after : List ℕ) (r : Result
 unfolding whole_as canon
 wrote-body raw a b before after r k h = wrote raw a b before after (framed 3 raw.channel raw.payload) (Body raw.channel raw.payload) r (rw k refl) refl h
 
-canon-beat_on : (channel : ℕ) → framed 8 channel [] ≡ canon (beat_on channel)
-unfolding canon
-canon-beat_on channel = elim (cases_eq channel 0) [
-  | inl zero ↦ rw (eq-eqb channel 0 zero) (ap (λ n. framed 8 n []) zero)
-  | inr some ↦ rw (ne_eqb channel 0 some) refl
-]
-
 pub wrote-beat : (raw : Raw) (a : Store) (before after bytes : List ℕ) → raw.kind ≡ kinds.Heartbeat → bytes ≡ framed 8 raw.channel [] → after ≡ before ++ bytes → WritesFrame raw a a before after (Ok tt)
 unfolding whole_as
-wrote-beat raw a before after bytes k e h = added raw a before after (beat_on raw.channel) (rw k refl) (h ∙ ap (λ (xs : List ℕ). before ++ xs) (e ∙ canon-beat_on raw.channel))
+wrote-beat raw a before after bytes k e h = added raw a before after (beat_on raw.channel) (rw k refl) (h ∙ ap (λ (xs : List ℕ). before ++ xs) (e ∙ canon_beat raw.channel))
 
 whole-proto : (payload : List ℕ) (channel : ℕ) → length payload ≡ 3 → whole_as kinds.ProtocolHeader channel payload ≡ Ok (Proto (get_or payload 0 0) (get_or payload 1 0) (get_or payload 2 0))
 unfolding whole_as

@@ -1,7 +1,7 @@
 -- What canonicalizing a stream does.
 use Rattle.std.specs.Prelude.{ℕ, ◌≤◌, List, length, Some, Result}
 use Rattle.amqp_types.specs.Levels.{Level}
-use Rattle.amqp_frame.specs.Canonical.{canon_row}
+use Rattle.amqp_frame.specs.Canonical.{canon_frames}
 use Rattle.amqp_frame.specs.Fronts.{front}
 use Rattle.amqp_stream.specs.declared.errors.StreamError.{StreamError}
 use Rattle.amqp_stream.specs.Ends.{Supply, Store}
@@ -9,13 +9,13 @@ use Rattle.amqp_stream.specs.Transcribing.{Transcribes, TranscribesExactly}
 
 -- the canonical bytes of the sequence of frames at the front of some bytes
 abbrev pub canon_of : Level → ℕ → List ℕ → List ℕ
-canon_of level m bytes = canon_row (front level (Some m) bytes)
+canon_of level m bytes = canon_frames (front level (Some m) bytes)
 
 -- A whole call, which writes the canonical bytes of the frames: a is the source before it and b after it, k and l the sink.
 pub record Canonicalizes (level : Level) (m turns : ℕ) (a b : Supply) (k l : Store) (result : Result (Unit {0}) StreamError) : Type 0 where
-  pub run : Transcribes canon_row level m turns a b k l result
+  pub run : Transcribes canon_frames level m turns a b k l result
   pub no_longer : length run.written ≤ length run.taken
 
 -- what a call returns and writes over a source that reports its bytes
 abbrev pub AnswersExactly : Level → ℕ → List ℕ → Store → Store → Result (Unit {0}) StreamError → Type 0
-AnswersExactly level m bytes k l result = TranscribesExactly canon_row level m bytes k l result
+AnswersExactly level m bytes k l result = TranscribesExactly canon_frames level m bytes k l result

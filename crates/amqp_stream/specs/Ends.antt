@@ -42,20 +42,20 @@ piece_of (Ok n) buf = take n buf
 piece_of (Err error) buf = []
 
 -- what a sink reports of the bytes that it has taken: nothing, their number, or the bytes
-pub data Told : Type 0 where
-  Nothing : Told
-  Number : ℕ → Told
-  Bytes : List ℕ → Told
+pub data Reported : Type 0 where
+  Nothing : Reported
+  Number : ℕ → Reported
+  Bytes : List ℕ → Reported
 
 -- the same after one more piece
-abbrev pub grown : Told → List ℕ → Told
+abbrev pub grown : Reported → List ℕ → Reported
 grown Nothing piece = Nothing
 grown (Number n) piece = Number (n + length piece)
 grown (Bytes bytes) piece = Bytes (bytes ++ piece)
 
 -- A sink: what it reports of the bytes that it has taken, and a count of faults.
 pub record Store : Type 0 where
-  pub taken : Told
+  pub taken : Reported
   pub faults : ℕ
 
 -- these bytes were written

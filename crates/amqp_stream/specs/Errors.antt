@@ -1,5 +1,5 @@
 -- The errors of streams: the faults of bytes that they report, their names and statuses.
-use Rattle.std.specs.Prelude.{ℕ, List, codes, Option, Some, None}
+use Rattle.std.specs.Prelude.{ℕ, List, codes, Option, Some, None, Result, Ok, Err}
 use Rattle.amqp_types.specs.Judging.{Fault, unknown_frame_type, bad_protocol_header, too_large, bad_frame_end, unknown_class, unknown_method, short_payload, trailing_bytes, not_utf8, unknown_tag, too_deep, not_tidy}
 use Rattle.amqp_stream.specs.declared.errors.ReadError.{ReadError}
 use Rattle.amqp_stream.specs.declared.errors.ReadError.TheVariants as reads
@@ -17,19 +17,19 @@ stream_error reads.TurnsSpent = errors.TurnsSpent
 stream_error reads.ReadFault = errors.ReadFault
 
 -- the error that reports a fault of bytes
-abbrev pub error_of : Fault → StreamError
-error_of unknown_frame_type = errors.UnknownFrameType
-error_of bad_protocol_header = errors.BadProtocolHeader
-error_of too_large = errors.TooLarge
-error_of bad_frame_end = errors.BadFrameEnd
-error_of unknown_class = errors.UnknownClass
-error_of unknown_method = errors.UnknownMethod
-error_of short_payload = errors.ShortPayload
-error_of trailing_bytes = errors.TrailingBytes
-error_of not_utf8 = errors.NotUtf8
-error_of unknown_tag = errors.UnknownTag
-error_of too_deep = errors.TooDeep
-error_of not_tidy = errors.NotTidy
+abbrev pub error_for : Fault → StreamError
+error_for unknown_frame_type = errors.UnknownFrameType
+error_for bad_protocol_header = errors.BadProtocolHeader
+error_for too_large = errors.TooLarge
+error_for bad_frame_end = errors.BadFrameEnd
+error_for unknown_class = errors.UnknownClass
+error_for unknown_method = errors.UnknownMethod
+error_for short_payload = errors.ShortPayload
+error_for trailing_bytes = errors.TrailingBytes
+error_for not_utf8 = errors.NotUtf8
+error_for unknown_tag = errors.UnknownTag
+error_for too_deep = errors.TooDeep
+error_for not_tidy = errors.NotTidy
 
 -- the fault of bytes that an error of reading reports
 abbrev pub read_fault : ReadError → Option Fault
@@ -90,6 +90,11 @@ stream_error_status errors.TooDeep = 20
 stream_error_status errors.CutShort = 21
 stream_error_status errors.TurnsSpent = 22
 stream_error_status errors.NotTidy = 23
+
+-- the status of a result
+abbrev pub status_of : Result (Unit {0}) StreamError → ℕ
+status_of (Ok done) = 0
+status_of (Err error) = stream_error_status error
 
 -- Why a stream ended early: a fault of bytes, or what it ran out of, or which of its ends failed.
 pub data Cause : Type 0 where

@@ -1,3 +1,4 @@
+-- The definitions of amqp_stream.
 pub mod Ends
 pub mod Scripts
 pub mod Errors

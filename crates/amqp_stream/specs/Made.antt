@@ -3,6 +3,7 @@ use Rattle.std.specs.Prelude.{◌≡◌, ℕ, zero, suc, ◌+◌, ◌%◌, ◌==
 use Rattle.amqp_types.specs.Levels.{plain}
 use Rattle.amqp_frame.specs.Frames.{Frame}
 use Rattle.amqp_frame.specs.Spelling.{framed, SpellsFrames}
+use Rattle.amqp_types.specs.Constants.{method_byte, body_byte, heartbeat_byte}
 
 -- the most frames that are generated
 abbrev pub most_frames : ℕ
@@ -28,10 +29,10 @@ made_payload i = i % 256 ∷ []
 -- frame i: a heartbeat that carries a byte, a body, and two methods
 unfoldable pub made_frame : ℕ → List ℕ
 made_frame i =
-    if i % 4 == 0 then framed 8 0 (made_payload i)
-    else (if i % 4 == 1 then framed 3 (made_channel i) (made_payload i)
-    else (if i % 4 == 2 then framed 1 (made_channel i) select_payload
-    else framed 1 (made_channel i) declare_payload))
+    if i % 4 == 0 then framed heartbeat_byte 0 (made_payload i)
+    else (if i % 4 == 1 then framed body_byte (made_channel i) (made_payload i)
+    else (if i % 4 == 2 then framed method_byte (made_channel i) select_payload
+    else framed method_byte (made_channel i) declare_payload))
 
 -- n frames, from frame i on
 abbrev pub made_from : ℕ → ℕ → List ℕ
@@ -43,11 +44,11 @@ abbrev pub made : ℕ → List ℕ
 made n = made_from 0 n
 
 -- bytes that are a sequence of n frames, with payloads of at most 131,072 bytes
-pub record IsRowOf (n : ℕ) (bytes : List ℕ) : Type 0 where
+pub record IsSequenceOf (n : ℕ) (bytes : List ℕ) : Type 0 where
   pub frames : List Frame
   pub spelled : SpellsFrames plain (Some 131072) bytes frames
   pub count : length frames ≡ n
 
 -- the first n frames are n frames
-abbrev pub MadeIsARow : Type 0
-MadeIsARow = (n : ℕ) → IsRowOf n (made n)
+abbrev pub MadeIsASequence : Type 0
+MadeIsASequence = (n : ℕ) → IsSequenceOf n (made n)

@@ -23,17 +23,17 @@ abbrev pub supply_of : ScriptedSource → Supply
 supply_of s = record { left = Some s.left; reads = Some s.reads; faults = s.faults }
 
 -- a sink that keeps what it takes
-pub record Kept : Type 0 where
+pub record KeptBytes : Type 0 where
   pub bytes : List ℕ
   pub faults : ℕ
 
 -- what such a sink reports
-abbrev pub store_of : Kept → Store
+abbrev pub store_of : KeptBytes → Store
 store_of s = record { taken = Bytes s.bytes; faults = s.faults }
 
 -- a sink that follows a script; its calls are counted from 0
 pub record ScriptedSink : Type 0 where
-  pub kept : Kept
+  pub kept : KeptBytes
   pub pieces : List ℕ
   pub failing : List ℕ
   pub writes : ℕ
@@ -48,19 +48,19 @@ abbrev pub count_of : Counted → Store
 count_of s = record { taken = Number s.total; faults = s.faults }
 
 -- a reader of the system, and how many of its reads failed
-pub record Reads (R : Type 0) : Type 0 where
+pub record CountedReads (R : Type 0) : Type 0 where
   pub reader : R
   pub faults : ℕ
 
 -- a source that reports its faults alone
-abbrev pub untold_supply : ℕ → Supply
-untold_supply faults = record { left = None; reads = None; faults = faults }
+abbrev pub unreported_supply : ℕ → Supply
+unreported_supply faults = record { left = None; reads = None; faults = faults }
 
 -- a writer of the system, and how many of its writes failed
-pub record Writes (W : Type 0) : Type 0 where
+pub record CountedWrites (W : Type 0) : Type 0 where
   pub writer : W
   pub faults : ℕ
 
 -- a sink that reports its faults alone
-abbrev pub untold_store : ℕ → Store
-untold_store faults = record { taken = Nothing; faults = faults }
+abbrev pub unreported_store : ℕ → Store
+unreported_store faults = record { taken = Nothing; faults = faults }

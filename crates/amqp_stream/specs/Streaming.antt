@@ -13,7 +13,7 @@ use Rattle.amqp_stream.specs.declared.sink.SinkFault.{SinkFault}
 use Rattle.amqp_stream.specs.Errors.{Cause, faulty, cut_short, turns_spent, write_failed, out_of_memory, cause_of}
 use Rattle.amqp_stream.specs.Ends.{Supply, Store, Takes, Gains, IsEmpty}
 use Rattle.amqp_stream.specs.Writing.{IsPrefix, WritesAll, Gathered, GatherFails, Keeps, IsFaulty, AsksTidy}
-use Rattle.amqp_stream.specs.Transcribing.{answer_to, IsRow, IsCausedBy, UnlessStopped, IsOutOfMemory}
+use Rattle.amqp_stream.specs.Transcribing.{answer_to, IsSequence, IsCausedBy, UnlessStopped, IsOutOfMemory}
 use Rattle.amqp_stream.specs.Steps.{Manner, text, refused, state}
 
 -- ---- how a run ends
@@ -115,32 +115,32 @@ state_of w s m bytes = state w s (front w.level (Some m) bytes)
 
 -- all was taken, and the stream may not end after it
 pub record IsUnended {S E : Type 0} (w : Manner S E) (s : S) (m : ℕ) (taken : List ℕ) (b : Supply) (why : E) : Type 0 where
-  pub row : IsRow w.level m taken
+  pub sequence : IsSequence w.level m taken
   pub empty : IsEmpty b.left
   pub none_refused : refused_of w s m taken ≡ None
   pub ends : w.end (state_of w s m taken) ≡ Some why
 
 -- A sequence of frames that was written for and then a frame at which memory may run out have come.
 pub record AtWanting {S E : Type 0} (w : Manner S E) (s : S) (m : ℕ) (taken written : List ℕ) : Type 0 where
-  pub row : List ℕ
+  pub sequence : List ℕ
   pub rest : List ℕ
-  pub parts : taken ≡ row ++ rest
-  pub is_row : IsRow w.level m row
+  pub parts : taken ≡ sequence ++ rest
+  pub is_sequence : IsSequence w.level m sequence
   pub wanting : BeginsWith (λ kind. IsTrue (w.wants kind)) (Some m) rest
-  pub written_is : written ≡ text_of w s m row
+  pub written_is : written ≡ text_of w s m sequence
 
 -- At most n of the bytes taken come after a sequence of frames that was written for.
 pub record IsShortBy {S E : Type 0} (w : Manner S E) (s : S) (m : ℕ) (taken written : List ℕ) (n : ℕ) : Type 0 where
-  pub row : List ℕ
+  pub sequence : List ℕ
   pub rest : List ℕ
-  pub parts : taken ≡ row ++ rest
-  pub is_row : IsRow w.level m row
-  pub written_begins : IsPrefix (text_of w s m row) written
+  pub parts : taken ≡ sequence ++ rest
+  pub is_sequence : IsSequence w.level m sequence
+  pub written_begins : IsPrefix (text_of w s m sequence) written
   pub few : length rest ≤ n
 
 -- when each ending comes
 abbrev pub HasCauseBy : {S E : Type 0} → Manner S E → S → ℕ → ℕ → List ℕ → List ℕ → Supply → Supply → Store → Store → Ending E → Type 0
-HasCauseBy w s m turns taken written a b k l finished = IsRow w.level m taken × IsEmpty b.left × (w.end (state_of w s m taken) ≡ None)
+HasCauseBy w s m turns taken written a b k l finished = IsSequence w.level m taken × IsEmpty b.left × (w.end (state_of w s m taken) ≡ None)
 HasCauseBy w s m turns taken written a b k l (refused_by why) = (refused_of w s m taken ≡ Some why) ⊎ IsUnended w s m taken b why
 HasCauseBy w s m turns taken written a b k l (stopped_by cause) = IsCausedBy w.level m turns taken a b k l (AtWanting w s m taken written) cause
 
@@ -201,7 +201,7 @@ abbrev pub answer_by : {S E : Type 0} → Manner S E → S → ℕ → List ℕ 
 answer_by w s m bytes = answer_of (refused_of w s m bytes) (w.end (state_of w s m bytes)) (answer_to w.level m bytes)
 
 -- the ending and what was written are those of all the bytes
-pub record IsExact {S E : Type 0} (w : Manner S E) (s : S) (m : ℕ) (bytes written : List ℕ) (ending : Ending E) : Type 0 where
+pub record IsExactRun {S E : Type 0} (w : Manner S E) (s : S) (m : ℕ) (bytes written : List ℕ) (ending : Ending E) : Type 0 where
   pub answer : ending ≡ answer_by w s m bytes
   pub text_is : written ≡ text_of w s m bytes
 
@@ -215,7 +215,7 @@ UnlessStoppedBy (stopped_by cause) So = UnlessStopped cause So
 pub record StreamsExactly {S E : Type 0} (w : Manner S E) (s : S) (m : ℕ) (bytes : List ℕ) (k l : Store) (ending : Ending E) : Type 0 where
   pub written : List ℕ
   pub gains : Gains k l written
-  pub answer : UnlessStoppedBy ending (IsExact w s m bytes written ending)
+  pub answer : UnlessStoppedBy ending (IsExactRun w s m bytes written ending)
 
 -- nothing of it is refused, and the stream may end after it
 pub record IsWelcome {S E : Type 0} (w : Manner S E) (s : S) (m : ℕ) (bytes : List ℕ) : Type 0 where

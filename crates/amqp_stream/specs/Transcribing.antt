@@ -8,7 +8,7 @@ use Rattle.amqp_frame.specs.Spelling.{SpellsFrames}
 use Rattle.amqp_frame.specs.Fronts.{front, place, IsUndecided}
 use Rattle.amqp_stream.specs.declared.errors.StreamError.{StreamError}
 use Rattle.amqp_stream.specs.declared.errors.StreamError.TheVariants as errors
-use Rattle.amqp_stream.specs.Errors.{error_of, Cause, faulty, cut_short, turns_spent, read_failed, write_failed, out_of_memory, cause_of}
+use Rattle.amqp_stream.specs.Errors.{error_for, Cause, faulty, cut_short, turns_spent, read_failed, write_failed, out_of_memory, cause_of}
 use Rattle.amqp_stream.specs.Ends.{Supply, Store, Takes, Gains, Rises, IsEmpty, last}
 use Rattle.amqp_stream.specs.Writing.{IsPrefix, AsksTidy}
 
@@ -17,8 +17,8 @@ abbrev pub place_verdict : Level → ℕ → List ℕ → Judged Frame
 place_verdict level m bytes = verdict level (Some m) (place level (Some m) bytes)
 
 -- the bytes are a sequence of frames within the limit
-abbrev pub IsRow : Level → ℕ → List ℕ → Type 0
-IsRow level m bytes = (frames : List Frame) × SpellsFrames level (Some m) bytes frames
+abbrev pub IsSequence : Level → ℕ → List ℕ → Type 0
+IsSequence level m bytes = (frames : List Frame) × SpellsFrames level (Some m) bytes frames
 
 -- what is written for the frames at the front of some bytes
 abbrev pub transcript : (List Frame → List ℕ) → Level → ℕ → List ℕ → List ℕ
@@ -26,11 +26,11 @@ transcript text level m bytes = text (front level (Some m) bytes)
 
 -- At most n of the bytes taken come after a sequence of frames whose text was written.
 pub record IsBehindBy (text : List Frame → List ℕ) (level : Level) (m : ℕ) (taken written : List ℕ) (n : ℕ) : Type 0 where
-  pub row : List ℕ
+  pub sequence : List ℕ
   pub rest : List ℕ
-  pub parts : taken ≡ row ++ rest
-  pub is_row : IsRow level m row
-  pub written_begins : IsPrefix (transcript text level m row) written
+  pub parts : taken ≡ sequence ++ rest
+  pub is_sequence : IsSequence level m sequence
+  pub written_begins : IsPrefix (transcript text level m sequence) written
   pub few : length rest ≤ n
 
 -- When a stream ends early by each cause: by the bytes taken, the read budget, what the source has left, and the counts of faults.
@@ -45,7 +45,7 @@ IsCausedBy level m turns taken a b k l AtMemory out_of_memory = AtMemory
 
 -- When each result comes. Memory never runs out.
 abbrev pub HasCause : Level → ℕ → ℕ → List ℕ → Supply → Supply → Store → Store → Result (Unit {0}) StreamError → Type 0
-HasCause level m turns taken a b k l (Ok done) = IsRow level m taken × IsEmpty b.left
+HasCause level m turns taken a b k l (Ok done) = IsSequence level m taken × IsEmpty b.left
 HasCause level m turns taken a b k l (Err error) = IsCausedBy level m turns taken a b k l ⊥ (cause_of error)
 
 -- What was written of a text by a stream that ended early: all of it, or a part of its front where a write failed.
@@ -83,9 +83,10 @@ pub record NeverBegan (a b : Supply) (k l : Store) (result : Result (Unit {0}) S
 abbrev pub answer_at : List ℕ → Judged Frame → Result (Unit {0}) StreamError
 answer_at [] judged = Ok tt
 answer_at (b ∷ bytes) past = Err errors.CutShort
-answer_at (b ∷ bytes) (fault bad) = Err (error_of bad)
+answer_at (b ∷ bytes) (fault bad) = Err (error_for bad)
 answer_at (b ∷ bytes) (took frame used) = Ok tt
 
+-- the result for all the bytes of a source, by what is decoded at their place
 abbrev pub answer_to : Level → ℕ → List ℕ → Result (Unit {0}) StreamError
 answer_to level m bytes = answer_at (place level (Some m) bytes) (place_verdict level m bytes)
 
@@ -112,7 +113,7 @@ pub record TranscribesExactly (text : List Frame → List ℕ) (level : Level) (
 
 -- valid input: a sequence of frames within the limit, and a read budget above the number of bytes
 pub record IsValid (level : Level) (m turns : ℕ) (bytes : List ℕ) : Type 0 where
-  pub row : IsRow level m bytes
+  pub sequence : IsSequence level m bytes
   pub enough : length bytes < turns
 
 -- no count of faults rises or stands at its last value
@@ -127,6 +128,13 @@ abbrev pub IsOutOfMemory : Cause → Type 0
 IsOutOfMemory out_of_memory = Unit {0}
 IsOutOfMemory cause = ⊥
 
+-- at the end of the input, or out of memory
 abbrev pub IsOkOrNoMemory : Result (Unit {0}) StreamError → Type 0
 IsOkOrNoMemory (Ok done) = Unit {0}
 IsOkOrNoMemory (Err error) = IsOutOfMemory (cause_of error)
+
+-- what was written of a text: all of it, or a part of its front where a write or memory failed
+abbrev pub IsWrittenUnless : List ℕ → List ℕ → Cause → Type 0
+IsWrittenUnless text written write_failed = IsPrefix written text
+IsWrittenUnless text written out_of_memory = IsPrefix written text
+IsWrittenUnless text written cause = written ≡ text

@@ -10,7 +10,10 @@ use crate::source::{Source, SourceFault};
 /// Where the held bytes lie in the buffer.
 #[derive(Clone, Copy)]
 pub(crate) struct Span {
+    /// The place of the first held byte.
     pub start: usize,
+
+    /// The place after the last held byte.
     pub end: usize,
 }
 

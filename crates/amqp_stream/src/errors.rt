@@ -76,13 +76,13 @@ pub enum StreamError {
     /// The byte after a payload is not 206.
     BadFrameEnd,
 
-    /// A whole method of a class that is none.
+    /// A whole method whose class id names no class.
     UnknownClass,
 
-    /// A whole method that its class does not have.
+    /// A whole method whose class has no method of its id.
     UnknownMethod,
 
-    /// Something passes the end of a whole payload, or of a container in it.
+    /// Something passes the end of a whole payload, or of a table or array in it.
     ShortPayload,
 
     /// Bytes are left after the last field of a whole payload.
@@ -97,7 +97,8 @@ pub enum StreamError {
     /// Tables or arrays in a whole payload nested more than 64 deep.
     TooDeep,
 
-    /// A whole frame in which something stands that reading drops, where only tidy bytes are taken.
+    /// A whole frame in which something that decoding drops does not stand as it is written, where only tidy bytes are
+    /// taken.
     NotTidy,
 
     /// The source ended inside a frame.

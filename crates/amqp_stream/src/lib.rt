@@ -22,10 +22,12 @@ mod sources;
 pub use canonical::{Canonical, TidyCanonical, as_run, unrefused};
 pub use codec::{Codec, canonicalize, canonicalize_in, run_stream};
 pub use count_sink::CountSink;
-pub use equality::{equal_read_errors, equal_stream_errors};
+pub use equality::{
+    equal_read_errors, equal_sink_faults, equal_source_faults, equal_stream_errors,
+};
 pub use errors::{ReadError, RunError, StreamError};
 pub use frame_writer::FrameWriter;
-pub use made_laws::made_is_a_row;
+pub use made_laws::made_is_a_sequence;
 pub use make_source::MakeSource;
 pub use output::{flush, gather, payload_error, write_all, write_canonical};
 pub use output_buffer::OutputBuffer;

@@ -2,7 +2,6 @@
 
 ghost use Rattle.std.specs.Prelude.{◌≡◌, ◌+◌, ◌^◌, ◌<◌, ◌≤◌, [], length, min, IfOk, IsOk, IsTrue, false};
 ghost use Rattle.amqp_types.specs.Writing.{Puts};
-ghost use Rattle.amqp_frame.specs.Spelling.{framed};
 ghost use Rattle.amqp_stream.specs.Ends.{Takes, piece_of};
 ghost use Rattle.amqp_stream.specs.Made.{made, made_frame, most_frames};
 ghost use Rattle.amqp_stream.specs.Making.{IsMaking, left_in};
@@ -10,8 +9,8 @@ ghost use Rattle.amqp_stream.specs.Scripts.{faultless};
 
 use crate::buffer::Span;
 use crate::source::{Source, SourceFault};
-use amqp_frame::frame_head;
-use amqp_types::{ChannelId, put_bytes};
+use amqp_frame::put_framed;
+use amqp_types::{ChannelId, FRAME_BODY, FRAME_HEARTBEAT, FRAME_METHOD, put_bytes};
 use std::marker::Model;
 
 /// The length of the longest frame.
@@ -25,23 +24,8 @@ const DECLARE: [u8; 20] = [
     0, 50, 0, 10, 0, 9, 0, 255, 0, 0, 0, 8, 1, 97, 116, 0, 1, 97, 116, 7,
 ];
 
-/// Puts a frame at the front, and returns its length.
-fn put_framed(buf: &mut [u8], frame_type: u8, channel_id: ChannelId, payload: &[u8]) -> usize
-    requires room { length payload.now + 8 ≤ length buf.old }
-    requires short { length payload.now < 2 ^ 32 }
-    ensures { Puts buf.old buf.new 0 (framed frame_type channel_id payload.now) result }
-{
-    let at = put_bytes(
-        buf,
-        0,
-        &frame_head(frame_type, channel_id, payload.len() as u32),
-    );
-    let at = put_bytes(buf, at, payload);
-    put_bytes(buf, at, &[206])
-}
-
 /// Puts the frame of this number at the front, and returns its length.
-#[tactic(auto, unfolding(crate::specs::Made::made_frame))]
+#[tactic(auto, using(amqp_frame::proofs::Sizes::framed_length), unfolding(crate::specs::Made::made_frame))]
 fn put_made(buf: &mut [u8], number: u32) -> usize
     requires { LONGEST ≤ length buf.old }
     ensures { Puts buf.old buf.new 0 (made_frame number) result }
@@ -49,10 +33,10 @@ fn put_made(buf: &mut [u8], number: u32) -> usize
     let channel_id = 1 + (number % 1000) as ChannelId;
     let byte = (number % 256) as u8;
     match number % 4 {
-        0 => put_framed(buf, 8, 0, &[byte]),
-        1 => put_framed(buf, 3, channel_id, &[byte]),
-        2 => put_framed(buf, 1, channel_id, &SELECT),
-        _ => put_framed(buf, 1, channel_id, &DECLARE),
+        0 => put_framed(buf, 0, FRAME_HEARTBEAT, 0, &[byte]),
+        1 => put_framed(buf, 0, FRAME_BODY, channel_id, &[byte]),
+        2 => put_framed(buf, 0, FRAME_METHOD, channel_id, &SELECT),
+        _ => put_framed(buf, 0, FRAME_METHOD, channel_id, &DECLARE),
     }
 }
 

@@ -8,6 +8,7 @@ ghost use Rattle.amqp_frame.specs.Verdicts.{IsPayloadError};
 ghost use Rattle.amqp_stream.specs.Writing.{WritesAll, WritesFrame, PutsTyped, Gathers, stream_result, payload_fault, frame_length};
 ghost use Rattle.amqp_stream.specs.Ends.{Store};
 ghost use Rattle.amqp_stream.specs.Streaming.{EndsWith};
+ghost use Rattle.amqp_types.specs.Constants.{body_byte};
 
 use crate::errors::{RunError, StreamError};
 use crate::output_buffer::OutputBuffer;
@@ -16,7 +17,7 @@ use amqp_frame::{
     AMQPFrameType, AMQPRawFrame, ProtocolVersion, frame_head, header_bytes, heartbeat_bytes,
     is_tidy,
 };
-use amqp_types::{ChannelId, ParserError};
+use amqp_types::{ChannelId, FRAME_BODY, FRAME_END, ParserError};
 
 /// Bodies up to this size are pending with the small frames; larger ones are written from where they
 /// lie.
@@ -71,11 +72,11 @@ fn push_body(out: &mut OutputBuffer, channel_id: ChannelId, payload: &[u8])
     requires few { length payload.now < 2 ^ 32 }
     requires room { length out.old.bytes + (length payload.now + 8) ≤ out.old.room }
     ensures room { out.new.room ≡ out.old.room }
-    ensures pushed { out.new.bytes ≡ out.old.bytes ++ framed 3 channel_id payload.now }
+    ensures pushed { out.new.bytes ≡ out.old.bytes ++ framed body_byte channel_id payload.now }
 {
-    out.push(&frame_head(3, channel_id, payload.len() as u32));
+    out.push(&frame_head(FRAME_BODY, channel_id, payload.len() as u32));
     out.push(payload);
-    out.push(&[206]);
+    out.push(&[FRAME_END]);
 }
 
 /// Writes what is pending and a body frame, its payload from where it lies. Its end is pending.
@@ -88,16 +89,16 @@ fn write_body<K: Sink>(
     requires few { length payload.now < 2 ^ 32 }
     requires room { length out.old.bytes + (length payload.now + 8) ≤ out.old.room }
     ensures room { out.new.room ≡ out.old.room }
-    ensures gathers { Gathers (K.store sink.old) (K.store sink.new) out.old.bytes out.new.bytes (framed 3 channel_id payload.now) result }
+    ensures gathers { Gathers (K.store sink.old) (K.store sink.new) out.old.bytes out.new.bytes (framed body_byte channel_id payload.now) result }
     ensures compact { length out.new.bytes ≤ length out.old.bytes + (length payload.now + 8) }
 {
-    out.push(&frame_head(3, channel_id, payload.len() as u32));
+    out.push(&frame_head(FRAME_BODY, channel_id, payload.len() as u32));
     match flush(out, sink) {
         Err(fault) => Err(fault),
         Ok(()) => match write_all(sink, payload) {
             Err(fault) => Err(fault),
             Ok(()) => {
-                out.push(&[206]);
+                out.push(&[FRAME_END]);
                 Ok(())
             }
         },

@@ -39,7 +39,8 @@ fn put_raw_after(
     put_canonical(buf, len, scratch, raw)
 }
 
-/// Bytes that are not written yet, in a buffer that is reserved in full, with the scratch that frames of this size want.
+/// Bytes that are not written yet, in a buffer that is reserved in full, with the scratch that frames of this size
+/// need.
 #[derive(Drop)]
 pub struct OutputBuffer {
     buf: Vec<u8>,

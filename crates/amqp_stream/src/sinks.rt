@@ -3,7 +3,7 @@
 ghost use Rattle.std.specs.Prelude.{◌≡◌, ◌+◌, ◌<◌, ◌≤◌, [], length, min, take, Contains, IfOk, IsErr, OnOk, OnErr};
 ghost use Rattle.std.specs.Io.KnownBytes.{Appends};
 ghost use Rattle.amqp_stream.specs.Ends.{Gains, Rises, last, piece_of};
-ghost use Rattle.amqp_stream.specs.Scripts.{store_of, most_of, untold_store};
+ghost use Rattle.amqp_stream.specs.Scripts.{store_of, most_of, unreported_store};
 
 use crate::sink::{Sink, SinkFault};
 use crate::sources::most_at;
@@ -20,9 +20,9 @@ pub struct VecSink {
 
 impl Model for VecSink {
     ghost use Rattle.std.specs.Prelude.{◌<◌, ◌^◌};
-    ghost use Rattle.amqp_stream.specs.Scripts.{Kept};
+    ghost use Rattle.amqp_stream.specs.Scripts.{KeptBytes};
 
-    ghost Value = { Kept };
+    ghost Value = { KeptBytes };
 
     ghost view = { λ sink. record { bytes = sink.bytes.items; faults = sink.faults } };
 
@@ -158,9 +158,9 @@ pub struct StdSink<W> {
 
 impl<W> Model for StdSink<W> {
     ghost use Rattle.std.specs.Prelude.{◌<◌, ◌^◌};
-    ghost use Rattle.amqp_stream.specs.Scripts.{Writes};
+    ghost use Rattle.amqp_stream.specs.Scripts.{CountedWrites};
 
-    ghost Value = { Writes W };
+    ghost Value = { CountedWrites W };
 
     ghost view = { λ sink. record { writer = sink.writer; faults = sink.faults } };
 
@@ -177,13 +177,13 @@ impl<W: Write> StdSink<W> {
 }
 
 impl<W: Write> Sink for StdSink<W> {
-    ghost store = { λ sink. untold_store sink.faults };
+    ghost store = { λ sink. unreported_store sink.faults };
 
     #[tactic(auto, using(crate::proofs::Flushes::flushed))]
     fn write(&mut self, piece: &[u8]) -> Result<usize, SinkFault>
         requires { 0 < length piece.now }
         ensures some { IfOk result (λ n. (0 < n) × (n ≤ length piece.now)) }
-        ensures gains { Gains (untold_store self.old.faults) (untold_store self.new.faults) (piece_of result piece.now) }
+        ensures gains { Gains (unreported_store self.old.faults) (unreported_store self.new.faults) (piece_of result piece.now) }
         ensures fault { OnErr result (Rises self.old.faults self.new.faults) }
         ensures most { self.new.faults ≤ last }
         ensures faultless { OnOk result (self.new.faults ≡ self.old.faults) }

@@ -3,7 +3,7 @@
 ghost use Rattle.std.specs.Prelude.{◌≡◌, ◌≢◌, ◌<◌, ◌≤◌, [], length, min, Contains, IfOk, IsErr, OnOk, OnErr, None, Some};
 ghost use Rattle.amqp_stream.specs.Ends.{Takes, Rises, IsEmpty, last, piece_of};
 ghost use Rattle.std.specs.Io.KnownBytes.{ReadConsumes};
-ghost use Rattle.amqp_stream.specs.Scripts.{supply_of, faultless, most_of, untold_supply};
+ghost use Rattle.amqp_stream.specs.Scripts.{supply_of, faultless, most_of, unreported_supply};
 
 use crate::source::{Source, SourceFault};
 use std::io::Read;
@@ -142,9 +142,9 @@ pub struct StdSource<R> {
 
 impl<R> Model for StdSource<R> {
     ghost use Rattle.std.specs.Prelude.{◌<◌, ◌^◌};
-    ghost use Rattle.amqp_stream.specs.Scripts.{Reads};
+    ghost use Rattle.amqp_stream.specs.Scripts.{CountedReads};
 
-    ghost Value = { Reads R };
+    ghost Value = { CountedReads R };
 
     ghost view = { λ source. record { reader = source.reader; faults = source.faults } };
 
@@ -161,12 +161,12 @@ impl<R: Read> StdSource<R> {
 }
 
 impl<R: Read> Source for StdSource<R> {
-    ghost supply = { λ source. untold_supply source.faults };
+    ghost supply = { λ source. unreported_supply source.faults };
 
     fn read(&mut self, buf: &mut [u8]) -> Result<usize, SourceFault>
         requires { 0 < length buf.old }
         ensures bound { IfOk result (λ n. n ≤ length buf.old) }
-        ensures takes { Takes (untold_supply self.old.faults) (untold_supply self.new.faults) (piece_of result buf.new) 1 }
+        ensures takes { Takes (unreported_supply self.old.faults) (unreported_supply self.new.faults) (piece_of result buf.new) 1 }
         ensures fault { OnErr result (Rises self.old.faults self.new.faults) }
         ensures most { self.new.faults ≤ last }
         ensures faultless { OnOk result (self.new.faults ≡ self.old.faults) }

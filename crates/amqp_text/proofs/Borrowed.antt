@@ -33,7 +33,7 @@ use Rattle.amqp_stream.specs.Writing.{payload_fault}
 use Rattle.amqp_stream.proofs.Writes.{refusing, is_none, is_faulty}
 use Rattle.amqp_text.specs.Lines.{line}
 use Rattle.amqp_text.specs.Payloads.{IsPayload, IsIn}
-use Rattle.amqp_text.specs.LineTexts.{IsUntold, PutsBoth, PutsCanonical, PutsLine}
+use Rattle.amqp_text.specs.LineTexts.{HasNoLine, PutsBoth, PutsCanonical, PutsLine}
 
 -- ---- the payload of canonical bytes
 
@@ -104,16 +104,16 @@ stands_in raw found outline fits h canonical is =
 
 -- ---- refusals
 
-pub untold : (raw : Raw) (error : ParserError) → IsPayloadError error → refusing error ≢ Err parses.NoMemory → RefusesWhole error (whole raw) → IsUntold raw (cause_of (payload_fault error))
-untold raw error inside some h =
+pub unrendered : (raw : Raw) (error : ParserError) → IsPayloadError error → refusing error ≢ Err parses.NoMemory → RefusesWhole error (whole raw) → HasNoLine raw (cause_of (payload_fault error))
+unrendered raw error inside some h =
     let none = is_none raw error inside some h in
-    subst (λ cause. IsUntold raw cause) none.tells (is_faulty plain raw none.bad none.is_whole none.other)
+    subst (λ cause. HasNoLine raw cause) none.tells (is_faulty plain raw none.bad none.is_whole none.other)
 
-pub untold_judged : (raw : Raw) (error : ParserError) → IsPayloadFault error → RefusesWhole error (whole raw) → IsUntold raw (cause_of (payload_fault error))
-untold_judged raw error fault h = untold raw error fault.0 (λ e. fault.1 (let same : error ≡ parses.NoMemory = cc in same)) h
+pub unrendered_judged : (raw : Raw) (error : ParserError) → IsPayloadFault error → RefusesWhole error (whole raw) → HasNoLine raw (cause_of (payload_fault error))
+unrendered_judged raw error fault h = unrendered raw error fault.0 (λ e. fault.1 (let same : error ≡ parses.NoMemory = cc in same)) h
 
-pub unless_memory : (raw : Raw) (error : StreamError) → error ≡ errors.NoMemory → IsUntold raw (cause_of error)
-unless_memory raw error is = subst (λ (e : StreamError). IsUntold raw (cause_of e)) (sym is) tt
+pub unless_memory : (raw : Raw) (error : StreamError) → error ≡ errors.NoMemory → HasNoLine raw (cause_of error)
+unless_memory raw error is = subst (λ (e : StreamError). HasNoLine raw (cause_of e)) (sym is) tt
 
 -- the line alone
 pub line_alone : (raw : Raw) (canonical text : List ℕ) (r : Result (Unit {0}) StreamError) → PutsBoth raw canonical text r → PutsLine raw text r

@@ -5,7 +5,7 @@ use Rattle.std.specs.List.{AllByRecursion}
 use Rattle.std.proofs.lemmas.List.{take_at, drop_at}
 use Rattle.amqp_types.specs.Levels.{plain}
 use Rattle.amqp_types.specs.Judging.{IsBytes}
-use Rattle.amqp_types.specs.Sequences.{SpellsMade, SpellsBoth}
+use Rattle.amqp_types.specs.Sequences.{SpellsMapped, SpellsBoth}
 use Rattle.amqp_types.specs.Numbers.{NumberWidth, bytes1, bytes2, bytes4, bytes8, number_bytes, SpellsNumber}
 use Rattle.amqp_types.specs.Flags.{flag_at, flags_bytes, SpellsFlags}
 use Rattle.amqp_types.specs.Strings.{short_string_bytes, with_length, SpellsShortString, SpellsLongString}
@@ -33,14 +33,16 @@ use Rattle.amqp_values.proofs.Conversions.{values_of-items, entries_of-pairs}
 use Rattle.amqp_values.proofs.Entries.{EachEntry, each-settled_on, each-nil}
 use Rattle.amqp_values.proofs.Settling.{settled_is}
 use Rattle.amqp_values.proofs.SlotForms.{flags_of-map, form_gives}
-use Rattle.amqp_values.proofs.SlotLaws.{both_true, constant_strict}
-use Rattle.amqp_values.proofs.MethodLaws.{in_table}
+use Rattle.amqp_values.proofs.SlotLaws.{both_true, constant_strict, kept_bytes}
+use Rattle.amqp_values.proofs.MethodLaws.{in_table, payload_of_slots}
 use Rattle.amqp_properties.proofs.PropertyLaws.{one_each}
 use Rattle.amqp_frame.specs.Frames.{Frame, Proto, Meth, Head, Body, Beat, BadBeat}
 use Rattle.amqp_frame.specs.Spelling.{Spells, SpellsFrames, framed, IsFramed}
-use Rattle.amqp_frame.specs.Canonical.{canon, canon_row}
+use Rattle.amqp_frame.specs.Canonical.{canon, canon_frames}
 use Rattle.amqp_stream.proofs.Adding.{IsBytes-append, IsBytes-nil}
 use Rattle.amqp_text.proofs.ReadWords.{bytes_behind}
+use Rattle.amqp_properties.proofs.Options.{first_bytes}
+use Rattle.amqp_properties.proofs.HeaderLaws.{options_are}
 
 -- ---- lists of bytes, byte by byte
 
@@ -62,7 +64,7 @@ all_back (x ∷ xs) ys h = all_back xs ys h.1
 along : (xs ys : List ℕ) → xs ≡ ys → All xs → All ys
 along xs ys e h = subst All e h
 
-one_byte : (x i : ℕ) → x < 256 → get_or (x ∷ []) i 0 < 256
+pub one_byte : (x i : ℕ) → x < 256 → get_or (x ∷ []) i 0 < 256
 one_byte x zero h = h
 one_byte x (suc i) h = omega arith
 
@@ -90,8 +92,8 @@ long_inner bytes content fits h = all_back (number_bytes bytes4 (length content)
 abbrev Keeps : {A : Type 0} → (List ℕ → A → Type 0) → (A → List ℕ) → Type 0
 Keeps {A} Spelled canonical = (bytes : List ℕ) (x : A) → All bytes → Spelled bytes x → All (canonical x)
 
-made_keeps : {A B : Type 0} (make : A → B) (Spelled : List ℕ → A → Type 0) (canonical : A → List ℕ) (other : B → List ℕ) → ((x : A) → other (make x) ≡ canonical x) → Keeps Spelled canonical → Keeps (SpellsMade Spelled make) other
-made_keeps make Spelled canonical other same h bytes y fits s = subst All (sym (ap other s.made ∙ same s.thing)) (h bytes s.thing fits s.spelled)
+mapped_keeps : {A B : Type 0} (make : A → B) (Spelled : List ℕ → A → Type 0) (canonical : A → List ℕ) (other : B → List ℕ) → ((x : A) → other (make x) ≡ canonical x) → Keeps Spelled canonical → Keeps (SpellsMapped Spelled make) other
+mapped_keeps make Spelled canonical other same h bytes y fits s = subst All (sym (ap other s.made ∙ same s.thing)) (h bytes s.thing fits s.spelled)
 
 both_keep : {A B C : Type 0} (First : List ℕ → A → Type 0) (Second : List ℕ → B → Type 0) (join : A → B → C) (a : A → List ℕ) (b : B → List ℕ) (c : C → List ℕ) → ((bytes : List ℕ) (x : A) (y : B) → First bytes x → c (join x y) ≡ a x ++ b y) → Keeps First a → Keeps Second b → Keeps (SpellsBoth First Second join) c
 both_keep First Second join a b c same h k bytes z fits s =
@@ -198,11 +200,11 @@ flags_keep count bytes flags fits h =
 
 forms_keep : (form : Form) → Keeps (SpellsForm plain form) (form_bytes form)
 unfolding form_bytes
-forms_keep (number_form width) = made_keeps (λ n. number_item n ∷ []) (SpellsNumber width) (number_bytes width) (form_bytes (number_form width)) (λ n. refl) (λ bytes n fits h. number_all width n)
-forms_keep (flags_form count) = made_keeps (map flag_item) (SpellsFlags plain count) flags_bytes (form_bytes (flags_form count)) (λ flags. ap flags_bytes (flags_of-map flags)) (flags_keep count)
-forms_keep short_string_form = made_keeps (λ text. text_item text ∷ []) SpellsShortString short_string_bytes (form_bytes short_string_form) (λ text. refl) (λ bytes text fits h. along bytes (short_string_bytes text) h.bytes_are fits)
-forms_keep long_string_form = made_keeps (λ content. bytes_item content ∷ []) SpellsLongString with_length (form_bytes long_string_form) (λ content. refl) (λ bytes content fits h. along bytes (with_length content) h.bytes_are fits)
-forms_keep table_form = made_keeps (λ es. entries_item es ∷ []) (SpellsFieldTable plain) table_bytes (form_bytes table_form) (λ es. refl) tables_keep
+forms_keep (number_form width) = mapped_keeps (λ n. number_item n ∷ []) (SpellsNumber width) (number_bytes width) (form_bytes (number_form width)) (λ n. refl) (λ bytes n fits h. number_all width n)
+forms_keep (flags_form count) = mapped_keeps (map flag_item) (SpellsFlags plain count) flags_bytes (form_bytes (flags_form count)) (λ flags. ap flags_bytes (flags_of-map flags)) (flags_keep count)
+forms_keep short_string_form = mapped_keeps (λ text. text_item text ∷ []) SpellsShortString short_string_bytes (form_bytes short_string_form) (λ text. refl) (λ bytes text fits h. along bytes (short_string_bytes text) h.bytes_are fits)
+forms_keep long_string_form = mapped_keeps (λ content. bytes_item content ∷ []) SpellsLongString with_length (form_bytes long_string_form) (λ content. refl) (λ bytes content fits h. along bytes (with_length content) h.bytes_are fits)
+forms_keep table_form = mapped_keeps (λ es. entries_item es ∷ []) (SpellsFieldTable plain) table_bytes (form_bytes table_form) (λ es. refl) tables_keep
 
 constant_all : (form : Form) (constant : List Item) → is_least form constant ≡ true → All (form_bytes form constant)
 unfolding form_bytes
@@ -211,10 +213,6 @@ constant_all (flags_form count) constant least = let s = (constant_strict (flags
 constant_all short_string_form (text_item [] ∷ []) least = (omega arith, tt)
 constant_all long_string_form (bytes_item [] ∷ []) least = long_all [] tt
 constant_all form constant least = absurd cc
-
-kept_bytes : (form : Form) (slots : List Slot) (xs ys : List Item) → length xs ≡ item_count form → slots_bytes (kept_slot form ∷ slots) (xs ++ ys) ≡ form_bytes form xs ++ slots_bytes slots ys
-unfolding slots_bytes
-kept_bytes form slots xs ys count = ap₂ (λ a b. form_bytes form a ++ slots_bytes slots b) (take_at xs ys (item_count form) count) (drop_at xs ys (item_count form) count)
 
 slots_keep : (slots : List Slot) → are_least slots ≡ true → Keeps (SpellsSlots plain slots) (slots_bytes slots)
 unfolding slots_bytes
@@ -228,10 +226,6 @@ slots_keep (reserved_slot form constant ∷ slots) least =
 
 -- ---- payloads
 
-payload_of_slots : (m : Method) (slots : List Slot) → slots_at m.class m.id ≡ Some slots → payload_bytes m ≡ number_bytes bytes2 m.class ++ (number_bytes bytes2 m.id ++ slots_bytes slots m.items)
-unfolding payload_bytes method_bytes
-payload_of_slots m slots is_known = ap (λ o. number_bytes bytes2 m.class ++ (number_bytes bytes2 m.id ++ slots_bytes (unwrap_or o []) m.items)) is_known
-
 payloads_keep : Keeps (SpellsPayload plain) payload_bytes
 payloads_keep bytes m fits h =
     let least = (in_table m.class m.id h.slots h.known).least in
@@ -240,26 +234,9 @@ payloads_keep bytes m fits h =
     let method = number_bytes bytes2 m.id ++ slots_bytes h.slots m.items in
     along (number_bytes bytes2 m.class ++ method) (payload_bytes m) (sym (payload_of_slots m h.slots h.known)) (all_both (number_bytes bytes2 m.class) method (number_all bytes2 m.class) (all_both (number_bytes bytes2 m.id) (slots_bytes h.slots m.items) (number_all bytes2 m.id) slots))
 
--- what a form that gives one item is written as shows its first item alone
-first_bytes : (form : Form) → gives_one form ≡ true → (items : List Item) → optional_bytes form (first_item items) ≡ form_bytes form items
-unfolding optional_bytes form_bytes
-first_bytes (number_form width) one [] = refl
-first_bytes (number_form width) one (number_item n ∷ items) = refl
-first_bytes (number_form width) one (item ∷ items) = refl
-first_bytes short_string_form one [] = refl
-first_bytes short_string_form one (text_item text ∷ items) = refl
-first_bytes short_string_form one (item ∷ items) = refl
-first_bytes long_string_form one [] = refl
-first_bytes long_string_form one (bytes_item bytes ∷ items) = refl
-first_bytes long_string_form one (item ∷ items) = refl
-first_bytes table_form one [] = refl
-first_bytes table_form one (entries_item es ∷ items) = refl
-first_bytes table_form one (item ∷ items) = refl
-first_bytes (flags_form count) one items = absurd cc
-
 optional_keeps : (present : Bool) (form : Form) → gives_one form ≡ true → Keeps (SpellsOptional plain present form) (optional_bytes form)
 unfolding optional_bytes
-optional_keeps true form one = made_keeps first_item (SpellsForm plain form) (form_bytes form) (optional_bytes form) (first_bytes form one) (forms_keep form)
+optional_keeps true form one = mapped_keeps first_item (SpellsForm plain form) (form_bytes form) (optional_bytes form) (first_bytes form one) (forms_keep form)
 optional_keeps false form one = λ bytes option fits h. subst (λ (o : Option Item). All (optional_bytes form o)) (sym h.1) tt
 
 sets_keep : (mask : ℕ) (ps : List Property) → give_one ps ≡ true → Keeps (SpellsSet plain mask ps) (set_bytes ps)
@@ -273,10 +250,6 @@ properties_keep : Keeps (SpellsProperties plain) properties_bytes
 unfolding properties_bytes form_bytes
 properties_keep bytes options fits h =
     all_both (number_bytes bytes2 (mask_of properties options)) (set_bytes properties options) (number_all bytes2 (mask_of properties options)) (sets_keep h.mask properties one_each h.behind options (all_back (number_bytes bytes2 h.mask) h.behind (along bytes _ h.bytes_are fits)) h.set)
-
-options_are : (items : List Item) (set : List (Option Item)) → (header_of_parts items set).options ≡ set
-options_are (number_item class ∷ number_item size ∷ []) set = refl
-options_are items set = refl
 
 parts_all : (class size : ℕ) → All (slots_bytes header_slots (number_item class ∷ number_item size ∷ []))
 unfolding header_slots slots_bytes form_bytes
@@ -308,11 +281,11 @@ frames_keep bytes (Body channel content) fits h = along bytes (framed 3 channel 
 frames_keep bytes Beat fits h = framed_all 8 0 [] (omega arith) tt
 frames_keep bytes (BadBeat channel) fits h = framed_all 8 channel [] (omega arith) tt
 
-rows_keep : (m : Option ℕ) (bytes : List ℕ) (frames : List Frame) → All bytes → SpellsFrames plain m bytes frames → All (canon_row frames)
-rows_keep m bytes [] fits h = tt
-rows_keep m bytes (f ∷ fs) fits h =
+sequences_keep : (m : Option ℕ) (bytes : List ℕ) (frames : List Frame) → All bytes → SpellsFrames plain m bytes frames → All (canon_frames frames)
+sequences_keep m bytes [] fits h = tt
+sequences_keep m bytes (f ∷ fs) fits h =
     let parts = along bytes (h.0 ++ h.1) h.2 fits in
-    all_both (canon f) (canon_row fs) (frames_keep h.0 f (all_front h.0 h.1 parts) h.3) (rows_keep m h.1 fs (all_back h.0 h.1 parts) h.5)
+    all_both (canon f) (canon_frames fs) (frames_keep h.0 f (all_front h.0 h.1 parts) h.3) (sequences_keep m h.1 fs (all_back h.0 h.1 parts) h.5)
 
-pub canonical_bytes : (m : Option ℕ) (bytes : List ℕ) (frames : List Frame) → IsBytes bytes → SpellsFrames plain m bytes frames → IsBytes (canon_row frames)
-canonical_bytes m bytes frames fits h = are_bytes (canon_row frames) (rows_keep m bytes frames (all_bytes bytes fits) h)
+pub canonical_bytes : (m : Option ℕ) (bytes : List ℕ) (frames : List Frame) → IsBytes bytes → SpellsFrames plain m bytes frames → IsBytes (canon_frames frames)
+canonical_bytes m bytes frames fits h = are_bytes (canon_frames frames) (sequences_keep m bytes frames (all_bytes bytes fits) h)

@@ -13,6 +13,7 @@ use Rattle.amqp_text.proofs.Newlines.{one_newline}
 use Rattle.amqp_text.proofs.TextFronts.{AllStrict, all_strict, holds_none, first_line, line_front, line_first, IsAtNone}
 use Rattle.amqp_text.proofs.Deciding.{first_or}
 use Rattle.amqp_text.proofs.Gathering.{at_none}
+use Rattle.amqp_text.proofs.LinesApart.{line_some}
 
 -- ---- the lines after those of a sequence
 
@@ -20,9 +21,6 @@ record Others (m : ℕ) (text : List ℕ) : Type 0 where
   frames : List Frame
   good : AllStrict m frames
   is : lines frames ≡ text
-
-line_some : (f : Frame) (x : List ℕ) → [] ≡ line f ++ x → ⊥
-line_some f x h = let a = one_newline f in omega (arith, ap length h, length-append (line f) x, ap length a.parts, length-append a.front (10 ∷ []))
 
 others : (m : ℕ) (fs gs : List Frame) (more : List ℕ) → AllStrict m gs → lines gs ≡ lines fs ++ more → Others m more
 unfolding lines

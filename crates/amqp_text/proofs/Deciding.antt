@@ -23,6 +23,7 @@ use Rattle.amqp_text.proofs.ReadLines.{kind_of}
 use Rattle.amqp_text.proofs.ReadWords.{bytes_behind, bytes_front}
 use Rattle.amqp_text.proofs.LinesApart.{raw_canon, strict_back}
 use Rattle.amqp_text.proofs.TextFronts.{AllStrict, first_is_canon, IsAtNone, at_clean, at_other}
+use Rattle.amqp_text.proofs.CanonBytes.{one_byte}
 
 -- ---- what is read of a line
 
@@ -37,10 +38,6 @@ pub line_back : (f : Frame) (text : List ℕ) → IsStrict f → text ≡ line f
 line_back f text h e = ap read_words (words_in f text e) ∙ strict_back f h
 
 -- ---- tests
-
-one_byte : (x i : ℕ) → x < 256 → get_or (x ∷ []) i 0 < 256
-one_byte x zero h = h
-one_byte x (suc i) h = omega arith
 
 bytes_or : (xs : List ℕ) → IsBytes xs ⊎ (IsBytes xs → ⊥)
 bytes_or [] = inl IsBytes-nil

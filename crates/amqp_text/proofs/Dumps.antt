@@ -12,14 +12,14 @@ use Rattle.amqp_stream.specs.Ends.{Supply, Store}
 use Rattle.amqp_stream.specs.Writing.{IsPrefix, Gathered, GatherFails}
 use Rattle.amqp_stream.specs.Steps.{Manner, text, refused}
 use Rattle.amqp_stream.specs.Manners.{mapping}
-use Rattle.amqp_stream.specs.Streaming.{Ending, finished, refused_by, stopped_by, ending_of, as_run, text_of, IsStep, WritesBy, HasWrittenBy, HasCauseBy, AtWanting, Streams, RunNeverBegan, answer_of, IsExact, UnlessStoppedBy, StreamsExactly, IsWelcome, IsDoneOrWanting}
-use Rattle.amqp_stream.specs.Transcribing.{answer_to, IsCausedBy, NeverBegan, UnlessStopped, TranscribesExactly, IsOkOrNoMemory}
+use Rattle.amqp_stream.specs.Streaming.{Ending, finished, refused_by, stopped_by, ending_of, as_run, text_of, IsStep, WritesBy, HasWrittenBy, HasCauseBy, AtWanting, Streams, RunNeverBegan, answer_of, IsExactRun, UnlessStoppedBy, StreamsExactly, IsWelcome, IsDoneOrWanting}
+use Rattle.amqp_stream.specs.Transcribing.{answer_to, IsCausedBy, NeverBegan, UnlessStopped, TranscribesExactly, IsOkOrNoMemory, IsWrittenUnless}
 use Rattle.amqp_stream.proofs.Adding.{Gains-none}
-use Rattle.amqp_stream.proofs.Transcribing.{Transcriber, maps, never_began, transcribes_exactly}
+use Rattle.amqp_stream.proofs.Transcribing.{Transcriber, maps, never_began, transcribes_exactly, unless, caused_by}
 use Rattle.amqp_stream.proofs.Writes.{kept}
 use Rattle.amqp_text.specs.Lines.{line, lines}
-use Rattle.amqp_text.specs.LineTexts.{IsUntold, PutsLine}
-use Rattle.amqp_text.specs.Dumping.{dumping, dumped, AtFrame, HasCauseDumped, IsWrittenUnless, HasWrittenDumped, Dumps}
+use Rattle.amqp_text.specs.LineTexts.{HasNoLine, PutsLine}
+use Rattle.amqp_text.specs.Dumping.{dumping, dumped, AtFrame, HasCauseDumped, HasWrittenDumped, Dumps}
 
 -- ---- one frame
 
@@ -33,16 +33,16 @@ line_gathered s t raw text a b before after done h g = record { bytes = line h.0
 pub line_failed : (s t : Unit {0}) (raw : Raw) (text : List ℕ) (a b : Store) (before after : List ℕ) (done : Unit {0}) → PutsLine raw text (Ok done) → GatherFails a b before after text → WritesBy dumping s t raw a b before after (stopped_by write_failed)
 line_failed s t raw text a b before after done h g = record { bytes = line h.0; next = t; step = line_step s t raw h.0 h.1; failed = subst (λ (xs : List ℕ). GatherFails a b before after xs) h.2 g }
 
-untold_by : (s t : Unit {0}) (raw : Raw) (a : Store) (before : List ℕ) (cause : Cause) → IsUntold raw cause → WritesBy dumping s t raw a a before before (stopped_by cause)
-untold_by s t raw a before (faulty bad) h = (h, kept a before before refl, refl)
-untold_by s t raw a before out_of_memory h = (refl, kept a before before refl)
-untold_by s t raw a before write_failed h = absurd h
-untold_by s t raw a before cut_short h = absurd h
-untold_by s t raw a before turns_spent h = absurd h
-untold_by s t raw a before read_failed h = absurd h
+unrendered_by : (s t : Unit {0}) (raw : Raw) (a : Store) (before : List ℕ) (cause : Cause) → HasNoLine raw cause → WritesBy dumping s t raw a a before before (stopped_by cause)
+unrendered_by s t raw a before (faulty bad) h = (h, kept a before before refl, refl)
+unrendered_by s t raw a before out_of_memory h = (refl, kept a before before refl)
+unrendered_by s t raw a before write_failed h = absurd h
+unrendered_by s t raw a before cut_short h = absurd h
+unrendered_by s t raw a before turns_spent h = absurd h
+unrendered_by s t raw a before read_failed h = absurd h
 
-pub line_untold : (s t : Unit {0}) (raw : Raw) (text : List ℕ) (a : Store) (before : List ℕ) (error : StreamError) → PutsLine raw text (Err error) → WritesBy dumping s t raw a a before before (stopped_by (cause_of error))
-line_untold s t raw text a before error h = untold_by s t raw a before (cause_of error) h
+pub line_unrendered : (s t : Unit {0}) (raw : Raw) (text : List ℕ) (a : Store) (before : List ℕ) (error : StreamError) → PutsLine raw text (Err error) → WritesBy dumping s t raw a a before before (stopped_by (cause_of error))
+line_unrendered s t raw text a before error h = unrendered_by s t raw a before (cause_of error) h
 
 -- ---- the text of frames
 
@@ -77,25 +77,17 @@ at_frame : (s : Unit {0}) (m : ℕ) (taken written : List ℕ) → AtWanting dum
 at_frame s m taken written h =
     let next = h.wanting in
     record {
-      row = h.row;
+      sequence = h.sequence;
       rest = h.rest;
       parts = h.parts;
-      is_row = h.is_row;
+      is_sequence = h.is_sequence;
       next = record { raw = next.raw; used = next.used; found = next.found; such = tt };
-      written_is = h.written_is ∙ lines_text s (front plain (Some m) h.row);
+      written_is = h.written_is ∙ lines_text s (front plain (Some m) h.sequence);
     }
-
-caused_by : (m turns : ℕ) (taken : List ℕ) (a b : Supply) (k l : Store) {P Q : Type 0} (cause : Cause) → (P → Q) → IsCausedBy plain m turns taken a b k l P cause → IsCausedBy plain m turns taken a b k l Q cause
-caused_by m turns taken a b k l (faulty bad) f h = h
-caused_by m turns taken a b k l cut_short f h = h
-caused_by m turns taken a b k l turns_spent f h = h
-caused_by m turns taken a b k l read_failed f h = h
-caused_by m turns taken a b k l write_failed f h = h
-caused_by m turns taken a b k l out_of_memory f h = f h
 
 cause : (s : Unit {0}) (m turns : ℕ) (taken written : List ℕ) (a b : Supply) (k l : Store) (r : Result (Unit {0}) StreamError) → HasCauseBy dumping s m turns taken written a b k l (ending_of (as_run r)) → HasCauseDumped m turns taken written a b k l r
 cause s m turns taken written a b k l (Ok done) h = (h.0, h.1)
-cause s m turns taken written a b k l (Err error) h = caused_by m turns taken a b k l (cause_of error) (at_frame s m taken written) h
+cause s m turns taken written a b k l (Err error) h = caused_by plain m turns taken a b k l (cause_of error) (at_frame s m taken written) h
 
 dumps : (s t : Unit {0}) (m turns : ℕ) (a b : Supply) (k l : Store) (r : Result (Unit {0}) StreamError) → Streams dumping s t m turns a b k l (ending_of (as_run r)) → Dumps m turns a b k l r
 dumps s t m turns a b k l r run =
@@ -112,11 +104,11 @@ dumps s t m turns a b k l r run =
       writes = writes (dumped m run.taken) run.written s m run.taken r (lines_text s (front plain (Some m) run.taken)) run.writes;
       cause = cause s m turns run.taken run.written a b k l r run.cause;
       behind = record {
-        row = short.row;
+        sequence = short.sequence;
         rest = short.rest;
         parts = short.parts;
-        is_row = short.is_row;
-        written_begins = subst (λ (xs : List ℕ). IsPrefix xs run.written) (lines_text s (front plain (Some m) short.row)) short.written_begins;
+        is_sequence = short.is_sequence;
+        written_begins = subst (λ (xs : List ℕ). IsPrefix xs run.written) (lines_text s (front plain (Some m) short.sequence)) short.written_begins;
         few = short.few;
       };
     }
@@ -142,7 +134,7 @@ transcriber : (s : Unit {0}) → Transcriber without_memory s lines
 unfolding lines
 transcriber s = maps (λ s f. line f) s
 
-exact_too : (s : Unit {0}) (m : ℕ) (bytes written : List ℕ) (ending : Ending Infallible) → IsExact dumping s m bytes written ending → IsExact without_memory s m bytes written ending
+exact_too : (s : Unit {0}) (m : ℕ) (bytes written : List ℕ) (ending : Ending Infallible) → IsExactRun dumping s m bytes written ending → IsExactRun without_memory s m bytes written ending
 exact_too s m bytes written ending h =
     let frames = front plain (Some m) bytes in
     let t = transcriber s in
@@ -150,14 +142,6 @@ exact_too s m bytes written ending h =
       answer = h.answer ∙ ap (λ why. answer_of why None (answer_to plain m bytes)) (none_refused s frames ∙ sym (t.none_refused frames));
       text_is = h.text_is ∙ lines_text s frames ∙ sym (t.text_is frames);
     }
-
-unless : {P Q : Type 0} (cause : Cause) → (P → Q) → UnlessStopped cause P → UnlessStopped cause Q
-unless (faulty bad) g h = g h
-unless cut_short g h = g h
-unless turns_spent g h = tt
-unless read_failed g h = tt
-unless write_failed g h = tt
-unless out_of_memory g h = tt
 
 unless_by : {P Q : Type 0} (ending : Ending Infallible) → (P → Q) → UnlessStoppedBy ending P → UnlessStoppedBy ending Q
 unless_by finished g h = g h

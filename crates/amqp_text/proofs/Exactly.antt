@@ -1,7 +1,7 @@
 -- What is returned and written by all the bytes of a source, however they are cut.
 use Rattle.std.proofs.Common.{◌≡◌, ℕ, List, [], ◌∷◌, ◌++◌, Some, Result, Ok, Err, sym, ap, subst, ◌∙◌, append_assoc, append-nil}
 use Rattle.amqp_frame.specs.Frames.{Frame}
-use Rattle.amqp_frame.specs.Canonical.{canon_row}
+use Rattle.amqp_frame.specs.Canonical.{canon_frames}
 use Rattle.amqp_stream.specs.Ends.{Supply, Store}
 use Rattle.amqp_stream.specs.Writing.{IsPrefix}
 use Rattle.amqp_text.specs.Lines.{lines}
@@ -23,15 +23,15 @@ holds_more : (rest more : List ℕ) → HoldsNewline rest → HoldsNewline (rest
 holds_more rest more h = record { front = h.front; back = h.back ++ more; parts = ap (λ (xs : List ℕ). xs ++ more) h.parts ∙ append_assoc h.front (10 ∷ h.back) more }
 
 -- a part of the canonical bytes is one of those with others after them
-prefix_more : (written : List ℕ) (fs gs : List Frame) → IsPrefix written (canon_row fs) → IsPrefix written (canon_row (fs ++ gs))
-prefix_more written fs gs h = (h.0 ++ canon_row gs, sym (append_assoc written h.0 (canon_row gs)) ∙ ap (λ (xs : List ℕ). xs ++ canon_row gs) h.1 ∙ sym (canon_both fs gs))
+prefix_more : (written : List ℕ) (fs gs : List Frame) → IsPrefix written (canon_frames fs) → IsPrefix written (canon_frames (fs ++ gs))
+prefix_more written fs gs h = (h.0 ++ canon_frames gs, sym (append_assoc written h.0 (canon_frames gs)) ∙ ap (λ (xs : List ℕ). xs ++ canon_frames gs) h.1 ∙ sym (canon_both fs gs))
 
 whole_part : (written all : List ℕ) → written ≡ all → IsPrefix written all
 whole_part written all e = ([], append-nil written ∙ e)
 
 module _ {m turns : ℕ} {a b : Supply} {k l : Store} (bytes : List ℕ) where
   -- all bytes were taken
-  to_end : (r : Result (Unit {0}) UndumpError) (u : Undumps m turns a b k l r) → (is : Left bytes u.taken b.left) → is.more ≡ [] → IsAnswerToText (canon_row u.frames) u.rest u.written r → UndumpsExactly m bytes k l r
+  to_end : (r : Result (Unit {0}) UndumpError) (u : Undumps m turns a b k l r) → (is : Left bytes u.taken b.left) → is.more ≡ [] → IsAnswerToText (canon_frames u.frames) u.rest u.written r → UndumpsExactly m bytes k l r
   to_end r u is none answer = record {
     frames = u.frames;
     rest = u.rest;
@@ -53,7 +53,7 @@ module _ {m turns : ℕ} {a b : Supply} {k l : Store} (bytes : List ℕ) where
   }
 
   -- the call was stopped, and more of the bytes may be a text
-  stopped_at : (r : Result (Unit {0}) UndumpError) (u : Undumps m turns a b k l r) → (is : Left bytes u.taken b.left) → ((all rest : List ℕ) → IsPrefix u.written all → IsAnswerToText all rest u.written r) → IsPrefix u.written (canon_row u.frames) → UndumpsExactly m bytes k l r
+  stopped_at : (r : Result (Unit {0}) UndumpError) (u : Undumps m turns a b k l r) → (is : Left bytes u.taken b.left) → ((all rest : List ℕ) → IsPrefix u.written all → IsAnswerToText all rest u.written r) → IsPrefix u.written (canon_frames u.frames) → UndumpsExactly m bytes k l r
   stopped_at r u is answer part =
       let h = fronts_of m (u.rest ++ is.more) in
       let whole : bytes ≡ lines u.frames ++ (u.rest ++ is.more) = is.parts ∙ ap (λ (xs : List ℕ). xs ++ is.more) u.text.parts ∙ append_assoc (lines u.frames) u.rest is.more in
@@ -63,7 +63,7 @@ module _ {m turns : ℕ} {a b : Supply} {k l : Store} (bytes : List ℕ) where
         text = subst (λ (xs : List ℕ). IsLongestText m xs (u.frames ++ h.frames) h.rest) (sym whole) (longest_after m u.frames (u.rest ++ is.more) h.frames h.rest (all_strict m u.frames u.text.are_strict) (longest_is m (u.rest ++ is.more) h));
         written = u.written;
         gains = u.gains;
-        answer = answer (canon_row (u.frames ++ h.frames)) h.rest (prefix_more u.written u.frames h.frames part);
+        answer = answer (canon_frames (u.frames ++ h.frames)) h.rest (prefix_more u.written u.frames h.frames part);
       }
 
   pub exactly : (r : Result (Unit {0}) UndumpError) → Undumps m turns a b k l r → a.left ≡ Some bytes → UndumpsExactly m bytes k l r
@@ -73,8 +73,8 @@ module _ {m turns : ℕ} {a b : Supply} {k l : Store} (bytes : List ℕ) where
       by_answer (Ok done) u is = to_end (Ok done) u is (empty_left b.left is.more is.is u.cause.1) (u.cause.0, u.writes)
       by_answer (Err errors.BadText) u is = to_newline u is
       by_answer (Err errors.CutShort) u is = to_end (Err errors.CutShort) u is (empty_left b.left is.more is.is u.cause.2) (u.cause.0, u.cause.1, u.writes)
-      by_answer (Err errors.TurnsSpent) u is = stopped_at (Err errors.TurnsSpent) u is (λ all rest part. part) (whole_part u.written (canon_row u.frames) u.writes)
-      by_answer (Err errors.ReadFault) u is = stopped_at (Err errors.ReadFault) u is (λ all rest part. part) (whole_part u.written (canon_row u.frames) u.writes)
+      by_answer (Err errors.TurnsSpent) u is = stopped_at (Err errors.TurnsSpent) u is (λ all rest part. part) (whole_part u.written (canon_frames u.frames) u.writes)
+      by_answer (Err errors.ReadFault) u is = stopped_at (Err errors.ReadFault) u is (λ all rest part. part) (whole_part u.written (canon_frames u.frames) u.writes)
       by_answer (Err errors.WriteFault) u is = stopped_at (Err errors.WriteFault) u is (λ all rest part. part) u.writes
       by_answer (Err errors.NoMemory) u is = stopped_at (Err errors.NoMemory) u is (λ all rest part. part) u.writes
 

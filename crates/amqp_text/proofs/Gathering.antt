@@ -3,7 +3,7 @@ use Rattle.std.proofs.Common.{◌≡◌, ℕ, ◌-◌, List, [], ◌∷◌, ◌+
 use Rattle.std.proofs.lemmas.List.{length-append, take-append-drop, drop_at}
 use Rattle.std.proofs.lemmas.Grind.{flat_map-append}
 use Rattle.amqp_frame.specs.Frames.{Frame}
-use Rattle.amqp_frame.specs.Canonical.{canon, canon_row}
+use Rattle.amqp_frame.specs.Canonical.{canon, canon_frames}
 use Rattle.amqp_stream.specs.Ends.{Store}
 use Rattle.amqp_stream.specs.Writing.{Gathered, GatherFails, Keeps}
 use Rattle.amqp_stream.proofs.Adding.{Gains-none, Gains-then, Rises-later}
@@ -15,6 +15,7 @@ use Rattle.amqp_text.specs.declared.errors.UndumpError.{UndumpError}
 use Rattle.amqp_text.specs.declared.errors.UndumpError.TheVariants as errors
 use Rattle.amqp_text.proofs.TextFronts.{AllStrict, all_strict, are_strict, all_both, first_line, IsAtNone, at_clean, at_other, is_longest}
 use Rattle.amqp_text.proofs.Deciding.{Fronts, more_front, fronts_of}
+use Rattle.amqp_stream.proofs.Transcribing.{gathered_then}
 
 -- ---- sequences one after another
 
@@ -22,19 +23,12 @@ pub lines_both : (fs gs : List Frame) → lines (fs ++ gs) ≡ lines fs ++ lines
 unfolding lines
 lines_both fs gs = flat_map-append line fs gs
 
-pub canon_both : (fs gs : List Frame) → canon_row (fs ++ gs) ≡ canon_row fs ++ canon_row gs
+pub canon_both : (fs gs : List Frame) → canon_frames (fs ++ gs) ≡ canon_frames fs ++ canon_frames gs
 canon_both fs gs = flat_map-append canon fs gs
 
 line_alone : (f : Frame) → lines (f ∷ []) ≡ line f
 unfolding lines
 line_alone f = append-nil (line f)
-
-pub gathered_then : {a b c : Store} {x y z p q : List ℕ} → Gathered a b x y p → Gathered b c y z q → Gathered a c x z (p ++ q)
-gathered_then {a = a} {b = b} {c = c} {x = x} {y = y} {z = z} {p = p} {q = q} g h = record {
-  written = g.written ++ h.written;
-  gains = Gains-then a b c g.written h.written g.gains h.gains;
-  parts = append_assoc g.written h.written z ∙ ap (λ (xs : List ℕ). g.written ++ xs) h.parts ∙ sym (append_assoc g.written y q) ∙ ap (λ (xs : List ℕ). xs ++ q) g.parts ∙ append_assoc x p q;
-}
 
 -- ---- after some lines
 
@@ -42,7 +36,7 @@ pub record Along (m : ℕ) (text rest : List ℕ) (a b : Store) (before after : 
   pub frames : List Frame
   pub good : AllStrict m frames
   pub parts : text ≡ lines frames ++ rest
-  pub gathered : Gathered a b before after (canon_row frames)
+  pub gathered : Gathered a b before after (canon_frames frames)
 
 pub along_begins : (m : ℕ) (text : List ℕ) (a : Store) (before : List ℕ) → Along m text text a a before before
 unfolding lines
@@ -52,7 +46,7 @@ pub along_line : {m : ℕ} {text rest canonical before after later : List ℕ} {
 along_line {m = m} {rest = rest} {canonical = canonical} {before = before} {later = later} {a = a} {c = c} end part others part_is others_is h is g =
     let one = is.frame ∷ [] in
     let here : rest ≡ lines one ++ others = sym (take-append-drop end rest) ∙ ap (λ (xs : List ℕ). xs ++ drop end rest) (sym part_is ∙ is.is_line ∙ sym (line_alone is.frame)) ∙ ap (λ (xs : List ℕ). lines one ++ xs) (sym others_is) in
-    let same : canon_row h.frames ++ canonical ≡ canon_row (h.frames ++ one) = ap (λ (xs : List ℕ). canon_row h.frames ++ xs) (is.is_canonical ∙ sym (append-nil (canon is.frame))) ∙ sym (canon_both h.frames one) in
+    let same : canon_frames h.frames ++ canonical ≡ canon_frames (h.frames ++ one) = ap (λ (xs : List ℕ). canon_frames h.frames ++ xs) (is.is_canonical ∙ sym (append-nil (canon is.frame))) ∙ sym (canon_both h.frames one) in
     record {
       frames = h.frames ++ one;
       good = all_both m h.frames one h.good (is.strict_within, tt);
@@ -108,7 +102,7 @@ lines_memory {m = m} {rest = rest} h k =
       frames = h.frames ++ more.frames;
       rest = more.rest;
       is_longest = longest_along h more;
-      gathers = (canon_row h.frames, (canon_row more.frames, sym (canon_both h.frames more.frames)), still h.gathered k);
+      gathers = (canon_frames h.frames, (canon_frames more.frames, sym (canon_both h.frames more.frames)), still h.gathered k);
     }
 
 lines_unwritten : {m : ℕ} {text rest canonical before after later : List ℕ} {a b c : Store} (end : ℕ) → Along m text rest a b before after → IsLineOf m (take end rest) canonical → GatherFails b c after later canonical → GathersLines m text a c before later (Err errors.WriteFault)
@@ -119,11 +113,11 @@ lines_unwritten {m = m} {rest = rest} {canonical = canonical} {before = before} 
     let g = h.gathered in
     let w = g.written in
     let p = f.prefix.0 in
-    let co = canon_row others.frames in
-    let here : f.piece ++ (p ++ co) ≡ after ++ canon_row (is.frame ∷ others.frames) = sym (append_assoc f.piece p co) ∙ ap (λ (xs : List ℕ). xs ++ co) f.prefix.1 ∙ append_assoc after canonical co ∙ ap (λ (xs : List ℕ). after ++ (xs ++ co)) is.is_canonical in
-    let whole : (w ++ f.piece) ++ (p ++ co) ≡ before ++ canon_row (h.frames ++ more.frames) =
-    append_assoc w f.piece (p ++ co) ∙ ap (λ (xs : List ℕ). w ++ xs) here ∙ sym (append_assoc w after (canon_row more.frames))
-    ∙ ap (λ (xs : List ℕ). xs ++ canon_row more.frames) g.parts ∙ append_assoc before (canon_row h.frames) (canon_row more.frames) ∙ ap (λ (xs : List ℕ). before ++ xs) (sym (canon_both h.frames more.frames)) in
+    let co = canon_frames others.frames in
+    let here : f.piece ++ (p ++ co) ≡ after ++ canon_frames (is.frame ∷ others.frames) = sym (append_assoc f.piece p co) ∙ ap (λ (xs : List ℕ). xs ++ co) f.prefix.1 ∙ append_assoc after canonical co ∙ ap (λ (xs : List ℕ). after ++ (xs ++ co)) is.is_canonical in
+    let whole : (w ++ f.piece) ++ (p ++ co) ≡ before ++ canon_frames (h.frames ++ more.frames) =
+    append_assoc w f.piece (p ++ co) ∙ ap (λ (xs : List ℕ). w ++ xs) here ∙ sym (append_assoc w after (canon_frames more.frames))
+    ∙ ap (λ (xs : List ℕ). xs ++ canon_frames more.frames) g.parts ∙ append_assoc before (canon_frames h.frames) (canon_frames more.frames) ∙ ap (λ (xs : List ℕ). before ++ xs) (sym (canon_both h.frames more.frames)) in
     record {
       frames = h.frames ++ more.frames;
       rest = more.rest;

@@ -1,7 +1,8 @@
+-- The lemmas of amqp_text.
 pub mod Digits
-pub mod Told
-pub mod ToldSlots
-pub mod ToldBack
+pub mod Rendered
+pub mod RenderedSlots
+pub mod RenderedBack
 pub mod SlotsBack
 pub mod Lining
 pub mod Borrowed

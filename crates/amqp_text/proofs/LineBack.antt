@@ -25,8 +25,8 @@ use Rattle.amqp_stream.specs.Errors.{cause_of}
 use Rattle.amqp_text.specs.declared.errors.TextError.{TextError}
 use Rattle.amqp_text.specs.declared.errors.TextError.TheVariants as texts
 use Rattle.amqp_text.specs.Lines.{line}
-use Rattle.amqp_text.specs.LineTexts.{IsUntold, PutsBoth}
-use Rattle.amqp_text.specs.LineReading.{TellsLine}
+use Rattle.amqp_text.specs.LineTexts.{HasNoLine, PutsBoth}
+use Rattle.amqp_text.specs.LineReading.{RendersLine}
 use Rattle.amqp_text.specs.OneLine.{IsStrictWithin, IsNoLine, IsLineOf}
 use Rattle.amqp_text.specs.ReadingLines.{ReadsWords, read_words}
 use Rattle.amqp_text.proofs.TextFronts.{first_is_canon}
@@ -71,7 +71,7 @@ none_read m text payload h f good e = subst (λ (r : Option Raw). ReadsWords r [
 pub none_long : (m : ℕ) (text payload : List ℕ) (found : AMQPFrameType × ℕ) → ReadsWords (read_words (take (length text - 1) text)) [] payload (Ok found) → 2 ^ 32 ≤ length payload → IsNoLine m text
 none_long m text payload found h long f good e = absurd (omega (arith, ap (λ (r : Raw). length r.payload) (found_back m text payload found h f good e), payload_few f good.is_strict.encodes))
 
-faulty_not : (raw : Raw) (f : Frame) (error : StreamError) → error ≢ errors.NoMemory → whole raw ≡ Ok f → IsUntold raw (cause_of error) → ⊥
+faulty_not : (raw : Raw) (f : Frame) (error : StreamError) → error ≢ errors.NoMemory → whole raw ≡ Ok f → HasNoLine raw (cause_of error) → ⊥
 faulty_not raw f errors.NoMemory other e h = other refl
 faulty_not raw f errors.CutShort other e h = h
 faulty_not raw f errors.TurnsSpent other e h = h
@@ -79,7 +79,7 @@ faulty_not raw f errors.ReadFault other e h = h
 faulty_not raw f errors.WriteFault other e h = h
 faulty_not raw f error other e h = let x = h.judged_bad 0 in let y = rw e at x in cc
 
-pub none_put : (m : ℕ) (text payload : List ℕ) (found : AMQPFrameType × ℕ) (error : StreamError) → ReadsWords (read_words (take (length text - 1) text)) [] payload (Ok found) → error ≢ errors.NoMemory → IsUntold (found_raw found payload) (cause_of error) → IsNoLine m text
+pub none_put : (m : ℕ) (text payload : List ℕ) (found : AMQPFrameType × ℕ) (error : StreamError) → ReadsWords (read_words (take (length text - 1) text)) [] payload (Ok found) → error ≢ errors.NoMemory → HasNoLine (found_raw found payload) (cause_of error) → IsNoLine m text
 none_put m text payload found error h other u f good e =
     absurd (faulty_not (found_raw found payload) f error other (ap whole (found_back m text payload found h f good e) ∙ whole_back f good.is_strict.encodes) u)
 
@@ -112,8 +112,8 @@ spells_plain kinds.Heartbeat channel payload f fits c l h = spells_as plain (byt
 pub strict_read : (kind : AMQPFrameType) (channel : ℕ) (payload : List ℕ) (f : Frame) → IsBytes payload → channel < 2 ^ 16 → length payload < 2 ^ 32 → whole_as kind channel payload ≡ Ok f → Spells strict (canon f) f
 strict_read kind channel payload f fits c l h =
     let bytes = bytes_as kind channel payload in
-    let row : SpellsFrames plain None bytes (f ∷ []) = (bytes, [], sym (append-nil bytes), spells_plain kind channel payload f fits c l h, tt, refl) in
-    let canonical = (one_strict plain None bytes (f ∷ []) row).canonical in
+    let sequence : SpellsFrames plain None bytes (f ∷ []) = (bytes, [], sym (append-nil bytes), spells_plain kind channel payload f fits c l h, tt, refl) in
+    let canonical = (one_strict plain None bytes (f ∷ []) sequence).canonical in
     subst (λ (bs : List ℕ). Spells strict bs f) (first_is_canon canonical.0 f canonical.3) canonical.3
 
 pub is_line : (m : ℕ) (text payload canonical lined : List ℕ) (found : AMQPFrameType × ℕ) (done : Unit {0}) → IsBytes payload → found.1 < 2 ^ 16 → length payload < 2 ^ 32 → PutsBoth (found_raw found payload) canonical lined (Ok done) → IsBytes canonical → length canonical ≤ m + 8 → lined ≡ text → IsLineOf m text canonical
@@ -133,14 +133,14 @@ is_line m text payload canonical lined found done fits c l p bytes within same =
 pub read_here : (text front old payload : List ℕ) (r : Result (AMQPFrameType × ℕ) TextError) → front ≡ take (length text - 1) text → old ≡ [] → ReadsWords (read_words front) old payload r → ReadsWords (read_words (take (length text - 1) text)) [] payload r
 read_here text front old payload r is none h = rw (is, none) at h
 
-pub refused_line : (m : ℕ) (text payload canonical : List ℕ) (found : AMQPFrameType × ℕ) (error : StreamError) (r : Result Bool NoMemory) → ReadsWords (read_words (take (length text - 1) text)) [] payload (Ok found) → IsUntold (found_raw found payload) (cause_of error) → r ≢ Ok true → (r ≡ Ok false → error ≢ errors.NoMemory) → TellsLine m text canonical r
+pub refused_line : (m : ℕ) (text payload canonical : List ℕ) (found : AMQPFrameType × ℕ) (error : StreamError) (r : Result Bool NoMemory) → ReadsWords (read_words (take (length text - 1) text)) [] payload (Ok found) → HasNoLine (found_raw found payload) (cause_of error) → r ≢ Ok true → (r ≡ Ok false → error ≢ errors.NoMemory) → RendersLine m text canonical r
 refused_line m text payload canonical found error (Ok true) h u never none = absurd (never refl)
 refused_line m text payload canonical found error (Ok false) h u never none = none_put m text payload found error h (none refl) u
 refused_line m text payload canonical found error (Err bad) h u never none = tt
 
-pub told_line : (m : ℕ) (text payload canonical lined : List ℕ) (found : AMQPFrameType × ℕ) (done : Unit {0}) (same : Bool) → ReadsWords (read_words (take (length text - 1) text)) [] payload (Ok found) → IsBytes payload → found.1 < 2 ^ 16 → length payload < 2 ^ 32 → PutsBoth (found_raw found payload) canonical lined (Ok done) → IsBytes canonical → length canonical ≤ m + 8 → (IsTrue same ↔ lined ≡ text) → TellsLine m text canonical (Ok same)
-told_line m text payload canonical lined found done true h fits c l p bytes within same = is_line m text payload canonical lined found done fits c l p bytes within (same.0 refl)
-told_line m text payload canonical lined found done false h fits c l p bytes within same = none_other m text payload canonical lined found done h p (λ e. absurd (let x = same.1 e in cc))
+pub rendered_line : (m : ℕ) (text payload canonical lined : List ℕ) (found : AMQPFrameType × ℕ) (done : Unit {0}) (same : Bool) → ReadsWords (read_words (take (length text - 1) text)) [] payload (Ok found) → IsBytes payload → found.1 < 2 ^ 16 → length payload < 2 ^ 32 → PutsBoth (found_raw found payload) canonical lined (Ok done) → IsBytes canonical → length canonical ≤ m + 8 → (IsTrue same ↔ lined ≡ text) → RendersLine m text canonical (Ok same)
+rendered_line m text payload canonical lined found done true h fits c l p bytes within same = is_line m text payload canonical lined found done fits c l p bytes within (same.0 refl)
+rendered_line m text payload canonical lined found done false h fits c l p bytes within same = none_other m text payload canonical lined found done h p (λ e. absurd (let x = same.1 e in cc))
 
 -- canonical bytes above the limit
 pub large_by : (b : Bool) (n m : ℕ) → (IsTrue b ↔ n ≤ m) → b ≡ false → m < n

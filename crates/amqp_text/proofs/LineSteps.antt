@@ -10,7 +10,7 @@ use Rattle.amqp_frame.specs.declared.frame_type.AMQPFrameType.TheVariants as kin
 use Rattle.amqp_frame.specs.Frames.{Raw}
 use Rattle.amqp_text.specs.declared.errors.TextError.{TextError}
 use Rattle.amqp_text.specs.declared.errors.TextError.TheVariants as texts
-use Rattle.amqp_text.specs.Reading.{Reading, Reader, ◌>>=◌, read_bits, read_number, read_hex, read_slots, read_properties, strip, Finds, Reads}
+use Rattle.amqp_text.specs.Reading.{Reading, Reader, ◌>>=◌, read_bits, read_unsigned, read_hex, read_slots, read_properties, strip, FindsWord, ReadsWord}
 use Rattle.amqp_text.specs.ReadingLines.{read_id, read_later, read_version, read_fields, read_method_of, read_method, read_header, read_beat, of_kind, on_channel, by_word, read_words, ReadsWords}
 use Rattle.amqp_text.proofs.ReadSteps.{failed, both_read, parted_read}
 
@@ -24,55 +24,55 @@ pub id_unread : (text next : List ℕ) → next ≡ drop 1 text → read_bits 65
 unfolding read_id
 id_unread text next is h = ap (read_bits 65535) (sym is) ∙ h
 
-pub later_failed : {K L : Type 0} (view : K → List ℕ) (look : L → List ℕ) (text a b old new : List ℕ) (error : TextError) → Reads view (read_number bytes1 text) a b (Err error) → Reads look (read_later text) old new (Err error)
+pub later_failed : {K L : Type 0} (view : K → List ℕ) (look : L → List ℕ) (text a b old new : List ℕ) (error : TextError) → ReadsWord view (read_unsigned bytes1 text) a b (Err error) → ReadsWord look (read_later text) old new (Err error)
 unfolding read_later
-later_failed view look text a b old new error h = failed view look (read_number bytes1 text) (λ x. read_number bytes1 (drop 1 x.1) >>= λ y. Some (x.0 ++ y.0, y.1)) a b old new error h
+later_failed view look text a b old new error h = failed view look (read_unsigned bytes1 text) (λ x. read_unsigned bytes1 (drop 1 x.1) >>= λ y. Some (x.0 ++ y.0, y.1)) a b old new error h
 
-pub later_read : {K L : Type 0} (view : K → List ℕ) (look : L → List ℕ) (text next old mid new : List ℕ) (rest : K) (r : Result L TextError) → Reads view (read_number bytes1 text) old mid (Ok rest) → next ≡ drop 1 (view rest) → Reads look (read_number bytes1 next) mid new r → Reads look (read_later text) old new r
+pub later_read : {K L : Type 0} (view : K → List ℕ) (look : L → List ℕ) (text next old mid new : List ℕ) (rest : K) (r : Result L TextError) → ReadsWord view (read_unsigned bytes1 text) old mid (Ok rest) → next ≡ drop 1 (view rest) → ReadsWord look (read_unsigned bytes1 next) mid new r → ReadsWord look (read_later text) old new r
 unfolding read_later
-later_read view look text next old mid new rest r h at k = parted_read view look (read_number bytes1 text) (read_number bytes1) next old mid new rest r h at k
+later_read view look text next old mid new rest r h at k = parted_read view look (read_unsigned bytes1 text) (read_unsigned bytes1) next old mid new rest r h at k
 
-pub version_failed : {K L : Type 0} (view : K → List ℕ) (look : L → List ℕ) (text a b old new : List ℕ) (error : TextError) → Reads view (read_number bytes1 text) a b (Err error) → Reads look (read_version text) old new (Err error)
+pub version_failed : {K L : Type 0} (view : K → List ℕ) (look : L → List ℕ) (text a b old new : List ℕ) (error : TextError) → ReadsWord view (read_unsigned bytes1 text) a b (Err error) → ReadsWord look (read_version text) old new (Err error)
 unfolding read_version
-version_failed view look text a b old new error h = failed view look (read_number bytes1 text) (λ x. read_later (drop 1 x.1) >>= λ y. Some (x.0 ++ y.0, y.1)) a b old new error h
+version_failed view look text a b old new error h = failed view look (read_unsigned bytes1 text) (λ x. read_later (drop 1 x.1) >>= λ y. Some (x.0 ++ y.0, y.1)) a b old new error h
 
-pub version_read : {K L : Type 0} (view : K → List ℕ) (look : L → List ℕ) (text next old mid new : List ℕ) (rest : K) (r : Result L TextError) → Reads view (read_number bytes1 text) old mid (Ok rest) → next ≡ drop 1 (view rest) → Reads look (read_later next) mid new r → Reads look (read_version text) old new r
+pub version_read : {K L : Type 0} (view : K → List ℕ) (look : L → List ℕ) (text next old mid new : List ℕ) (rest : K) (r : Result L TextError) → ReadsWord view (read_unsigned bytes1 text) old mid (Ok rest) → next ≡ drop 1 (view rest) → ReadsWord look (read_later next) mid new r → ReadsWord look (read_version text) old new r
 unfolding read_version
-version_read view look text next old mid new rest r h at k = parted_read view look (read_number bytes1 text) read_later next old mid new rest r h at k
+version_read view look text next old mid new rest r h at k = parted_read view look (read_unsigned bytes1 text) read_later next old mid new rest r h at k
 
-pub header_failed : {K L : Type 0} (view : K → List ℕ) (look : L → List ℕ) (slots : List Slot) (text a b old new : List ℕ) (error : TextError) → slots ≡ header_slots → Reads view (read_slots slots text) a b (Err error) → Reads look (read_header text) old new (Err error)
+pub header_failed : {K L : Type 0} (view : K → List ℕ) (look : L → List ℕ) (slots : List Slot) (text a b old new : List ℕ) (error : TextError) → slots ≡ header_slots → ReadsWord view (read_slots slots text) a b (Err error) → ReadsWord look (read_header text) old new (Err error)
 unfolding read_header
 header_failed view look slots text a b old new error is h =
-    let P : List Slot → Type 0 = λ s. Reads view (read_slots s text) a b (Err error) in
+    let P : List Slot → Type 0 = λ s. ReadsWord view (read_slots s text) a b (Err error) in
     failed view look (read_slots header_slots text) (λ x. read_properties x.1 >>= λ y. Some (x.0 ++ y.0, y.1)) a b old new error (subst P is h)
 
-pub header_read : {K L : Type 0} (view : K → List ℕ) (look : L → List ℕ) (slots : List Slot) (text old mid new : List ℕ) (rest : K) (r : Result L TextError) → slots ≡ header_slots → Reads view (read_slots slots text) old mid (Ok rest) → Reads look (read_properties (view rest)) mid new r → Reads look (read_header text) old new r
+pub header_read : {K L : Type 0} (view : K → List ℕ) (look : L → List ℕ) (slots : List Slot) (text old mid new : List ℕ) (rest : K) (r : Result L TextError) → slots ≡ header_slots → ReadsWord view (read_slots slots text) old mid (Ok rest) → ReadsWord look (read_properties (view rest)) mid new r → ReadsWord look (read_header text) old new r
 unfolding read_header
 header_read view look slots text old mid new rest r is h k =
-    let P : List Slot → Type 0 = λ s. Reads view (read_slots s text) old mid (Ok rest) in
+    let P : List Slot → Type 0 = λ s. ReadsWord view (read_slots s text) old mid (Ok rest) in
     both_read view look (read_slots header_slots text) read_properties old mid new rest r (subst P is h) k
 
 -- ---- methods
 
-pub fields_read : {K : Type 0} (view : K → List ℕ) (slots : List Slot) (known : Option (List Slot)) (text old new : List ℕ) (r : Result K TextError) → Some slots ≡ known → Reads view (read_slots slots text) old new r → Reads view (read_fields known text) old new r
+pub fields_read : {K : Type 0} (view : K → List ℕ) (slots : List Slot) (known : Option (List Slot)) (text old new : List ℕ) (r : Result K TextError) → Some slots ≡ known → ReadsWord view (read_slots slots text) old new r → ReadsWord view (read_fields known text) old new r
 unfolding read_fields
-fields_read view slots known text old new r is h = let P : Option (List Slot) → Type 0 = λ o. Reads view (read_fields o text) old new r in subst P is h
+fields_read view slots known text old new r is h = let P : Option (List Slot) → Type 0 = λ o. ReadsWord view (read_fields o text) old new r in subst P is h
 
-pub fields_unread : {K : Type 0} (view : K → List ℕ) (known : Option (List Slot)) (text old new : List ℕ) (r : Result K TextError) → None ≡ known → Reads view (read_fields known text) old new r
+pub fields_unread : {K : Type 0} (view : K → List ℕ) (known : Option (List Slot)) (text old new : List ℕ) (r : Result K TextError) → None ≡ known → ReadsWord view (read_fields known text) old new r
 unfolding read_fields
-fields_unread view known text old new r is = let P : Option (List Slot) → Type 0 = λ o. Reads view (read_fields o text) old new r in subst P is tt
+fields_unread view known text old new r is = let P : Option (List Slot) → Type 0 = λ o. ReadsWord view (read_fields o text) old new r in subst P is tt
 
 pub method_of_unread : (class : ℕ) (text : List ℕ) → read_id text ≡ None → read_method_of class text ≡ None
 unfolding read_method_of
 method_of_unread class text h = ap (λ r. r >>= λ (id : ℕ × List ℕ). read_fields (slots_at class id.0) id.1 >>= λ (fields : List ℕ × List ℕ). Some (number_bytes bytes2 class ++ (number_bytes bytes2 id.0 ++ fields.0), fields.1)) h
 
-pub method_of_read : {K : Type 0} (view : K → List ℕ) (class id : ℕ) (text rest old a b new : List ℕ) (r : Result K TextError) → read_id text ≡ Some (id, rest) → a ≡ old ++ number_bytes bytes2 class → b ≡ a ++ number_bytes bytes2 id → Reads view (read_fields (slots_at class id) rest) b new r → Reads view (read_method_of class text) old new r
+pub method_of_read : {K : Type 0} (view : K → List ℕ) (class id : ℕ) (text rest old a b new : List ℕ) (r : Result K TextError) → read_id text ≡ Some (id, rest) → a ≡ old ++ number_bytes bytes2 class → b ≡ a ++ number_bytes bytes2 id → ReadsWord view (read_fields (slots_at class id) rest) b new r → ReadsWord view (read_method_of class text) old new r
 unfolding read_method_of
 method_of_read {K} view class id text rest old a b new r is first second h =
-    let P : Reading ℕ → Type 0 = λ j. Reads view (j >>= λ x. read_fields (slots_at class x.0) x.1 >>= λ fields. Some (number_bytes bytes2 class ++ (number_bytes bytes2 x.0 ++ fields.0), fields.1)) old new r in
+    let P : Reading ℕ → Type 0 = λ j. ReadsWord view (j >>= λ x. read_fields (slots_at class x.0) x.1 >>= λ fields. Some (number_bytes bytes2 class ++ (number_bytes bytes2 x.0 ++ fields.0), fields.1)) old new r in
     subst P (sym is) (on (read_fields (slots_at class id) rest) r h)
   where
-    on : (j : Reading (List ℕ)) (r : Result K TextError) → Reads view j b new r → Reads view (j >>= λ fields. Some (number_bytes bytes2 class ++ (number_bytes bytes2 id ++ fields.0), fields.1)) old new r
+    on : (j : Reading (List ℕ)) (r : Result K TextError) → ReadsWord view j b new r → ReadsWord view (j >>= λ fields. Some (number_bytes bytes2 class ++ (number_bytes bytes2 id ++ fields.0), fields.1)) old new r
     on None r k = tt
     on (Some fields) (Ok end) k = (k.0, k.1 ∙ ap (λ (xs : List ℕ). xs ++ fields.0) (second ∙ ap (λ (xs : List ℕ). xs ++ number_bytes bytes2 id) first) ∙ append_assoc (old ++ number_bytes bytes2 class) (number_bytes bytes2 id) fields.0 ∙ append_assoc old (number_bytes bytes2 class) (number_bytes bytes2 id ++ fields.0))
     on (Some fields) (Err texts.BadText) k = absurd k
@@ -82,9 +82,9 @@ pub method_unread : (text : List ℕ) → read_id text ≡ None → read_method 
 unfolding read_method
 method_unread text h = ap (λ r. r >>= λ (class : ℕ × List ℕ). read_method_of class.0 class.1) h
 
-pub method_read : {K : Type 0} (view : K → List ℕ) (class : ℕ) (text rest old new : List ℕ) (r : Result K TextError) → read_id text ≡ Some (class, rest) → Reads view (read_method_of class rest) old new r → Reads view (read_method text) old new r
+pub method_read : {K : Type 0} (view : K → List ℕ) (class : ℕ) (text rest old new : List ℕ) (r : Result K TextError) → read_id text ≡ Some (class, rest) → ReadsWord view (read_method_of class rest) old new r → ReadsWord view (read_method text) old new r
 unfolding read_method
-method_read view class text rest old new r is h = let P : Reading ℕ → Type 0 = λ j. Reads view (j >>= λ x. read_method_of x.0 x.1) old new r in subst P (sym is) h
+method_read view class text rest old new r is h = let P : Reading ℕ → Type 0 = λ j. ReadsWord view (j >>= λ x. read_method_of x.0 x.1) old new r in subst P (sym is) h
 
 -- ---- heartbeats
 
@@ -98,33 +98,33 @@ unfolding read_beat
 beat_some [] h = absurd (omega arith)
 beat_some (c ∷ cs) h = refl
 
-pub found_number : {K : Type 0} (view : K → List ℕ) (a b : Reading ℕ) (o : Option (ℕ × K)) → a ≡ b → Finds (λ (n : ℕ). n) view b o → Finds (λ (n : ℕ). n) view a o
-found_number view a b o e h = let P : Reading ℕ → Type 0 = λ x. Finds (λ (n : ℕ). n) view x o in subst P (sym e) h
+pub found_number : {K : Type 0} (view : K → List ℕ) (a b : Reading ℕ) (o : Option (ℕ × K)) → a ≡ b → FindsWord (λ (n : ℕ). n) view b o → FindsWord (λ (n : ℕ). n) view a o
+found_number view a b o e h = let P : Reading ℕ → Type 0 = λ x. FindsWord (λ (n : ℕ). n) view x o in subst P (sym e) h
 
 -- ---- kinds
 
-kind_on : {K : Type 0} (view : K → List ℕ) (kind : AMQPFrameType) (channel : ℕ) (old new : List ℕ) (rest : K) (j : Reading (List ℕ)) → Reads view j old new (Ok rest) → ReadsWords (of_kind kind channel j) old new (Ok (kind, channel))
+kind_on : {K : Type 0} (view : K → List ℕ) (kind : AMQPFrameType) (channel : ℕ) (old new : List ℕ) (rest : K) (j : Reading (List ℕ)) → ReadsWord view j old new (Ok rest) → ReadsWords (of_kind kind channel j) old new (Ok (kind, channel))
 kind_on view kind channel old new rest None h = tt
 kind_on view kind channel old new rest (Some read) h = (refl, refl, h.1)
 
-kind_off : {K : Type 0} (view : K → List ℕ) (kind : AMQPFrameType) (channel : ℕ) (old new : List ℕ) (error : TextError) (j : Reading (List ℕ)) → Reads view j old new (Err error) → ReadsWords (of_kind kind channel j) old new (Err error)
+kind_off : {K : Type 0} (view : K → List ℕ) (kind : AMQPFrameType) (channel : ℕ) (old new : List ℕ) (error : TextError) (j : Reading (List ℕ)) → ReadsWord view j old new (Err error) → ReadsWords (of_kind kind channel j) old new (Err error)
 kind_off view kind channel old new error None h = tt
 kind_off view kind channel old new texts.BadText (Some read) h = absurd h
 kind_off view kind channel old new texts.NoMemory (Some read) h = tt
 
-pub kind_read : {K : Type 0} (view : K → List ℕ) (kind : AMQPFrameType) (channel : ℕ) (reading : Reading (List ℕ)) (old new : List ℕ) (rest : K) → Reads view reading old new (Ok rest) → ReadsWords (of_kind kind channel reading) old new (Ok (kind, channel))
+pub kind_read : {K : Type 0} (view : K → List ℕ) (kind : AMQPFrameType) (channel : ℕ) (reading : Reading (List ℕ)) (old new : List ℕ) (rest : K) → ReadsWord view reading old new (Ok rest) → ReadsWords (of_kind kind channel reading) old new (Ok (kind, channel))
 kind_read view kind channel reading old new rest h = kind_on view kind channel old new rest reading h
 
-pub kind_failed : {K : Type 0} (view : K → List ℕ) (kind : AMQPFrameType) (channel : ℕ) (reading : Reading (List ℕ)) (old new : List ℕ) (error : TextError) → Reads view reading old new (Err error) → ReadsWords (of_kind kind channel reading) old new (Err error)
+pub kind_failed : {K : Type 0} (view : K → List ℕ) (kind : AMQPFrameType) (channel : ℕ) (reading : Reading (List ℕ)) (old new : List ℕ) (error : TextError) → ReadsWord view reading old new (Err error) → ReadsWords (of_kind kind channel reading) old new (Err error)
 kind_failed view kind channel reading old new error h = kind_off view kind channel old new error reading h
 
 pub channel_none : (kind : AMQPFrameType) (read : Reader (List ℕ)) (id : Reading ℕ) (old new : List ℕ) (r : Result (AMQPFrameType × ℕ) TextError) → id ≡ None → ReadsWords (on_channel kind read id) old new r
 channel_none kind read id old new r is = let P : Reading ℕ → Type 0 = λ j. ReadsWords (on_channel kind read j) old new r in subst P (sym is) tt
 
-pub channel_read : {K : Type 0} (view : K → List ℕ) (kind : AMQPFrameType) (read : Reader (List ℕ)) (id : Reading ℕ) (channel : ℕ) (text old new : List ℕ) (rest : K) → id ≡ Some (channel, text) → Reads view (read text) old new (Ok rest) → ReadsWords (on_channel kind read id) old new (Ok (kind, channel))
+pub channel_read : {K : Type 0} (view : K → List ℕ) (kind : AMQPFrameType) (read : Reader (List ℕ)) (id : Reading ℕ) (channel : ℕ) (text old new : List ℕ) (rest : K) → id ≡ Some (channel, text) → ReadsWord view (read text) old new (Ok rest) → ReadsWords (on_channel kind read id) old new (Ok (kind, channel))
 channel_read view kind read id channel text old new rest is h = let P : Reading ℕ → Type 0 = λ j. ReadsWords (on_channel kind read j) old new (Ok (kind, channel)) in subst P (sym is) (kind_read view kind channel (read text) old new rest h)
 
-pub channel_failed : {K : Type 0} (view : K → List ℕ) (kind : AMQPFrameType) (read : Reader (List ℕ)) (id : Reading ℕ) (channel : ℕ) (text old new : List ℕ) (error : TextError) → id ≡ Some (channel, text) → Reads view (read text) old new (Err error) → ReadsWords (on_channel kind read id) old new (Err error)
+pub channel_failed : {K : Type 0} (view : K → List ℕ) (kind : AMQPFrameType) (read : Reader (List ℕ)) (id : Reading ℕ) (channel : ℕ) (text old new : List ℕ) (error : TextError) → id ≡ Some (channel, text) → ReadsWord view (read text) old new (Err error) → ReadsWords (on_channel kind read id) old new (Err error)
 channel_failed view kind read id channel text old new error is h = let P : Reading ℕ → Type 0 = λ j. ReadsWords (on_channel kind read j) old new (Err error) in subst P (sym is) (kind_failed view kind channel (read text) old new error h)
 
 pub beat_read : (id : Reading ℕ) (channel : ℕ) (text old : List ℕ) → id ≡ Some (channel, text) → ReadsWords (on_channel kinds.Heartbeat (λ rest. Some ([], rest)) id) old old (Ok (kinds.Heartbeat, channel))

@@ -94,7 +94,7 @@ same_frame f g p q h = same_words f g p q (same_front (words f) (words g) (codes
 
 -- ---- sequences
 
-head_same : (x y : ℕ) (xs ys : List ℕ) → x ∷ xs ≡ y ∷ ys → (x ≡ y) × (xs ≡ ys)
+pub head_same : (x y : ℕ) (xs ys : List ℕ) → x ∷ xs ≡ y ∷ ys → (x ≡ y) × (xs ≡ ys)
 head_same x y xs ys h = (cc, cc)
 
 -- where newlines end the fronts, these are the same
@@ -122,9 +122,7 @@ split f g x y h =
     record { first = a.parts ∙ ap (λ (xs : List ℕ). xs ++ codes "\n") same.0 ∙ sym b.parts; others = same.1 }
 
 pub line_some : (f : Frame) (x : List ℕ) → [] ≡ line f ++ x → ⊥
-line_some f x h =
-    let a = one_newline f in
-    omega (arith, ap length h, length-append (line f) x, ap length a.parts, length-append a.front (10 ∷ []))
+line_some f x h = let a = one_newline f in omega (arith, ap length h, length-append (line f) x, ap length a.parts, length-append a.front (10 ∷ []))
 
 pub same_sequence : (fs gs : List Frame) → AllByRecursion IsStrict fs → AllByRecursion IsStrict gs → lines fs ≡ lines gs → fs ≡ gs
 unfolding lines

@@ -10,7 +10,7 @@ use Rattle.amqp_frame.specs.Verdicts.{verdict}
 use Rattle.amqp_frame.proofs.Spelled.{verdict-spelled}
 use Rattle.amqp_frame.proofs.Strictness.{frame_from_strict}
 use Rattle.amqp_text.specs.Lines.{line}
-use Rattle.amqp_text.specs.LineReading.{TellsLine}
+use Rattle.amqp_text.specs.LineReading.{RendersLine}
 use Rattle.amqp_text.specs.OneLine.{IsStrictWithin, IsLineOf, ParsesLine}
 
 pub parsed : {m : ℕ} {text canonical bytes : List ℕ} (frame : AMQPFrame) (n : ℕ) → IsLineOf m text canonical → bytes ≡ canonical → verdict plain None bytes ≡ took (frame_of frame) n → ParsesLine m text (Ok frame)
@@ -22,6 +22,6 @@ parsed {m = m} {text = text} frame n h same found =
     subst (λ (g : Frame). IsStrictWithin m g × (text ≡ line g)) is (h.strict_within, h.is_line)
 
 -- what is returned for a text that is a line
-pub is_told : {m : ℕ} {text canonical : List ℕ} (b : Bool) → TellsLine m text canonical (Ok b) → b ≡ true → IsLineOf m text canonical
-is_told true h e = h
-is_told false h e = absurd cc
+pub is_line : {m : ℕ} {text canonical : List ℕ} (b : Bool) → RendersLine m text canonical (Ok b) → b ≡ true → IsLineOf m text canonical
+is_line true h e = h
+is_line false h e = absurd cc

@@ -1,4 +1,4 @@
--- Values, arrays and tables are read back to the bytes that they tell, whatever follows.
+-- The text of values, arrays and tables is read back as their canonical bytes, whatever follows.
 use Rattle.std.proofs.Common.{◌≡◌, ℕ, zero, suc, ◌<◌, List, [], ◌∷◌, ◌++◌, length, drop, map, true, false, Option, Some, None, refl, sym, ap, subst, ◌∙◌, append_assoc, append-nil, arith}
 use Rattle.std.specs.Prelude.{codes, ◌==◌}
 use Rattle.std.specs.Fmt.{decimal}
@@ -16,7 +16,7 @@ use Rattle.amqp_types.specs.ValueSpelling.{SpellsEach, SpellsEntry, SpellsDecima
 use Rattle.amqp_values.proofs.Conversions.{entries_of-pairs, pairs-entries_of}
 use Rattle.amqp_text.specs.Words.{hex, quoted, parted}
 use Rattle.amqp_text.specs.Values.{tag_text, truth_text, content_text, values_texts, entries_texts, value_text, table_text}
-use Rattle.amqp_text.specs.Reading.{Reader, ◌>>=◌, is_hex, is_digit, read_number, read_truth, read_decimal, read_byte_array, listed, inside, or_comma, framed_long, read_entry, read_array, read_table, read_behind, read_tagged, read_nested, read_value}
+use Rattle.amqp_text.specs.Reading.{Reader, ◌>>=◌, is_hex, is_digit, read_unsigned, read_truth, read_decimal, read_byte_array, listed, inside, or_comma, framed_long, read_entry, read_array, read_table, read_behind, read_tagged, read_nested, read_value}
 use Rattle.amqp_text.proofs.ReadWords.{Ends, IsReadAs, Begins, begins_more, listed_end, listed_comma, listed_item, no_comma, bytes_behind, bytes_front, framed_back, long_content, number_back, signed_back, hex_back, long_string_back, short_string_back}
 
 -- ---- what fills an array or a table
@@ -63,7 +63,7 @@ module _ {A : Type 0} (item : Reader (List ℕ)) (Spells : List ℕ → A → Ty
       ∙ framed_back bytes inner rest framed
 
 -- a key and its value
-pub entry_text : Entry → List ℕ
+unfoldable pub entry_text : Entry → List ℕ
 entry_text e = quoted e.0 ++ (codes "=" ++ value_text e.1)
 
 equals_ends : is_hex 61 ≡ false
@@ -85,12 +85,12 @@ entry_begins : (e : Entry) → Begins 125 44 (entry_text e)
 unfolding entry_text quoted
 entry_begins e = record { some = omega arith; no_close = refl; no_comma = refl }
 
-values_are : (vs : FieldValues) → map value_text (items vs) ≡ values_texts vs
+pub values_are : (vs : FieldValues) → map value_text (items vs) ≡ values_texts vs
 unfolding value_text
 values_are no_values = refl
 values_are (next_value v vs) = ap (λ ts. (tag_text (tag_of v) ++ content_text v) ∷ ts) (values_are vs)
 
-entries_are : (es : FieldEntries) → map entry_text (pairs es) ≡ entries_texts es
+pub entries_are : (es : FieldEntries) → map entry_text (pairs es) ≡ entries_texts es
 unfolding entry_text value_text
 entries_are no_entries = refl
 entries_are (next_entry k v es) = ap (λ ts. (quoted k ++ (codes "=" ++ (tag_text (tag_of v) ++ content_text v))) ∷ ts) (entries_are es)
@@ -120,7 +120,7 @@ decimal_back bytes rest d fits h ends =
     let behind = h.behind in
     let tail = decimal h.two ++ rest in
     ap (λ (x : ℕ × ℕ). read_decimal ((decimal x.0 ++ (codes "/" ++ decimal x.1)) ++ rest)) h.joined ∙ ap read_decimal (append_assoc (decimal h.one) (47 ∷ decimal h.two) rest)
-    ∙ ap (λ r. r >>= λ (scale : List ℕ × List ℕ). read_number bytes4 (drop 1 scale.1) >>= λ (n : List ℕ × List ℕ). Some (scale.0 ++ n.0, n.1)) (number_back bytes1 front (47 ∷ tail) h.one (bytes_front front behind bytes h.bytes_are fits) h.first_is slash_ends)
+    ∙ ap (λ r. r >>= λ (scale : List ℕ × List ℕ). read_unsigned bytes4 (drop 1 scale.1) >>= λ (n : List ℕ × List ℕ). Some (scale.0 ++ n.0, n.1)) (number_back bytes1 front (47 ∷ tail) h.one (bytes_front front behind bytes h.bytes_are fits) h.first_is slash_ends)
     ∙ ap (λ r. r >>= λ (n : List ℕ × List ℕ). Some (front ++ n.0, n.1)) (number_back bytes4 behind rest h.two (bytes_behind front behind bytes h.bytes_are fits) h.second_is ends)
     ∙ ap (λ (bs : List ℕ). Some (bs, rest)) (sym h.bytes_are)
 
@@ -228,6 +228,6 @@ unfolding read_value read_nested SpellsValue
 value_back zero = tagged_back 0 None (λ _ _. ⊥) (record { value = λ some. absurd (omega arith); is = λ some. absurd (omega arith); read = λ some. absurd (omega arith) })
 value_back (suc room) = tagged_back (suc room) (Some (read_tagged (read_nested room))) (SpellsValue strict room) (record { value = λ some. read_value room; is = λ some. refl; read = λ some. value_back room })
 
--- a table that is a slot
+-- a table that is a field or a property
 pub field_table_back : IsReadAs (read_table (read_value 63)) (SpellsFieldTable strict) table_text
 field_table_back = table_back (read_value 63) (SpellsValue strict 63) (value_back 63)

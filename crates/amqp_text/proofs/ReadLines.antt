@@ -1,4 +1,4 @@
--- The words of a line are read back to the frame that they tell.
+-- The words of a frame are read back as that frame.
 use Rattle.std.proofs.Common.{◌≡◌, ℕ, zero, suc, ◌-◌, ◌^◌, ◌<◌, List, [], ◌∷◌, ◌++◌, get_or, drop, Some, false, refl, sym, ap, ap₂, subst, ◌∙◌, append_assoc, append-nil, arith}
 use Rattle.std.specs.Prelude.{codes, unwrap_or, ◌==◌}
 use Rattle.std.specs.Fmt.{decimal}
@@ -19,7 +19,7 @@ use Rattle.amqp_text.specs.Words.{hex}
 use Rattle.amqp_text.specs.Slots.{slots_text, form_text, set_text}
 use Rattle.amqp_text.specs.Lines.{spaced, method_words, header_words, beat_words, words}
 use Rattle.amqp_text.specs.Payloads.{IsPayload}
-use Rattle.amqp_text.specs.Reading.{Reader, ◌>>=◌, is_hex, is_digit, read_bits, read_number, read_hex, read_slots, read_properties}
+use Rattle.amqp_text.specs.Reading.{Reader, ◌>>=◌, is_hex, is_digit, read_bits, read_unsigned, read_hex, read_slots, read_properties}
 use Rattle.amqp_text.specs.ReadingLines.{read_id, read_version, read_later, read_fields, read_method_of, read_method, read_header, read_beat, of_kind, on_channel, read_words}
 use Rattle.amqp_text.proofs.ReadWords.{Ends, bytes_behind, bytes_front, other, number_back, bits_back, hex_back}
 use Rattle.amqp_text.proofs.ReadSlots.{slots_back, slots_end, set_end, space_ends, properties_back}
@@ -37,7 +37,7 @@ byte_only : (n i : ℕ) → get_or (number_bytes bytes1 n) i 0 < 256
 byte_only n zero = omega arith
 byte_only n (suc i) = omega arith
 
-octet_back : (n : ℕ) (rest : List ℕ) → n < 2 ^ 8 → Ends rest → read_number bytes1 (decimal n ++ rest) ≡ Some (n ∷ [], rest)
+octet_back : (n : ℕ) (rest : List ℕ) → n < 2 ^ 8 → Ends rest → read_unsigned bytes1 (decimal n ++ rest) ≡ Some (n ∷ [], rest)
 octet_back n rest h e =
     let low : number_bytes bytes1 n ≡ n ∷ [] = ap (λ (k : ℕ). k ∷ []) (omega arith) in
     number_back bytes1 (number_bytes bytes1 n) rest n (λ i. byte_only n i) (record { fits = h; bytes_are = refl }) e ∙ ap (λ (bs : List ℕ). Some (bs, rest)) low
@@ -48,8 +48,8 @@ version_back a b c ha hb hc =
     let last = decimal c in
     let middle = decimal b ++ (46 ∷ last) in
     ap (λ r. r >>= λ (x : List ℕ × List ℕ). read_later (drop 1 x.1) >>= λ (y : List ℕ × List ℕ). Some (x.0 ++ y.0, y.1)) (octet_back a (46 ∷ middle) ha dot_ends)
-    ∙ ap (λ r. (r >>= λ (y : List ℕ × List ℕ). read_number bytes1 (drop 1 y.1) >>= λ (z : List ℕ × List ℕ). Some (y.0 ++ z.0, z.1)) >>= λ (y : List ℕ × List ℕ). Some (a ∷ y.0, y.1)) (octet_back b (46 ∷ last) hb dot_ends)
-    ∙ ap (λ r. (r >>= λ (z : List ℕ × List ℕ). Some (b ∷ z.0, z.1)) >>= λ (y : List ℕ × List ℕ). Some (a ∷ y.0, y.1)) (ap (read_number bytes1) (sym (append-nil last)) ∙ octet_back c [] hc tt)
+    ∙ ap (λ r. (r >>= λ (y : List ℕ × List ℕ). read_unsigned bytes1 (drop 1 y.1) >>= λ (z : List ℕ × List ℕ). Some (y.0 ++ z.0, z.1)) >>= λ (y : List ℕ × List ℕ). Some (a ∷ y.0, y.1)) (octet_back b (46 ∷ last) hb dot_ends)
+    ∙ ap (λ r. (r >>= λ (z : List ℕ × List ℕ). Some (b ∷ z.0, z.1)) >>= λ (y : List ℕ × List ℕ). Some (a ∷ y.0, y.1)) (ap (read_unsigned bytes1) (sym (append-nil last)) ∙ octet_back c [] hc tt)
 
 -- ---- a method
 
@@ -134,8 +134,8 @@ beat_back channel fits = ap (read_bits (2 ^ 16 - 1)) (sym (append-nil (decimal c
 bad_beat_back : (channel : ℕ) → 0 < channel → channel < 2 ^ 16 → read_words (codes "beat" ++ beat_words channel) ≡ Some (record { kind = kinds.Heartbeat; channel = channel; payload = [] })
 unfolding read_words
 bad_beat_back channel some fits =
-    let told : beat_words channel ≡ spaced channel = other (channel == 0) _ _ (ne_eqb channel 0 (λ e. absurd (omega arith))) in
-    ap (λ (xs : List ℕ). read_words (codes "beat" ++ xs)) told ∙ ap (on_channel kinds.Heartbeat (λ rest. Some ([], rest))) (beat_back channel fits)
+    let rendered : beat_words channel ≡ spaced channel = other (channel == 0) _ _ (ne_eqb channel 0 (λ e. absurd (omega arith))) in
+    ap (λ (xs : List ℕ). read_words (codes "beat" ++ xs)) rendered ∙ ap (on_channel kinds.Heartbeat (λ rest. Some ([], rest))) (beat_back channel fits)
 
 pub words_back : (f : Frame) (payload : List ℕ) → IsBytes payload → IsPayload payload f → IsNumbered f → read_words (words f) ≡ Some (record { kind = kind_of f; channel = channel_id_of f; payload = payload })
 unfolding read_words words read_beat

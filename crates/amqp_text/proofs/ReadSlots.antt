@@ -1,4 +1,4 @@
--- Slots and properties are read back to the bytes that they tell.
+-- The text of fields and properties is read back as their canonical bytes.
 use Rattle.std.proofs.Common.{◌≡◌, ℕ, ◌+◌, ◌%◌, ◌^◌, ◌<◌, List, [], ◌∷◌, ◌++◌, length, take, drop, Bool, true, false, cond, Option, Some, None, refl, sym, ap, ap₂, ◌∙◌, append_assoc, arith}
 use Rattle.std.specs.Prelude.{codes, ◌&&◌, ◌==◌, if◌then◌else◌}
 use Rattle.std.proofs.lemmas.Bool.{eq-eqb}
@@ -22,12 +22,13 @@ use Rattle.amqp_values.proofs.SlotLaws.{both_true}
 use Rattle.amqp_properties.proofs.PropertyLaws.{properties_lawful}
 use Rattle.amqp_text.specs.Words.{signs}
 use Rattle.amqp_text.specs.Slots.{form_text, slots_text, property_name, option_text, set_text}
-use Rattle.amqp_text.specs.Reading.{◌>>=◌, is_hex, is_digit, read_number, read_signs, read_flags, read_short_string, read_long_string, read_table, read_value, read_form, read_slot, read_slots, strip, named, read_option, read_set, read_properties}
+use Rattle.amqp_text.specs.Reading.{◌>>=◌, is_hex, is_digit, read_unsigned, read_signs, read_flags, read_short_string, read_long_string, read_table, read_value, read_form, read_slot, read_slots, strip, named, read_option, read_set, read_properties}
 use Rattle.amqp_text.proofs.ReadWords.{Ends, IsReadAs, bytes_behind, bytes_front, number_back, long_string_back, short_string_back, signs_back}
 use Rattle.amqp_text.proofs.ReadBack.{field_table_back}
-use Rattle.amqp_text.proofs.SlotsBack.{one_text, give_one_each}
+use Rattle.amqp_text.proofs.SlotsBack.{one_text, give_one_each, plain_form}
+use Rattle.amqp_properties.proofs.Options.{counted_one}
 
--- ---- one slot
+-- ---- one field
 
 flags_read : (count byte : ℕ) (rest : List ℕ) → byte < 256 → byte < 2 ^ count → read_signs count (signs (flags_from count 0 byte) ++ rest) ≡ Some (byte, rest)
 flags_read count byte rest fits below =
@@ -37,7 +38,7 @@ flags_read count byte rest fits below =
 
 form_back : (form : Form) → IsReadAs (read_form form) (SpellsForm strict form) (form_text form)
 unfolding read_form form_text read_flags
-form_back (number_form width) bytes rest items fits h e = ap (λ xs. read_number width (form_text (number_form width) xs ++ rest)) h.made ∙ number_back width bytes rest h.thing fits h.spelled e
+form_back (number_form width) bytes rest items fits h e = ap (λ xs. read_unsigned width (form_text (number_form width) xs ++ rest)) h.made ∙ number_back width bytes rest h.thing fits h.spelled e
 form_back (flags_form count) bytes rest items fits h e =
     let s = h.spelled in
     ap (λ xs. read_flags count (signs (flags_of xs) ++ rest)) h.made ∙ ap (λ flags. read_flags count (signs flags ++ rest)) (flags_of-map h.thing ∙ s.flags_are)
@@ -47,10 +48,7 @@ form_back short_string_form bytes rest items fits h e = ap (λ xs. read_short_st
 form_back long_string_form bytes rest items fits h e = ap (λ xs. read_long_string (form_text long_string_form xs ++ rest)) h.made ∙ long_string_back bytes rest h.thing fits h.spelled e
 form_back table_form bytes rest items fits h e = ap (λ xs. read_table (read_value 63) (form_text table_form xs ++ rest)) h.made ∙ field_table_back bytes rest h.thing fits h.spelled e
 
-plain_form : (form : Form) (bytes : List ℕ) (items : List Item) → SpellsForm strict form bytes items → SpellsForm plain form bytes items
-plain_form form bytes items h = (forms_lawful form).tidy_is_plain bytes items ((forms_lawful form).strict_is_tidy bytes items h)
-
--- ---- slots, one after another
+-- ---- fields, one after another
 
 pub space_ends : is_hex 32 ≡ false
 unfolding is_hex is_digit
@@ -123,7 +121,7 @@ name_parts bit words tail =
     let name = property_name bit in
     ap (λ (xs : List ℕ). 32 ∷ xs) (append_assoc name (61 ∷ words) tail ∙ sym (append_assoc name (61 ∷ []) (words ++ tail)))
 
--- where no later property is told by this name, none is at the front
+-- where no later property has this name, their text does not begin with it
 strip_none : (bit : ℕ) (ps : List Property) (options : List (Option Item)) → apart_from bit ps ≡ true → strip (named bit) (set_text ps options) ≡ None
 unfolding set_text option_text
 strip_none bit [] options h = refl
@@ -140,13 +138,6 @@ set_end (p ∷ ps) [] = tt
 set_end (p ∷ ps) (None ∷ options) = set_end ps options
 set_end (p ∷ ps) (Some item ∷ options) = space_ends
 
-one_count : (form : Form) → gives_one form ≡ true → item_count form ≡ 1
-one_count (number_form width) h = refl
-one_count (flags_form count) h = absurd cc
-one_count short_string_form h = refl
-one_count long_string_form h = refl
-one_count table_form h = refl
-
 worth_some : (worth : ℕ) (items : List Item) → length items ≡ 1 → worth_of worth (first_item items) ≡ worth
 unfolding worth_of
 worth_some worth [] h = absurd (omega arith)
@@ -160,7 +151,7 @@ option_back true p ps front option options one apart fits h =
     let words = form_text p.form h.thing in
     let count = (form_gives p.form front h.thing (plain_form p.form front h.thing h.spelled)).count in
     let text = ap (λ (o : Option Item). option_text p o ++ tail) h.made ∙ ap (λ (xs : List ℕ). xs ++ tail) (one_text p.form h.thing p refl one count) ∙ name_parts p.bit words tail in
-    let worth : worth_of (2 ^ p.bit) option ≡ 2 ^ p.bit = ap (worth_of (2 ^ p.bit)) h.made ∙ worth_some (2 ^ p.bit) h.thing (count ∙ one_count p.form one) in
+    let worth : worth_of (2 ^ p.bit) option ≡ 2 ^ p.bit = ap (worth_of (2 ^ p.bit)) h.made ∙ worth_some (2 ^ p.bit) h.thing (count ∙ counted_one p.form one) in
     ap (λ (xs : List ℕ). read_option p (strip (named p.bit) xs) xs) text
     ∙ ap (λ (o : Option (List ℕ)). read_option p o (named p.bit ++ (words ++ tail))) (strip_front (named p.bit) (words ++ tail))
     ∙ ap (λ r. r >>= λ (x : List ℕ × List ℕ). Some ((2 ^ p.bit % 2 ^ 16, x.0), x.1)) (form_back p.form front tail h.thing fits h.spelled (set_end ps options))

@@ -13,7 +13,7 @@ use Rattle.amqp_types.specs.declared.tag.FieldTag.{FieldTag}
 use Rattle.amqp_types.specs.declared.tag.FieldTag.TheVariants as tag
 use Rattle.amqp_text.specs.declared.errors.TextError.{TextError}
 use Rattle.amqp_text.specs.declared.errors.TextError.TheVariants as texts
-use Rattle.amqp_text.specs.Reading.{Reading, Reader, ◌>>=◌, first_is, is_digit, read_digits, capped, below_zero, read_number, read_decimal, read_short_string, read_entry, with_sign, read_signs, is_hex, nibble, read_hex, read_bits, read_escaped, listed, inside, or_comma, read_negative, read_positive, framed_long, framed_short, after_colon, read_after, read_behind, read_tagged, read_nested, read_value, read_array, read_table, Finds, Reads}
+use Rattle.amqp_text.specs.Reading.{Reading, Reader, ◌>>=◌, first_is, is_digit, read_digits, capped, below_zero, read_unsigned, read_decimal, read_short_string, read_entry, with_sign, read_signs, is_hex, nibble, read_hex, read_bits, read_escaped, listed, inside, or_comma, read_negative, read_positive, framed_long, framed_short, after_colon, read_after, read_behind, read_tagged, read_nested, read_value, read_array, read_table, FindsWord, ReadsWord}
 use Rattle.amqp_text.proofs.ReadWords.{chosen, other}
 
 -- ---- ends
@@ -24,33 +24,33 @@ none_some x h = cc
 both_same : (a c b d : List ℕ) → ◌≡◌ {A = Reading (List ℕ)} (Some (a, b)) (Some (c, d)) → (a ≡ c) × (b ≡ d)
 both_same a c b d h = let e : ◌≡◌ {A = List ℕ × List ℕ} (a, b) (c, d) = cc in (ap (λ (p : List ℕ × List ℕ). p.0) e, ap (λ (p : List ℕ × List ℕ). p.1) e)
 
-pub out_of_memory : {K : Type 0} (view : K → List ℕ) (reading : Reading (List ℕ)) (old new : List ℕ) → Reads view reading old new (Err texts.NoMemory)
+pub out_of_memory : {K : Type 0} (view : K → List ℕ) (reading : Reading (List ℕ)) (old new : List ℕ) → ReadsWord view reading old new (Err texts.NoMemory)
 out_of_memory view None old new = tt
 out_of_memory view (Some read) old new = tt
 
-pub memory_gone : {K : Type 0} (view : K → List ℕ) (reading : Reading (List ℕ)) (old new : List ℕ) (error : TextError) → error ≡ texts.NoMemory → Reads view reading old new (Err error)
-memory_gone view reading old new error is = let P : TextError → Type 0 = λ e. Reads view reading old new (Err e) in subst P (sym is) (out_of_memory view reading old new)
+pub memory_gone : {K : Type 0} (view : K → List ℕ) (reading : Reading (List ℕ)) (old new : List ℕ) (error : TextError) → error ≡ texts.NoMemory → ReadsWord view reading old new (Err error)
+memory_gone view reading old new error is = let P : TextError → Type 0 = λ e. ReadsWord view reading old new (Err e) in subst P (sym is) (out_of_memory view reading old new)
 
-pub unread : {K : Type 0} (view : K → List ℕ) (reading : Reading (List ℕ)) (old new : List ℕ) (r : Result K TextError) → reading ≡ None → Reads view reading old new r
+pub unread : {K : Type 0} (view : K → List ℕ) (reading : Reading (List ℕ)) (old new : List ℕ) (r : Result K TextError) → reading ≡ None → ReadsWord view reading old new r
 unread view None old new r h = tt
 unread view (Some read) old new r h = absurd cc
 
-pub read_so : {K : Type 0} (view : K → List ℕ) (reading : Reading (List ℕ)) (old new bytes : List ℕ) (rest : K) → reading ≡ Some (bytes, view rest) → new ≡ old ++ bytes → Reads view reading old new (Ok rest)
+pub read_so : {K : Type 0} (view : K → List ℕ) (reading : Reading (List ℕ)) (old new bytes : List ℕ) (rest : K) → reading ≡ Some (bytes, view rest) → new ≡ old ++ bytes → ReadsWord view reading old new (Ok rest)
 read_so view None old new bytes rest is h = tt
 read_so view (Some read) old new bytes rest is h = let e : read ≡ (bytes, view rest) = cc in (ap (λ (x : List ℕ × List ℕ). x.1) (sym e), h ∙ ap (λ (x : List ℕ × List ℕ). old ++ x.0) (sym e))
 
 -- where a part is not read, nothing is
-pub failed : {K L : Type 0} (view : K → List ℕ) (look : L → List ℕ) (reading : Reading (List ℕ)) (f : List ℕ × List ℕ → Reading (List ℕ)) (a b old new : List ℕ) (error : TextError) → Reads view reading a b (Err error) → Reads look (reading >>= f) old new (Err error)
+pub failed : {K L : Type 0} (view : K → List ℕ) (look : L → List ℕ) (reading : Reading (List ℕ)) (f : List ℕ × List ℕ → Reading (List ℕ)) (a b old new : List ℕ) (error : TextError) → ReadsWord view reading a b (Err error) → ReadsWord look (reading >>= f) old new (Err error)
 failed view look None f a b old new error h = tt
 failed view look (Some read) f a b old new texts.BadText h = absurd h
 failed view look (Some read) f a b old new texts.NoMemory h = out_of_memory look (f read) old new
 
 -- one thing after another
-pub both_read : {K L : Type 0} (view : K → List ℕ) (look : L → List ℕ) (reading : Reading (List ℕ)) (next : Reader (List ℕ)) (old mid new : List ℕ) (rest : K) (r : Result L TextError) → Reads view reading old mid (Ok rest) → Reads look (next (view rest)) mid new r → Reads look (reading >>= λ one. next one.1 >>= λ others. Some (one.0 ++ others.0, others.1)) old new r
+pub both_read : {K L : Type 0} (view : K → List ℕ) (look : L → List ℕ) (reading : Reading (List ℕ)) (next : Reader (List ℕ)) (old mid new : List ℕ) (rest : K) (r : Result L TextError) → ReadsWord view reading old mid (Ok rest) → ReadsWord look (next (view rest)) mid new r → ReadsWord look (reading >>= λ one. next one.1 >>= λ others. Some (one.0 ++ others.0, others.1)) old new r
 both_read {L = L} view look None next old mid new rest r h k = tt
-both_read {L = L} view look (Some one) next old mid new rest r h k = on (next one.1) r (let P : List ℕ → Type 0 = λ text. Reads look (next text) mid new r in subst P h.0 k)
+both_read {L = L} view look (Some one) next old mid new rest r h k = on (next one.1) r (let P : List ℕ → Type 0 = λ text. ReadsWord look (next text) mid new r in subst P h.0 k)
   where
-    on : (j : Reading (List ℕ)) (r : Result L TextError) → Reads look j mid new r → Reads look (j >>= λ others. Some (one.0 ++ others.0, others.1)) old new r
+    on : (j : Reading (List ℕ)) (r : Result L TextError) → ReadsWord look j mid new r → ReadsWord look (j >>= λ others. Some (one.0 ++ others.0, others.1)) old new r
     on None r k = tt
     on (Some others) (Ok end) k = (k.0, k.1 ∙ ap (λ (xs : List ℕ). xs ++ others.0) h.1 ∙ append_assoc old one.0 others.0)
     on (Some others) (Err texts.BadText) k = absurd k
@@ -102,12 +102,12 @@ below_within reading n most rest h within = ap (λ r. r >>= below_zero most) h �
 pub below_beyond : (reading : Reading ℕ) (n most : ℕ) (rest : List ℕ) → reading ≡ Some (n, rest) → most < n → (reading >>= below_zero most) ≡ None
 below_beyond reading n most rest h beyond = ap (λ r. r >>= below_zero most) h ∙ other (nat_le n most) _ _ (grind (arith, nat_tests))
 
-pub number_read : (width : NumberWidth) (most n : ℕ) (text rest : List ℕ) → most ≡ number_limit width - 1 → read_bits most text ≡ Some (n, rest) → read_number width text ≡ Some (number_bytes width n, rest)
-unfolding read_number
+pub number_read : (width : NumberWidth) (most n : ℕ) (text rest : List ℕ) → most ≡ number_limit width - 1 → read_bits most text ≡ Some (n, rest) → read_unsigned width text ≡ Some (number_bytes width n, rest)
+unfolding read_unsigned
 number_read width most n text rest is h = ap (λ (m : ℕ). read_bits m text >>= λ (x : ℕ × List ℕ). Some (number_bytes width x.0, x.1)) (sym is) ∙ ap (λ r. r >>= λ (x : ℕ × List ℕ). Some (number_bytes width x.0, x.1)) h
 
-pub number_unread : (width : NumberWidth) (most : ℕ) (text : List ℕ) → most ≡ number_limit width - 1 → read_bits most text ≡ None → read_number width text ≡ None
-unfolding read_number
+pub number_unread : (width : NumberWidth) (most : ℕ) (text : List ℕ) → most ≡ number_limit width - 1 → read_bits most text ≡ None → read_unsigned width text ≡ None
+unfolding read_unsigned
 number_unread width most text is h = ap (λ (m : ℕ). read_bits m text >>= λ (x : ℕ × List ℕ). Some (number_bytes width x.0, x.1)) (sym is) ∙ ap (λ r. r >>= λ (x : ℕ × List ℕ). Some (number_bytes width x.0, x.1)) h
 
 -- ---- things one after another
@@ -161,17 +161,17 @@ no_hex (a ∷ []) some h = absurd (omega arith)
 no_hex (a ∷ b ∷ cs) some h = other (is_hex a) _ _ h
 
 -- all of it is there
-hex_all : {K : Type 0} (view : K → List ℕ) (i old now : List ℕ) (rest : K) → GoesOn IsHexRead i old (view rest) now → read_hex (view rest) ≡ Some ([], view rest) → (j : Reading (List ℕ)) → read_hex i ≡ j → Reads view j old now (Ok rest)
+hex_all : {K : Type 0} (view : K → List ℕ) (i old now : List ℕ) (rest : K) → GoesOn IsHexRead i old (view rest) now → read_hex (view rest) ≡ Some ([], view rest) → (j : Reading (List ℕ)) → read_hex i ≡ j → ReadsWord view j old now (Ok rest)
 hex_all view i old now rest h none None e = tt
 hex_all view i old now rest h none (Some read) e =
     let l = h.left read.0 read.1 (record { is = e }) in
     let same = both_same [] l.0 (view rest) read.1 (sym none ∙ l.1.is) in
     (same.1, sym (append-nil now) ∙ ap (λ (xs : List ℕ). now ++ xs) same.0 ∙ l.2)
 
-pub hex_short : {K : Type 0} (view : K → List ℕ) {i old now : List ℕ} (rest : K) → GoesOn IsHexRead i old (view rest) now → length (view rest) < 2 → Reads view (read_hex i) old now (Ok rest)
+pub hex_short : {K : Type 0} (view : K → List ℕ) {i old now : List ℕ} (rest : K) → GoesOn IsHexRead i old (view rest) now → length (view rest) < 2 → ReadsWord view (read_hex i) old now (Ok rest)
 hex_short view {i = i} {old = old} {now = now} rest h few = hex_all view i old now rest h (short_hex (view rest) few) (read_hex i) refl
 
-pub hex_done : {K : Type 0} (view : K → List ℕ) {i old now : List ℕ} (rest : K) → GoesOn IsHexRead i old (view rest) now → 2 ≤ length (view rest) → is_hex (get_or (view rest) 0 0) ≡ false → Reads view (read_hex i) old now (Ok rest)
+pub hex_done : {K : Type 0} (view : K → List ℕ) {i old now : List ℕ} (rest : K) → GoesOn IsHexRead i old (view rest) now → 2 ≤ length (view rest) → is_hex (get_or (view rest) 0 0) ≡ false → ReadsWord view (read_hex i) old now (Ok rest)
 hex_done view {i = i} {old = old} {now = now} rest h some d = hex_all view i old now rest h (no_hex (view rest) some d) (read_hex i) refl
 
 -- ---- things up to a closing character
@@ -216,7 +216,7 @@ closed_by item close text bytes end on h = by_count h.count h.is
     by_count (suc count) k = let same = both_same [] bytes (drop 1 text) end (sym (chosen (first_is close text) _ _ on) ∙ k) in (sym same.0, sym same.1)
 
 module _ {K : Type 0} (view : K → List ℕ) (item : Reader (List ℕ)) (close : ℕ) where
-  item_step : (i old rest now mid : List ℕ) (next : K) → GoesOn (IsListed item close) i old rest now → first_is close rest ≡ false → (j : Reading (List ℕ)) → item rest ≡ j → Reads view j now mid (Ok next) → GoesOn (IsListed item close) i old (view next) mid
+  item_step : (i old rest now mid : List ℕ) (next : K) → GoesOn (IsListed item close) i old rest now → first_is close rest ≡ false → (j : Reading (List ℕ)) → item rest ≡ j → ReadsWord view j now mid (Ok next) → GoesOn (IsListed item close) i old (view next) mid
   item_step i old rest now mid next h off None e r = record {
     left = λ bytes end all. let l = h.left bytes end all in let a = after_item item close rest l.0 end off l.1 in absurd (none_some (a.one, a.rest) (sym e ∙ a.read));
   }
@@ -231,57 +231,57 @@ module _ {K : Type 0} (view : K → List ℕ) (item : Reader (List ℕ)) (close 
         );
   }
 
-  pub listed_on : {i old rest now : List ℕ} (mid : List ℕ) (next : K) → GoesOn (IsListed item close) i old rest now → first_is close rest ≡ false → Reads view (item rest) now mid (Ok next) → GoesOn (IsListed item close) i old (view next) mid
+  pub listed_on : {i old rest now : List ℕ} (mid : List ℕ) (next : K) → GoesOn (IsListed item close) i old rest now → first_is close rest ≡ false → ReadsWord view (item rest) now mid (Ok next) → GoesOn (IsListed item close) i old (view next) mid
   listed_on {i = i} {old = old} {rest = rest} {now = now} mid next h off r = item_step i old rest now mid next h off (item rest) refl r
 
-  pub listed_done : {i old rest now : List ℕ} (count : ℕ) (after : K) → GoesOn (IsListed item close) i old rest now → first_is close rest ≡ true → view after ≡ drop 1 rest → Reads view (listed item close count i) old now (Ok after)
+  pub listed_done : {i old rest now : List ℕ} (count : ℕ) (after : K) → GoesOn (IsListed item close) i old rest now → first_is close rest ≡ true → view after ≡ drop 1 rest → ReadsWord view (listed item close count i) old now (Ok after)
   listed_done {i = i} {old = old} {rest = rest} {now = now} count after h on is = by (listed item close count i) refl
     where
-      by : (j : Reading (List ℕ)) → listed item close count i ≡ j → Reads view j old now (Ok after)
+      by : (j : Reading (List ℕ)) → listed item close count i ≡ j → ReadsWord view j old now (Ok after)
       by None e = tt
       by (Some read) e =
           let l = h.left read.0 read.1 (record { count = count; is = e }) in
           let c = closed_by item close rest l.0 read.1 on l.1 in
           (is ∙ sym c.1, sym (append-nil now) ∙ ap (λ (xs : List ℕ). now ++ xs) (sym c.0) ∙ l.2)
 
-  pub listed_failed : {i old rest now : List ℕ} (count : ℕ) (mid : List ℕ) (error : TextError) → GoesOn (IsListed item close) i old rest now → first_is close rest ≡ false → Reads view (item rest) now mid (Err error) → Reads view (listed item close count i) old mid (Err error)
+  pub listed_failed : {i old rest now : List ℕ} (count : ℕ) (mid : List ℕ) (error : TextError) → GoesOn (IsListed item close) i old rest now → first_is close rest ≡ false → ReadsWord view (item rest) now mid (Err error) → ReadsWord view (listed item close count i) old mid (Err error)
   listed_failed {i = i} {old = old} {rest = rest} {now = now} count mid texts.NoMemory h off r = out_of_memory view (listed item close count i) old mid
   listed_failed {i = i} {old = old} {rest = rest} {now = now} count mid texts.BadText h off r = by (listed item close count i) refl
     where
-      on : (read : List ℕ × List ℕ) → listed item close count i ≡ Some read → (j : Reading (List ℕ)) → item rest ≡ j → Reads view j now mid (Err texts.BadText) → ⊥
+      on : (read : List ℕ × List ℕ) → listed item close count i ≡ Some read → (j : Reading (List ℕ)) → item rest ≡ j → ReadsWord view j now mid (Err texts.BadText) → ⊥
       on read e (Some one) f k = k
       on read e None f k =
           let l = h.left read.0 read.1 (record { count = count; is = e }) in
           let a = after_item item close rest l.0 read.1 off l.1 in
           none_some (a.one, a.rest) (sym f ∙ a.read)
 
-      by : (j : Reading (List ℕ)) → listed item close count i ≡ j → Reads view j old mid (Err texts.BadText)
+      by : (j : Reading (List ℕ)) → listed item close count i ≡ j → ReadsWord view j old mid (Err texts.BadText)
       by None e = tt
       by (Some read) e = on read e (item rest) refl r
 
-  pub inside_done : (text : List ℕ) {old rest now : List ℕ} (after : K) → GoesOn (IsListed item close) (drop 1 text) old rest now → first_is close rest ≡ true → view after ≡ drop 1 rest → Reads view (inside item close text) old now (Ok after)
+  pub inside_done : (text : List ℕ) {old rest now : List ℕ} (after : K) → GoesOn (IsListed item close) (drop 1 text) old rest now → first_is close rest ≡ true → view after ≡ drop 1 rest → ReadsWord view (inside item close text) old now (Ok after)
   unfolding inside
   inside_done text after h on is = listed_done (length text) after h on is
 
-  pub inside_failed : (text : List ℕ) {old rest now : List ℕ} (mid : List ℕ) (error : TextError) → GoesOn (IsListed item close) (drop 1 text) old rest now → first_is close rest ≡ false → Reads view (item rest) now mid (Err error) → Reads view (inside item close text) old mid (Err error)
+  pub inside_failed : (text : List ℕ) {old rest now : List ℕ} (mid : List ℕ) (error : TextError) → GoesOn (IsListed item close) (drop 1 text) old rest now → first_is close rest ≡ false → ReadsWord view (item rest) now mid (Err error) → ReadsWord view (inside item close text) old mid (Err error)
   unfolding inside
   inside_failed text mid error h off r = listed_failed (length text) mid error h off r
 
-pub comma_read : {K : Type 0} (view : K → List ℕ) (item : Reader (List ℕ)) (text old new : List ℕ) (after : K) → first_is 44 text ≡ true → view after ≡ drop 1 text → new ≡ old → Reads view (or_comma item text) old new (Ok after)
+pub comma_read : {K : Type 0} (view : K → List ℕ) (item : Reader (List ℕ)) (text old new : List ℕ) (after : K) → first_is 44 text ≡ true → view after ≡ drop 1 text → new ≡ old → ReadsWord view (or_comma item text) old new (Ok after)
 unfolding or_comma
 comma_read view item text old new after on is same = read_so view (or_comma item text) old new [] after (chosen (first_is 44 text) _ _ on ∙ ap (λ (t : List ℕ). Some ([], t)) (sym is)) (same ∙ sym (append-nil old))
 
-pub thing_read : {K : Type 0} (view : K → List ℕ) (item : Reader (List ℕ)) (text old new : List ℕ) (r : Result K TextError) → first_is 44 text ≡ false → Reads view (item text) old new r → Reads view (or_comma item text) old new r
+pub thing_read : {K : Type 0} (view : K → List ℕ) (item : Reader (List ℕ)) (text old new : List ℕ) (r : Result K TextError) → first_is 44 text ≡ false → ReadsWord view (item text) old new r → ReadsWord view (or_comma item text) old new r
 unfolding or_comma
-thing_read view item text old new r off h = let P : Reading (List ℕ) → Type 0 = λ j. Reads view j old new r in subst P (sym (other (first_is 44 text) _ _ off)) h
+thing_read view item text old new r off h = let P : Reading (List ℕ) → Type 0 = λ j. ReadsWord view j old new r in subst P (sym (other (first_is 44 text) _ _ off)) h
 
-pub bits_minus : {K N : Type 0} (number : N → ℕ) (view : K → List ℕ) (most : ℕ) (text : List ℕ) (o : Option (N × K)) → first_is 45 text ≡ true → Finds number view (read_negative most text) o → Finds number view (read_bits most text) o
+pub bits_minus : {K N : Type 0} (number : N → ℕ) (view : K → List ℕ) (most : ℕ) (text : List ℕ) (o : Option (N × K)) → first_is 45 text ≡ true → FindsWord number view (read_negative most text) o → FindsWord number view (read_bits most text) o
 unfolding read_bits
-bits_minus number view most text o on h = let P : Reading ℕ → Type 0 = λ j. Finds number view j o in subst P (sym (chosen (first_is 45 text) _ _ on)) h
+bits_minus number view most text o on h = let P : Reading ℕ → Type 0 = λ j. FindsWord number view j o in subst P (sym (chosen (first_is 45 text) _ _ on)) h
 
-pub bits_plus : {K N : Type 0} (number : N → ℕ) (view : K → List ℕ) (most : ℕ) (text : List ℕ) (o : Option (N × K)) → first_is 45 text ≡ false → Finds number view (read_positive most text) o → Finds number view (read_bits most text) o
+pub bits_plus : {K N : Type 0} (number : N → ℕ) (view : K → List ℕ) (most : ℕ) (text : List ℕ) (o : Option (N × K)) → first_is 45 text ≡ false → FindsWord number view (read_positive most text) o → FindsWord number view (read_bits most text) o
 unfolding read_bits
-bits_plus number view most text o off h = let P : Reading ℕ → Type 0 = λ j. Finds number view j o in subst P (sym (other (first_is 45 text) _ _ off)) h
+bits_plus number view most text o off h = let P : Reading ℕ → Type 0 = λ j. FindsWord number view j o in subst P (sym (other (first_is 45 text) _ _ off)) h
 
 -- ---- flags
 
@@ -345,7 +345,7 @@ put_at before zeros content new bytes place at size h =
 pub put_whole : (old new bytes : List ℕ) (len place : ℕ) → place + length bytes ≤ length old → len ≡ length old → new ≡ written old place bytes → take len (new ++ drop (length new) old) ≡ written old place bytes
 put_whole old new bytes len place room all put = take_at new (drop (length new) old) len (ap length put ∙ written-length old place bytes room ∙ sym all) ∙ put
 
-pub long_set : {K : Type 0} (view : K → List ℕ) (rest : K) (before content old new bytes : List ℕ) (place n : ℕ) → old ≡ before ++ (0 ∷ 0 ∷ 0 ∷ 0 ∷ content) → place ≡ length before → n + 4 ≡ length old - place → n < 2 ^ 32 → bytes ≡ number_bytes bytes4 n → length bytes ≡ 4 → new ≡ written old place bytes → Reads view (framed_long (content, view rest)) before new (Ok rest)
+pub long_set : {K : Type 0} (view : K → List ℕ) (rest : K) (before content old new bytes : List ℕ) (place n : ℕ) → old ≡ before ++ (0 ∷ 0 ∷ 0 ∷ 0 ∷ content) → place ≡ length before → n + 4 ≡ length old - place → n < 2 ^ 32 → bytes ≡ number_bytes bytes4 n → length bytes ≡ 4 → new ≡ written old place bytes → ReadsWord view (framed_long (content, view rest)) before new (Ok rest)
 long_set view rest before content old new bytes place n is at size few number four h =
     let count = ap length is ∙ length-append before (0 ∷ 0 ∷ 0 ∷ 0 ∷ content) in
     let same : n ≡ length content = omega (arith, count, at, size) in
@@ -354,14 +354,14 @@ long_set view rest before content old new bytes place n is at size few number fo
     read_so view (framed_long (content, view rest)) before new (with_length content) rest (chosen (nat_lt (length content) (2 ^ 32)) _ _ (grind (arith, nat_tests)))
     (put ∙ ap (λ (bs : List ℕ). before ++ (bs ++ content)) (number ∙ ap (number_bytes bytes4) same))
 
-pub long_unset : {K : Type 0} (view : K → List ℕ) (rest before content old new : List ℕ) (place end : ℕ) (error : TextError) → old ≡ before ++ (0 ∷ 0 ∷ 0 ∷ 0 ∷ content) → place ≡ length before → end ≡ length old → (place + 4 ≤ end → 4294967295 + 4 < end - place) → Reads view (framed_long (content, rest)) before new (Err error)
+pub long_unset : {K : Type 0} (view : K → List ℕ) (rest before content old new : List ℕ) (place end : ℕ) (error : TextError) → old ≡ before ++ (0 ∷ 0 ∷ 0 ∷ 0 ∷ content) → place ≡ length before → end ≡ length old → (place + 4 ≤ end → 4294967295 + 4 < end - place) → ReadsWord view (framed_long (content, rest)) before new (Err error)
 long_unset view rest before content old new place end error is at size far =
     let count = ap length is ∙ length-append before (0 ∷ 0 ∷ 0 ∷ 0 ∷ content) in
     let beyond : 4294967295 + 4 < end - place = far (omega (arith, count, at, size)) in
     let many : 2 ^ 32 ≤ length content = omega (arith, count, at, size, beyond) in
     unread view (framed_long (content, rest)) before new (Err error) (other (nat_lt (length content) (2 ^ 32)) _ _ (grind (arith, nat_tests)))
 
-pub short_set : {K : Type 0} (view : K → List ℕ) (rest : K) (before content old new bytes : List ℕ) (place n : ℕ) → old ≡ before ++ (0 ∷ content) → place ≡ length before → n + 1 ≡ length old - place → n < 256 → bytes ≡ n ∷ [] → new ≡ written old place bytes → Reads view (framed_short (content, view rest)) before new (Ok rest)
+pub short_set : {K : Type 0} (view : K → List ℕ) (rest : K) (before content old new bytes : List ℕ) (place n : ℕ) → old ≡ before ++ (0 ∷ content) → place ≡ length before → n + 1 ≡ length old - place → n < 256 → bytes ≡ n ∷ [] → new ≡ written old place bytes → ReadsWord view (framed_short (content, view rest)) before new (Ok rest)
 short_set view rest before content old new bytes place n is at size few number h =
     let count = ap length is ∙ length-append before (0 ∷ content) in
     let same : n ≡ length content = omega (arith, count, at, size) in
@@ -370,7 +370,7 @@ short_set view rest before content old new bytes place n is at size few number h
     read_so view (framed_short (content, view rest)) before new (short_string_bytes content) rest (chosen (nat_lt (length content) 256) _ _ (grind (arith, nat_tests)))
     (put ∙ ap (λ (bs : List ℕ). before ++ (bs ++ content)) (number ∙ ap (λ (k : ℕ). k ∷ []) same))
 
-pub short_unset : {K : Type 0} (view : K → List ℕ) (rest before content old new : List ℕ) (place end : ℕ) (error : TextError) → old ≡ before ++ (0 ∷ content) → place ≡ length before → end ≡ length old → (place + 1 ≤ end → 255 + 1 < end - place) → Reads view (framed_short (content, rest)) before new (Err error)
+pub short_unset : {K : Type 0} (view : K → List ℕ) (rest before content old new : List ℕ) (place end : ℕ) (error : TextError) → old ≡ before ++ (0 ∷ content) → place ≡ length before → end ≡ length old → (place + 1 ≤ end → 255 + 1 < end - place) → ReadsWord view (framed_short (content, rest)) before new (Err error)
 short_unset view rest before content old new place end error is at size far =
     let count = ap length is ∙ length-append before (0 ∷ content) in
     let beyond : 255 + 1 < end - place = far (omega (arith, count, at, size)) in
@@ -378,18 +378,18 @@ short_unset view rest before content old new place end error is at size far =
     unread view (framed_short (content, rest)) before new (Err error) (other (nat_lt (length content) 256) _ _ (grind (arith, nat_tests)))
 
 -- a length is set in front of what was read
-pub long_framed : {K L : Type 0} (view : K → List ℕ) (look : L → List ℕ) (reading : Reading (List ℕ)) (old a b new : List ℕ) (place : ℕ) (rest : K) (r : Result L TextError) → a ≡ old ++ (0 ∷ 0 ∷ 0 ∷ 0 ∷ []) → place ≡ length old → Reads view reading a b (Ok rest)
-    → ((before content : List ℕ) → b ≡ before ++ (0 ∷ 0 ∷ 0 ∷ 0 ∷ content) → place ≡ length before → Reads look (framed_long (content, view rest)) before new r) → Reads look (reading >>= framed_long) old new r
+pub long_framed : {K L : Type 0} (view : K → List ℕ) (look : L → List ℕ) (reading : Reading (List ℕ)) (old a b new : List ℕ) (place : ℕ) (rest : K) (r : Result L TextError) → a ≡ old ++ (0 ∷ 0 ∷ 0 ∷ 0 ∷ []) → place ≡ length old → ReadsWord view reading a b (Ok rest)
+    → ((before content : List ℕ) → b ≡ before ++ (0 ∷ 0 ∷ 0 ∷ 0 ∷ content) → place ≡ length before → ReadsWord look (framed_long (content, view rest)) before new r) → ReadsWord look (reading >>= framed_long) old new r
 long_framed view look None old a b new place rest r zeros at h set = tt
 long_framed view look (Some read) old a b new place rest r zeros at h set =
-    let P : List ℕ → Type 0 = λ t. Reads look (framed_long (read.0, t)) old new r in
+    let P : List ℕ → Type 0 = λ t. ReadsWord look (framed_long (read.0, t)) old new r in
     subst P h.0 (set old read.0 (h.1 ∙ ap (λ (xs : List ℕ). xs ++ read.0) zeros ∙ append_assoc old (0 ∷ 0 ∷ 0 ∷ 0 ∷ []) read.0) at)
 
-pub short_framed : {K L : Type 0} (view : K → List ℕ) (look : L → List ℕ) (reading : Reading (List ℕ)) (old a b new : List ℕ) (place : ℕ) (rest : K) (r : Result L TextError) → a ≡ old ++ (0 ∷ []) → place ≡ length old → Reads view reading a b (Ok rest)
-    → ((before content : List ℕ) → b ≡ before ++ (0 ∷ content) → place ≡ length before → Reads look (framed_short (content, view rest)) before new r) → Reads look (reading >>= framed_short) old new r
+pub short_framed : {K L : Type 0} (view : K → List ℕ) (look : L → List ℕ) (reading : Reading (List ℕ)) (old a b new : List ℕ) (place : ℕ) (rest : K) (r : Result L TextError) → a ≡ old ++ (0 ∷ []) → place ≡ length old → ReadsWord view reading a b (Ok rest)
+    → ((before content : List ℕ) → b ≡ before ++ (0 ∷ content) → place ≡ length before → ReadsWord look (framed_short (content, view rest)) before new r) → ReadsWord look (reading >>= framed_short) old new r
 short_framed view look None old a b new place rest r zeros at h set = tt
 short_framed view look (Some read) old a b new place rest r zeros at h set =
-    let P : List ℕ → Type 0 = λ t. Reads look (framed_short (read.0, t)) old new r in
+    let P : List ℕ → Type 0 = λ t. ReadsWord look (framed_short (read.0, t)) old new r in
     subst P h.0 (set old read.0 (h.1 ∙ ap (λ (xs : List ℕ). xs ++ read.0) zeros ∙ append_assoc old (0 ∷ []) read.0) at)
 
 -- ---- values
@@ -409,13 +409,13 @@ unfolding read_value read_tagged
 value_by room [] t some h = absurd (omega arith)
 value_by room (c ∷ cs) t some h = ap (λ o. read_after (read_nested room) o cs) h
 
-pub value_read : {K : Type 0} (view : K → List ℕ) (room : ℕ) (text after old mid new : List ℕ) (t : FieldTag) (byte : ℕ) (r : Result K TextError) → 1 ≤ length text → tag_at (get_or text 0 0) ≡ Some t → byte ≡ tag_byte t → mid ≡ old ++ byte ∷ [] → after ≡ after_colon t (drop 1 text) → Reads view (read_behind (read_nested room) t after) mid new r → Reads view (read_value room text) old new r
+pub value_read : {K : Type 0} (view : K → List ℕ) (room : ℕ) (text after old mid new : List ℕ) (t : FieldTag) (byte : ℕ) (r : Result K TextError) → 1 ≤ length text → tag_at (get_or text 0 0) ≡ Some t → byte ≡ tag_byte t → mid ≡ old ++ byte ∷ [] → after ≡ after_colon t (drop 1 text) → ReadsWord view (read_behind (read_nested room) t after) mid new r → ReadsWord view (read_value room text) old new r
 value_read {K} view room text after old mid new t byte r some is letter pushed at h =
-    let P : Reading (List ℕ) → Type 0 = λ j. Reads view j old new r in
-    let Q : List ℕ → Type 0 = λ x. Reads view (read_behind (read_nested room) t x) mid new r in
+    let P : Reading (List ℕ) → Type 0 = λ j. ReadsWord view j old new r in
+    let Q : List ℕ → Type 0 = λ x. ReadsWord view (read_behind (read_nested room) t x) mid new r in
     subst P (sym (value_by room text t some is)) (on (read_behind (read_nested room) t (after_colon t (drop 1 text))) r (subst Q at h))
   where
-    on : (j : Reading (List ℕ)) (r : Result K TextError) → Reads view j mid new r → Reads view (j >>= λ (x : List ℕ × List ℕ). Some (tag_byte t ∷ x.0, x.1)) old new r
+    on : (j : Reading (List ℕ)) (r : Result K TextError) → ReadsWord view j mid new r → ReadsWord view (j >>= λ (x : List ℕ × List ℕ). Some (tag_byte t ∷ x.0, x.1)) old new r
     on None r k = tt
     on (Some x) (Ok rest) k = (k.0, k.1 ∙ ap (λ (xs : List ℕ). xs ++ x.0) (pushed ∙ ap (λ (b : ℕ). old ++ b ∷ []) letter) ∙ append_assoc old (tag_byte t ∷ []) x.0)
     on (Some x) (Err texts.BadText) k = absurd k
@@ -439,36 +439,36 @@ pub deep_table : (room : ℕ) (t : FieldTag) (text : List ℕ) → room ≡ 0 �
 unfolding read_behind
 deep_table room t text none is = ap (λ u. read_behind (read_nested room) u text) is ∙ ap (λ o. read_behind o tag.FieldTable text) (nested_none room none)
 
-pub array_behind : {K : Type 0} (view : K → List ℕ) (room : ℕ) (t : FieldTag) (text old new : List ℕ) (r : Result K TextError) → 0 < room → t ≡ tag.FieldArray → Reads view (read_array (read_value (room - 1)) text) old new r → Reads view (read_behind (read_nested room) t text) old new r
+pub array_behind : {K : Type 0} (view : K → List ℕ) (room : ℕ) (t : FieldTag) (text old new : List ℕ) (r : Result K TextError) → 0 < room → t ≡ tag.FieldArray → ReadsWord view (read_array (read_value (room - 1)) text) old new r → ReadsWord view (read_behind (read_nested room) t text) old new r
 unfolding read_behind
 array_behind view room t text old new r some is h =
-    let P : Reading (List ℕ) → Type 0 = λ j. Reads view j old new r in
+    let P : Reading (List ℕ) → Type 0 = λ j. ReadsWord view j old new r in
     subst P (sym (ap (λ u. read_behind (read_nested room) u text) is ∙ ap (λ o. read_behind o tag.FieldArray text) (nested_more room some))) h
 
-pub table_behind : {K : Type 0} (view : K → List ℕ) (room : ℕ) (t : FieldTag) (text old new : List ℕ) (r : Result K TextError) → 0 < room → t ≡ tag.FieldTable → Reads view (read_table (read_value (room - 1)) text) old new r → Reads view (read_behind (read_nested room) t text) old new r
+pub table_behind : {K : Type 0} (view : K → List ℕ) (room : ℕ) (t : FieldTag) (text old new : List ℕ) (r : Result K TextError) → 0 < room → t ≡ tag.FieldTable → ReadsWord view (read_table (read_value (room - 1)) text) old new r → ReadsWord view (read_behind (read_nested room) t text) old new r
 unfolding read_behind
 table_behind view room t text old new r some is h =
-    let P : Reading (List ℕ) → Type 0 = λ j. Reads view j old new r in
+    let P : Reading (List ℕ) → Type 0 = λ j. ReadsWord view j old new r in
     subst P (sym (ap (λ u. read_behind (read_nested room) u text) is ∙ ap (λ o. read_behind o tag.FieldTable text) (nested_more room some))) h
 
 -- one thing, a character, and another
-pub parted_read : {K L : Type 0} (view : K → List ℕ) (look : L → List ℕ) (reading : Reading (List ℕ)) (next : Reader (List ℕ)) (text old mid new : List ℕ) (rest : K) (r : Result L TextError) → Reads view reading old mid (Ok rest) → text ≡ drop 1 (view rest) → Reads look (next text) mid new r → Reads look (reading >>= λ one. next (drop 1 one.1) >>= λ others. Some (one.0 ++ others.0, others.1)) old new r
+pub parted_read : {K L : Type 0} (view : K → List ℕ) (look : L → List ℕ) (reading : Reading (List ℕ)) (next : Reader (List ℕ)) (text old mid new : List ℕ) (rest : K) (r : Result L TextError) → ReadsWord view reading old mid (Ok rest) → text ≡ drop 1 (view rest) → ReadsWord look (next text) mid new r → ReadsWord look (reading >>= λ one. next (drop 1 one.1) >>= λ others. Some (one.0 ++ others.0, others.1)) old new r
 parted_read view look reading next text old mid new rest r h at k =
-    let P : List ℕ → Type 0 = λ x. Reads look (next x) mid new r in
+    let P : List ℕ → Type 0 = λ x. ReadsWord look (next x) mid new r in
     both_read view look reading (λ x. next (drop 1 x)) old mid new rest r h (subst P at k)
 
-pub decimal_failed : {K L : Type 0} (view : K → List ℕ) (look : L → List ℕ) (text a b old new : List ℕ) (error : TextError) → Reads view (read_number bytes1 text) a b (Err error) → Reads look (read_decimal text) old new (Err error)
+pub decimal_failed : {K L : Type 0} (view : K → List ℕ) (look : L → List ℕ) (text a b old new : List ℕ) (error : TextError) → ReadsWord view (read_unsigned bytes1 text) a b (Err error) → ReadsWord look (read_decimal text) old new (Err error)
 unfolding read_decimal
-decimal_failed view look text a b old new error h = failed view look (read_number bytes1 text) (λ scale. read_number bytes4 (drop 1 scale.1) >>= λ n. Some (scale.0 ++ n.0, n.1)) a b old new error h
+decimal_failed view look text a b old new error h = failed view look (read_unsigned bytes1 text) (λ scale. read_unsigned bytes4 (drop 1 scale.1) >>= λ n. Some (scale.0 ++ n.0, n.1)) a b old new error h
 
-pub decimal_read : {K L : Type 0} (view : K → List ℕ) (look : L → List ℕ) (text next old mid new : List ℕ) (rest : K) (r : Result L TextError) → Reads view (read_number bytes1 text) old mid (Ok rest) → next ≡ drop 1 (view rest) → Reads look (read_number bytes4 next) mid new r → Reads look (read_decimal text) old new r
+pub decimal_read : {K L : Type 0} (view : K → List ℕ) (look : L → List ℕ) (text next old mid new : List ℕ) (rest : K) (r : Result L TextError) → ReadsWord view (read_unsigned bytes1 text) old mid (Ok rest) → next ≡ drop 1 (view rest) → ReadsWord look (read_unsigned bytes4 next) mid new r → ReadsWord look (read_decimal text) old new r
 unfolding read_decimal
-decimal_read view look text next old mid new rest r h at k = parted_read view look (read_number bytes1 text) (read_number bytes4) next old mid new rest r h at k
+decimal_read view look text next old mid new rest r h at k = parted_read view look (read_unsigned bytes1 text) (read_unsigned bytes4) next old mid new rest r h at k
 
-pub entry_failed : {K L : Type 0} (view : K → List ℕ) (look : L → List ℕ) (value : Reader (List ℕ)) (text a b old new : List ℕ) (error : TextError) → Reads view (read_short_string text) a b (Err error) → Reads look (read_entry value text) old new (Err error)
+pub entry_failed : {K L : Type 0} (view : K → List ℕ) (look : L → List ℕ) (value : Reader (List ℕ)) (text a b old new : List ℕ) (error : TextError) → ReadsWord view (read_short_string text) a b (Err error) → ReadsWord look (read_entry value text) old new (Err error)
 unfolding read_entry
 entry_failed view look value text a b old new error h = failed view look (read_short_string text) (λ key. value (drop 1 key.1) >>= λ v. Some (key.0 ++ v.0, v.1)) a b old new error h
 
-pub entry_read : {K L : Type 0} (view : K → List ℕ) (look : L → List ℕ) (value : Reader (List ℕ)) (text next old mid new : List ℕ) (rest : K) (r : Result L TextError) → Reads view (read_short_string text) old mid (Ok rest) → next ≡ drop 1 (view rest) → Reads look (value next) mid new r → Reads look (read_entry value text) old new r
+pub entry_read : {K L : Type 0} (view : K → List ℕ) (look : L → List ℕ) (value : Reader (List ℕ)) (text next old mid new : List ℕ) (rest : K) (r : Result L TextError) → ReadsWord view (read_short_string text) old mid (Ok rest) → next ≡ drop 1 (view rest) → ReadsWord look (value next) mid new r → ReadsWord look (read_entry value text) old new r
 unfolding read_entry
 entry_read view look value text next old mid new rest r h at k = parted_read view look (read_short_string text) value next old mid new rest r h at k

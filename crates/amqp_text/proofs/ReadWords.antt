@@ -1,4 +1,4 @@
--- The words of a line are read back to the bytes that they tell: numbers, hex, strings and flags.
+-- The words of a line are read back as the bytes that they stand for: numbers, hex, strings and flags.
 use Rattle.std.proofs.Common.{◌≡◌, ℕ, zero, suc, ◌+◌, ◌-◌, ◌*◌, ◌/◌, ◌%◌, ◌^◌, ◌<◌, ◌≤◌, List, [], ◌∷◌, ◌++◌, length, get_or, drop, take, Bool, true, false, cond, Some, None, refl, sym, ap, ap₂, subst, ◌∙◌, append_assoc, arith, ltb}
 use Rattle.std.specs.Prelude.{nat_lt, nat_le, ◌==◌, ◌||◌, pos, negsuc}
 use Rattle.std.specs.List.{flat_map}
@@ -16,7 +16,7 @@ use Rattle.amqp_types.specs.Strings.{SpellsShortString, SpellsLongString}
 use Rattle.amqp_types.specs.Flags.{bit_of, flags_byte}
 use Rattle.amqp_types.proofs.Bytes.{IsBytes-drop, IsBytes-take}
 use Rattle.amqp_text.specs.Words.{hex_digit, hex_byte, hex, is_plain, escaped, quoted, sign, signs}
-use Rattle.amqp_text.specs.Reading.{Reading, Reader, ◌>>=◌, is_digit, read_digits, capped, below_zero, read_bits, read_positive, read_negative, read_number, with_sign, read_signs, is_hex, nibble, read_hex, first_is, listed, inside, or_comma, read_escaped, framed_long, framed_short, read_long_string, read_short_string}
+use Rattle.amqp_text.specs.Reading.{Reading, Reader, ◌>>=◌, is_digit, read_digits, capped, below_zero, read_bits, read_positive, read_negative, read_unsigned, with_sign, read_signs, is_hex, nibble, read_hex, first_is, listed, inside, or_comma, read_escaped, framed_long, framed_short, read_long_string, read_short_string}
 
 -- what does not go on with a digit
 abbrev pub Ends : List ℕ → Type 0
@@ -99,8 +99,8 @@ limit_fits bytes2 n h = (omega arith, omega arith)
 limit_fits bytes4 n h = (omega arith, omega arith)
 limit_fits bytes8 n h = (omega arith, omega arith)
 
-pub number_back : (width : NumberWidth) → IsReadAs (read_number width) (SpellsNumber width) decimal
-unfolding read_number
+pub number_back : (width : NumberWidth) → IsReadAs (read_unsigned width) (SpellsNumber width) decimal
+unfolding read_unsigned
 number_back width bytes rest n fit h e =
     let fits = limit_fits width n h.fits in
     ap (λ r. r >>= λ (x : ℕ × List ℕ). Some (number_bytes width x.0, x.1)) (bits_back (number_limit width - 1) n rest fits.0 fits.1 e)
@@ -120,10 +120,10 @@ signed_bits bytes2 n rest h e = signed_at w16 n rest h (omega arith) (omega arit
 signed_bits bytes4 n rest h e = signed_at w32 n rest h (omega arith) (omega arith) e _ refl
 signed_bits bytes8 n rest h e = signed_at w64 n rest h (omega arith) (omega arith) e _ refl
 
-pub signed_back : (width : NumberWidth) → IsReadAs (read_number width) (SpellsSigned width) signed_decimal
-unfolding read_number
+pub signed_back : (width : NumberWidth) → IsReadAs (read_unsigned width) (SpellsSigned width) signed_decimal
+unfolding read_unsigned
 signed_back width bytes rest n fit h e =
-    ap (λ z. read_number width (signed_decimal z ++ rest)) h.means
+    ap (λ z. read_unsigned width (signed_decimal z ++ rest)) h.means
     ∙ ap (λ r. r >>= λ (x : ℕ × List ℕ). Some (number_bytes width x.0, x.1)) (signed_bits width h.bits rest h.spelled.fits e)
     ∙ ap (λ (bs : List ℕ). Some (bs, rest)) (sym h.spelled.bytes_are)
 

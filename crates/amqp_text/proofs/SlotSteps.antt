@@ -1,4 +1,4 @@
--- What calls read of slots and properties, step by step.
+-- What calls read of fields and properties, step by step.
 use Rattle.std.proofs.Common.{◌≡◌, ℕ, zero, suc, ◌+◌, ◌-◌, ◌*◌, ◌%◌, ◌^◌, ◌<◌, ◌≤◌, List, [], ◌∷◌, ◌++◌, length, get_or, drop, map, Bool, true, false, cond, Option, Some, None, Result, Ok, Err, refl, sym, ap, ap₂, subst, ◌∙◌, append_assoc, append-nil, arith}
 use Rattle.std.specs.Prelude.{codes, ◌==◌}
 use Rattle.std.proofs.lemmas.List.{length-append}
@@ -11,39 +11,39 @@ use Rattle.amqp_canonical.specs.Shapes.{form_of, property_of, slot_of, slots_of}
 use Rattle.amqp_text.specs.declared.errors.TextError.{TextError}
 use Rattle.amqp_text.specs.declared.errors.TextError.TheVariants as texts
 use Rattle.amqp_text.specs.Slots.{property_name}
-use Rattle.amqp_text.specs.Telling.{is_reserved}
-use Rattle.amqp_text.specs.Reading.{Reading, ◌>>=◌, first_is, read_form, read_slot, read_slots, strip, named, read_option, read_set, read_properties, constant_bytes, Reads, ReadsSet, FindsText}
+use Rattle.amqp_text.specs.Rendering.{is_reserved}
+use Rattle.amqp_text.specs.Reading.{Reading, ◌>>=◌, first_is, read_form, read_slot, read_slots, strip, named, read_option, read_set, read_properties, constant_bytes, ReadsWord, ReadsSet, FindsText}
 use Rattle.amqp_text.proofs.ReadWords.{chosen, other}
 use Rattle.amqp_text.proofs.ReadSteps.{failed, both_read, put_at}
-use Rattle.amqp_text.proofs.ToldSlots.{kept, reserved}
+use Rattle.amqp_text.proofs.RenderedSlots.{kept, reserved}
 
--- ---- slots
+-- ---- fields
 
-pub constant_read : {K : Type 0} (view : K → List ℕ) (shape : Shape) (rest : K) (old new : List ℕ) → is_reserved (slot_of shape) ≡ true → new ≡ old ++ constant_bytes (slot_of shape) → Reads view (read_slot (slot_of shape) (view rest)) old new (Ok rest)
+pub constant_read : {K : Type 0} (view : K → List ℕ) (shape : Shape) (rest : K) (old new : List ℕ) → is_reserved (slot_of shape) ≡ true → new ≡ old ++ constant_bytes (slot_of shape) → ReadsWord view (read_slot (slot_of shape) (view rest)) old new (Ok rest)
 unfolding read_slot
 constant_read view shape rest old new e h =
     let is = reserved shape e in
-    let P : Slot → Type 0 = λ slot. new ≡ old ++ constant_bytes slot → Reads view (read_slot slot (view rest)) old new (Ok rest) in
+    let P : Slot → Type 0 = λ slot. new ≡ old ++ constant_bytes slot → ReadsWord view (read_slot slot (view rest)) old new (Ok rest) in
     subst P (sym is.1) (λ k. (refl, k)) h
 
-pub kept_read : {K : Type 0} (view : K → List ℕ) (shape : Shape) (text next old new : List ℕ) (r : Result K TextError) → is_reserved (slot_of shape) ≡ false → next ≡ drop 1 text → Reads view (read_form (form_of shape) next) old new r → Reads view (read_slot (slot_of shape) text) old new r
+pub kept_read : {K : Type 0} (view : K → List ℕ) (shape : Shape) (text next old new : List ℕ) (r : Result K TextError) → is_reserved (slot_of shape) ≡ false → next ≡ drop 1 text → ReadsWord view (read_form (form_of shape) next) old new r → ReadsWord view (read_slot (slot_of shape) text) old new r
 unfolding read_slot
 kept_read view shape text next old new r e at h =
-    let P : Slot → Type 0 = λ slot. Reads view (read_slot slot text) old new r in
-    let Q : List ℕ → Type 0 = λ t. Reads view (read_form (form_of shape) t) old new r in
+    let P : Slot → Type 0 = λ slot. ReadsWord view (read_slot slot text) old new r in
+    let Q : List ℕ → Type 0 = λ t. ReadsWord view (read_form (form_of shape) t) old new r in
     subst P (sym (kept shape e)) (subst Q at h)
 
-pub slots_none : {K : Type 0} (view : K → List ℕ) (shapes : List Shape) (rest : K) (old : List ℕ) → length shapes < 1 → Reads view (read_slots (slots_of shapes) (view rest)) old old (Ok rest)
+pub slots_none : {K : Type 0} (view : K → List ℕ) (shapes : List Shape) (rest : K) (old : List ℕ) → length shapes < 1 → ReadsWord view (read_slots (slots_of shapes) (view rest)) old old (Ok rest)
 unfolding read_slots
 slots_none view [] rest old h = (refl, sym (append-nil old))
 slots_none view (shape ∷ shapes) rest old h = absurd (omega arith)
 
-pub slots_failed : {K L : Type 0} (view : K → List ℕ) (look : L → List ℕ) (shapes : List Shape) (none : Shape) (text a b old new : List ℕ) (error : TextError) → 1 ≤ length shapes → Reads view (read_slot (slot_of (get_or shapes 0 none)) text) a b (Err error) → Reads look (read_slots (slots_of shapes) text) old new (Err error)
+pub slots_failed : {K L : Type 0} (view : K → List ℕ) (look : L → List ℕ) (shapes : List Shape) (none : Shape) (text a b old new : List ℕ) (error : TextError) → 1 ≤ length shapes → ReadsWord view (read_slot (slot_of (get_or shapes 0 none)) text) a b (Err error) → ReadsWord look (read_slots (slots_of shapes) text) old new (Err error)
 unfolding read_slots
 slots_failed view look [] none text a b old new error some h = absurd (omega arith)
 slots_failed view look (shape ∷ shapes) none text a b old new error some h = failed view look (read_slot (slot_of shape) text) (λ one. read_slots (slots_of shapes) one.1 >>= λ others. Some (one.0 ++ others.0, others.1)) a b old new error h
 
-pub slots_read : {K L : Type 0} (view : K → List ℕ) (look : L → List ℕ) (shapes : List Shape) (none : Shape) (text old mid new : List ℕ) (rest : K) (r : Result L TextError) → 1 ≤ length shapes → Reads view (read_slot (slot_of (get_or shapes 0 none)) text) old mid (Ok rest) → Reads look (read_slots (slots_of (drop 1 shapes)) (view rest)) mid new r → Reads look (read_slots (slots_of shapes) text) old new r
+pub slots_read : {K L : Type 0} (view : K → List ℕ) (look : L → List ℕ) (shapes : List Shape) (none : Shape) (text old mid new : List ℕ) (rest : K) (r : Result L TextError) → 1 ≤ length shapes → ReadsWord view (read_slot (slot_of (get_or shapes 0 none)) text) old mid (Ok rest) → ReadsWord look (read_slots (slots_of (drop 1 shapes)) (view rest)) mid new r → ReadsWord look (read_slots (slots_of shapes) text) old new r
 unfolding read_slots
 slots_read view look [] none text old mid new rest r some h k = absurd (omega arith)
 slots_read view look (shape ∷ shapes) none text old mid new rest r some h k = both_read view look (read_slot (slot_of shape) text) (read_slots (slots_of shapes)) old mid new rest r h k
@@ -113,23 +113,23 @@ option_none view bit shape rest old h =
     let P : Option (List ℕ) → Type 0 = λ o. ReadsSet (λ (n : ℕ). n) view (read_option (property_of (bit, shape)) o (view rest)) old old (Ok (0, rest)) in
     subst P (sym h) (refl, refl, sym (append-nil old))
 
-option_on : {K : Type 0} (view : K → List ℕ) (bit worth : ℕ) (old new : List ℕ) (rest : K) → worth ≡ 2 ^ bit % 2 ^ 16 → (j : Reading (List ℕ)) → Reads view j old new (Ok rest) → ReadsSet (λ (n : ℕ). n) view (j >>= λ x. Some ((2 ^ bit % 2 ^ 16, x.0), x.1)) old new (Ok (worth, rest))
+option_on : {K : Type 0} (view : K → List ℕ) (bit worth : ℕ) (old new : List ℕ) (rest : K) → worth ≡ 2 ^ bit % 2 ^ 16 → (j : Reading (List ℕ)) → ReadsWord view j old new (Ok rest) → ReadsSet (λ (n : ℕ). n) view (j >>= λ x. Some ((2 ^ bit % 2 ^ 16, x.0), x.1)) old new (Ok (worth, rest))
 option_on view bit worth old new rest is None h = tt
 option_on view bit worth old new rest is (Some read) h = (is, h.0, h.1)
 
-pub option_some : {K L : Type 0} (view : K → List ℕ) (look : L → List ℕ) (bit worth : ℕ) (shape : Shape) (text old new : List ℕ) (after : L) (rest : K) → worth ≡ 2 ^ bit % 2 ^ 16 → strip (named bit) text ≡ Some (look after) → Reads view (read_form (form_of shape) (look after)) old new (Ok rest)
+pub option_some : {K L : Type 0} (view : K → List ℕ) (look : L → List ℕ) (bit worth : ℕ) (shape : Shape) (text old new : List ℕ) (after : L) (rest : K) → worth ≡ 2 ^ bit % 2 ^ 16 → strip (named bit) text ≡ Some (look after) → ReadsWord view (read_form (form_of shape) (look after)) old new (Ok rest)
     → ReadsSet (λ (n : ℕ). n) view (read_option (property_of (bit, shape)) (strip (named bit) text) text) old new (Ok (worth, rest))
 unfolding read_option
 option_some view look bit worth shape text old new after rest is found h =
     let P : Option (List ℕ) → Type 0 = λ o. ReadsSet (λ (n : ℕ). n) view (read_option (property_of (bit, shape)) o text) old new (Ok (worth, rest)) in
     subst P (sym found) (option_on view bit worth old new rest is (read_form (form_of shape) (look after)) h)
 
-error_on : {K L : Type 0} (view : K → List ℕ) (look : L → List ℕ) (f : List ℕ × List ℕ → Reading (ℕ × List ℕ)) (a b old new : List ℕ) (error : TextError) (j : Reading (List ℕ)) → Reads view j a b (Err error) → ReadsSet (λ (n : ℕ). n) look (j >>= f) old new (Err error)
+error_on : {K L : Type 0} (view : K → List ℕ) (look : L → List ℕ) (f : List ℕ × List ℕ → Reading (ℕ × List ℕ)) (a b old new : List ℕ) (error : TextError) (j : Reading (List ℕ)) → ReadsWord view j a b (Err error) → ReadsSet (λ (n : ℕ). n) look (j >>= f) old new (Err error)
 error_on view look f a b old new error None h = tt
 error_on view look f a b old new texts.BadText (Some read) h = absurd h
 error_on view look f a b old new texts.NoMemory (Some read) h = set_memory look (f read) old new
 
-pub option_failed : {K L M : Type 0} (view : K → List ℕ) (look : L → List ℕ) (seen : M → List ℕ) (bit : ℕ) (shape : Shape) (text a b old new : List ℕ) (after : L) (error : TextError) → strip (named bit) text ≡ Some (look after) → Reads view (read_form (form_of shape) (look after)) a b (Err error)
+pub option_failed : {K L M : Type 0} (view : K → List ℕ) (look : L → List ℕ) (seen : M → List ℕ) (bit : ℕ) (shape : Shape) (text a b old new : List ℕ) (after : L) (error : TextError) → strip (named bit) text ≡ Some (look after) → ReadsWord view (read_form (form_of shape) (look after)) a b (Err error)
     → ReadsSet (λ (n : ℕ). n) seen (read_option (property_of (bit, shape)) (strip (named bit) text) text) old new (Err error)
 unfolding read_option
 option_failed view look seen bit shape text a b old new after error found h =
@@ -185,7 +185,7 @@ set_read {L = L} view look (shape ∷ shapes) none text old mid new worth mask s
 
 -- ---- the mask
 
-pub mask_set : {K : Type 0} (view : K → List ℕ) (rest : K) (before content old new : List ℕ) (place mask : ℕ) → old ≡ before ++ (0 ∷ 0 ∷ content) → place ≡ length before → new ≡ written old place (number_bytes bytes2 mask) → Reads view (Some (number_bytes bytes2 mask ++ content, view rest)) before new (Ok rest)
+pub mask_set : {K : Type 0} (view : K → List ℕ) (rest : K) (before content old new : List ℕ) (place mask : ℕ) → old ≡ before ++ (0 ∷ 0 ∷ content) → place ≡ length before → new ≡ written old place (number_bytes bytes2 mask) → ReadsWord view (Some (number_bytes bytes2 mask ++ content, view rest)) before new (Ok rest)
 mask_set view rest before content old new place mask is at h = (refl, put_at before (0 ∷ 0 ∷ []) content new (number_bytes bytes2 mask) place at refl (h ∙ ap (λ (xs : List ℕ). written xs place (number_bytes bytes2 mask)) is))
 
 pub mask_unset : (before content old : List ℕ) (place end : ℕ) → old ≡ before ++ (0 ∷ 0 ∷ content) → place ≡ length before → end ≡ length old → end < 2 ^ 64 → (place + 2 ≤ end → 18446744073709551615 + 2 < end - place) → ⊥
@@ -194,26 +194,26 @@ mask_unset before content old place end is at size fits far =
     let beyond : 18446744073709551615 + 2 < end - place = far (omega (arith, count, at, size)) in
     absurd (omega (arith, beyond, fits))
 
-pub properties_failed : {K L : Type 0} (view : K → List ℕ) (look : L → List ℕ) (shapes : List (ℕ × Shape)) (text a b old new : List ℕ) (error : TextError) → map property_of shapes ≡ properties → ReadsSet (λ (n : ℕ). n) view (read_set (map property_of shapes) text) a b (Err error) → Reads look (read_properties text) old new (Err error)
+pub properties_failed : {K L : Type 0} (view : K → List ℕ) (look : L → List ℕ) (shapes : List (ℕ × Shape)) (text a b old new : List ℕ) (error : TextError) → map property_of shapes ≡ properties → ReadsSet (λ (n : ℕ). n) view (read_set (map property_of shapes) text) a b (Err error) → ReadsWord look (read_properties text) old new (Err error)
 unfolding read_properties
 properties_failed view look shapes text a b old new error all h =
     let P : List Property → Type 0 = λ ps. ReadsSet (λ (n : ℕ). n) view (read_set ps text) a b (Err error) in
     on error (read_set properties text) (subst P all h)
   where
-    on : (error : TextError) (j : Reading (ℕ × List ℕ)) → ReadsSet (λ (n : ℕ). n) view j a b (Err error) → Reads look (j >>= λ set. Some (number_bytes bytes2 set.0.0 ++ set.0.1, set.1)) old new (Err error)
+    on : (error : TextError) (j : Reading (ℕ × List ℕ)) → ReadsSet (λ (n : ℕ). n) view j a b (Err error) → ReadsWord look (j >>= λ set. Some (number_bytes bytes2 set.0.0 ++ set.0.1, set.1)) old new (Err error)
     on error None q = tt
     on texts.BadText (Some set) q = absurd q
     on texts.NoMemory (Some set) q = tt
 
 pub properties_read : {K L : Type 0} (view : K → List ℕ) (look : L → List ℕ) (shapes : List (ℕ × Shape)) (text old a b new : List ℕ) (place mask : ℕ) (rest : K) (r : Result L TextError) → map property_of shapes ≡ properties → a ≡ old ++ (0 ∷ 0 ∷ []) → place ≡ length old → ReadsSet (λ (n : ℕ). n) view (read_set (map property_of shapes) text) a b (Ok (mask, rest))
-    → ((before content : List ℕ) → b ≡ before ++ (0 ∷ 0 ∷ content) → place ≡ length before → Reads look (Some (number_bytes bytes2 mask ++ content, view rest)) before new r) → Reads look (read_properties text) old new r
+    → ((before content : List ℕ) → b ≡ before ++ (0 ∷ 0 ∷ content) → place ≡ length before → ReadsWord look (Some (number_bytes bytes2 mask ++ content, view rest)) before new r) → ReadsWord look (read_properties text) old new r
 unfolding read_properties
 properties_read {L = L} view look shapes text old a b new place mask rest r all zeros at h set =
     let P : List Property → Type 0 = λ ps. ReadsSet (λ (n : ℕ). n) view (read_set ps text) a b (Ok (mask, rest)) in
     on (read_set properties text) (subst P all h)
   where
-    on : (j : Reading (ℕ × List ℕ)) → ReadsSet (λ (n : ℕ). n) view j a b (Ok (mask, rest)) → Reads look (j >>= λ set. Some (number_bytes bytes2 set.0.0 ++ set.0.1, set.1)) old new r
+    on : (j : Reading (ℕ × List ℕ)) → ReadsSet (λ (n : ℕ). n) view j a b (Ok (mask, rest)) → ReadsWord look (j >>= λ set. Some (number_bytes bytes2 set.0.0 ++ set.0.1, set.1)) old new r
     on None q = tt
     on (Some read) q =
-        let P : (ℕ × List ℕ) → Type 0 = λ x. Reads look (Some (number_bytes bytes2 x.0 ++ read.0.1, x.1)) old new r in
+        let P : (ℕ × List ℕ) → Type 0 = λ x. ReadsWord look (Some (number_bytes bytes2 x.0 ++ read.0.1, x.1)) old new r in
         subst P (ap₂ (λ (m : ℕ) (t : List ℕ). (m, t)) q.0 q.1) (set old read.0.1 (q.2 ∙ ap (λ (xs : List ℕ). xs ++ read.0.1) zeros ∙ append_assoc old (0 ∷ 0 ∷ []) read.0.1) at)

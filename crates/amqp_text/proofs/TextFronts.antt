@@ -6,7 +6,7 @@ use Rattle.std.proofs.Math.Seq.{take-add}
 use Rattle.amqp_types.specs.Levels.{strict}
 use Rattle.amqp_frame.specs.Frames.{Frame}
 use Rattle.amqp_frame.specs.Spelling.{Spells, SpellsFrames}
-use Rattle.amqp_frame.specs.Canonical.{canon, canon_row}
+use Rattle.amqp_frame.specs.Canonical.{canon, canon_frames}
 use Rattle.amqp_frame.proofs.Strictness.{one_strict}
 use Rattle.amqp_stream.proofs.Adding.{IsBytes-append, IsBytes-nil}
 use Rattle.amqp_text.specs.Lines.{line, lines}
@@ -15,7 +15,7 @@ use Rattle.amqp_text.specs.OneLine.{IsStrictWithin, IsNoLine}
 use Rattle.amqp_text.specs.Undumping.{AreStrict, HoldsNewline, IsLongestText}
 use Rattle.amqp_text.proofs.Newlines.{one_newline}
 use Rattle.amqp_text.proofs.ReadWords.{bytes_behind, bytes_front}
-use Rattle.amqp_text.proofs.LinesApart.{newline_once}
+use Rattle.amqp_text.proofs.LinesApart.{newline_once, head_same}
 
 -- ---- strict sequences, frame by frame
 
@@ -24,27 +24,27 @@ AllStrict m = AllByRecursion (IsStrictWithin m)
 
 pub first_is_canon : (first : List ℕ) (f : Frame) → Spells strict first f → first ≡ canon f
 first_is_canon first f h =
-    let row : SpellsFrames strict None first (f ∷ []) = (first, [], sym (append-nil first), h, tt, refl) in
-    (one_strict strict None first (f ∷ []) row).only first row ∙ append-nil (canon f)
+    let sequence : SpellsFrames strict None first (f ∷ []) = (first, [], sym (append-nil first), h, tt, refl) in
+    (one_strict strict None first (f ∷ []) sequence).only first sequence ∙ append-nil (canon f)
 
 pub all_strict : (m : ℕ) (frames : List Frame) → AreStrict m frames → AllStrict m frames
 all_strict m [] h = tt
 all_strict m (f ∷ fs) h =
-    let row = h.0 in
-    let same = first_is_canon row.0 f row.3 in
-    let others = (one_strict strict (Some m) row.1 fs row.5).only row.1 row.5 in (
+    let sequence = h.0 in
+    let same = first_is_canon sequence.0 f sequence.3 in
+    let others = (one_strict strict (Some m) sequence.1 fs sequence.5).only sequence.1 sequence.5 in (
       record {
-        is_strict = record { are_bytes = bytes_front (canon f) (canon_row fs) (canon_row (f ∷ fs)) refl h.1; encodes = subst (λ (bs : List ℕ). Spells strict bs f) same row.3 };
-        within = subst (λ (bs : List ℕ). length bs ≤ m + 8) same row.4;
+        is_strict = record { are_bytes = bytes_front (canon f) (canon_frames fs) (canon_frames (f ∷ fs)) refl h.1; encodes = subst (λ (bs : List ℕ). Spells strict bs f) same sequence.3 };
+        within = subst (λ (bs : List ℕ). length bs ≤ m + 8) same sequence.4;
       },
-      all_strict m fs (subst (λ (bs : List ℕ). SpellsFrames strict (Some m) bs fs) others row.5, bytes_behind (canon f) (canon_row fs) (canon_row (f ∷ fs)) refl h.1),
+      all_strict m fs (subst (λ (bs : List ℕ). SpellsFrames strict (Some m) bs fs) others sequence.5, bytes_behind (canon f) (canon_frames fs) (canon_frames (f ∷ fs)) refl h.1),
     )
 
 pub are_strict : (m : ℕ) (frames : List Frame) → AllStrict m frames → AreStrict m frames
 are_strict m [] h = (refl, IsBytes-nil)
 are_strict m (f ∷ fs) h =
     let others = are_strict m fs h.1 in
-    ((canon f, canon_row fs, refl, h.0.is_strict.encodes, h.0.within, others.0), IsBytes-append (canon f) (canon_row fs) h.0.is_strict.are_bytes others.1)
+    ((canon f, canon_frames fs, refl, h.0.is_strict.encodes, h.0.within, others.0), IsBytes-append (canon f) (canon_frames fs) h.0.is_strict.are_bytes others.1)
 
 pub all_both : (m : ℕ) (fs gs : List Frame) → AllStrict m fs → AllStrict m gs → AllStrict m (fs ++ gs)
 all_both m [] gs h k = k
@@ -52,13 +52,10 @@ all_both m (f ∷ fs) gs h k = (h.0, all_both m fs gs h.1 k)
 
 -- ---- newlines
 
-tail_same : (x y : ℕ) (xs ys : List ℕ) → x ∷ xs ≡ y ∷ ys → (x ≡ y) × (xs ≡ ys)
-tail_same x y xs ys h = (cc, cc)
-
 none_holds : (bytes front back : List ℕ) → HasNoNewline bytes → bytes ≡ front ++ 10 ∷ back → ⊥
 none_holds [] front back h e = omega (arith, ap length e, length-append front (10 ∷ back))
-none_holds (c ∷ cs) [] back h e = h.0 (tail_same c 10 cs back e).0
-none_holds (c ∷ cs) (d ∷ ds) back h e = none_holds cs ds back h.1 (tail_same c d cs (ds ++ 10 ∷ back) e).1
+none_holds (c ∷ cs) [] back h e = h.0 (head_same c 10 cs back e).0
+none_holds (c ∷ cs) (d ∷ ds) back h e = none_holds cs ds back h.1 (head_same c d cs (ds ++ 10 ∷ back) e).1
 
 pub holds_none : (bytes : List ℕ) → HasNoNewline bytes → HoldsNewline bytes → ⊥
 holds_none bytes h k = none_holds bytes k.front k.back h k.parts

@@ -8,12 +8,12 @@ use Rattle.amqp_types.specs.Judging.{IsBytes}
 use Rattle.amqp_frame.specs.Frames.{Frame, Proto, Meth, Head, Body, Beat, BadBeat}
 use Rattle.amqp_frame.specs.Fronts.{front, place}
 use Rattle.amqp_frame.specs.Spelling.{Spells, SpellsFrames}
-use Rattle.amqp_frame.specs.Canonical.{canon, canon_row, is_deep, is_long, size_of, read_back}
+use Rattle.amqp_frame.specs.Canonical.{canon, canon_frames, is_deep, is_long, size_of, read_back}
 use Rattle.amqp_frame.specs.Laws.{IsFrameHeld}
 use Rattle.amqp_frame.proofs.Encoded.{verdict-spells}
 use Rattle.amqp_frame.proofs.ReadingBack.{reads_back}
-use Rattle.amqp_frame.proofs.Rows.{front-is_row, one_row}
-use Rattle.amqp_frame.proofs.Strictness.{one_strict, row_shortest}
+use Rattle.amqp_frame.proofs.Sequences.{front-is_sequence, one_sequence}
+use Rattle.amqp_frame.proofs.Strictness.{one_strict, sequence_shortest}
 use Rattle.amqp_stream.specs.Ends.{Store, Gains}
 use Rattle.amqp_text.specs.Dumping.{dumped}
 use Rattle.amqp_text.specs.Laws.{IsStrict}
@@ -51,9 +51,9 @@ one_longest m bytes fs gs rest more h k =
 pub dumped_back : (m : ℕ) (bytes : List ℕ) → IsBytes bytes → IsLongestText m (dumped m bytes) (front plain (Some m) bytes) []
 dumped_back m bytes fits =
     let frames = front plain (Some m) bytes in
-    let cut = front-is_row plain (Some m) bytes fits in
+    let cut = front-is_sequence plain (Some m) bytes fits in
     let used = bytes_front cut.used (place plain (Some m) bytes) bytes cut.parts fits in
-    let good : AreStrict m frames = ((one_strict plain (Some m) cut.used frames cut.row).canonical, canonical_bytes (Some m) cut.used frames used cut.row) in
+    let good : AreStrict m frames = ((one_strict plain (Some m) cut.used frames cut.sequence).canonical, canonical_bytes (Some m) cut.used frames used cut.sequence) in
     is_longest m (lines frames) frames [] (all_strict m frames good) (sym (append-nil (lines frames))) (at_clean m [] tt)
 
 -- what stands after the text, and is none of it
@@ -61,7 +61,7 @@ undoes : (m : ℕ) (bytes : List ℕ) (k l : Store) (r : Result (Unit {0}) Undum
 undoes m bytes k l (Ok done) u frames none = record {
   never_bad = λ e. absurd cc;
   never_short = λ e. absurd cc;
-  written = λ e. subst (λ (xs : List ℕ). Gains k l xs) (u.answer.1 ∙ ap canon_row frames) u.gains;
+  written = λ e. subst (λ (xs : List ℕ). Gains k l xs) (u.answer.1 ∙ ap canon_frames frames) u.gains;
 }
 undoes m bytes k l (Err errors.BadText) u frames none = absurd (holds_none u.rest (subst HasNoNewline (sym none) tt) u.answer.0)
 undoes m bytes k l (Err errors.CutShort) u frames none = absurd (u.answer.0 none)
@@ -77,26 +77,26 @@ undump_undoes m bytes k l r fits u =
 
 -- ---- strict bytes and texts
 
-only_strict : (m : ℕ) (bytes text : List ℕ) (h : AreBytesAndText m bytes text) → bytes ≡ canon_row h.frames
-only_strict m bytes text h = (one_strict strict (Some m) bytes h.frames h.is_row).only bytes h.is_row
+only_strict : (m : ℕ) (bytes text : List ℕ) (h : AreBytesAndText m bytes text) → bytes ≡ canon_frames h.frames
+only_strict m bytes text h = (one_strict strict (Some m) bytes h.frames h.is_sequence).only bytes h.is_sequence
 
 are_strict_frames : (m : ℕ) (bytes text : List ℕ) (h : AreBytesAndText m bytes text) → AreStrict m h.frames
 are_strict_frames m bytes text h =
     let is = only_strict m bytes text h in
-    (subst (λ (bs : List ℕ). SpellsFrames strict (Some m) bs h.frames) is h.is_row, subst (λ (bs : List ℕ). IsBytes bs) is h.are_bytes)
+    (subst (λ (bs : List ℕ). SpellsFrames strict (Some m) bs h.frames) is h.is_sequence, subst (λ (bs : List ℕ). IsBytes bs) is h.are_bytes)
 
 each_strict : (m : ℕ) (fs : List Frame) → AllStrict m fs → AllByRecursion IsStrict fs
 each_strict m [] h = tt
 each_strict m (f ∷ fs) h = (h.0.is_strict, each_strict m fs h.1)
 
 pub one_text : (m : ℕ) (bytes t u : List ℕ) → AreBytesAndText m bytes t → AreBytesAndText m bytes u → t ≡ u
-one_text m bytes t u h k = h.is_text ∙ ap lines (one_row strict (Some m) bytes h.frames k.frames h.is_row k.is_row) ∙ sym k.is_text
+one_text m bytes t u h k = h.is_text ∙ ap lines (one_sequence strict (Some m) bytes h.frames k.frames h.is_sequence k.is_sequence) ∙ sym k.is_text
 
-pub one_sequence : (m : ℕ) (b c text : List ℕ) → AreBytesAndText m b text → AreBytesAndText m c text → b ≡ c
-one_sequence m b c text h k =
+pub one_text_bytes : (m : ℕ) (b c text : List ℕ) → AreBytesAndText m b text → AreBytesAndText m c text → b ≡ c
+one_text_bytes m b c text h k =
     let fs = each_strict m h.frames (all_strict m h.frames (are_strict_frames m b text h)) in
     let gs = each_strict m k.frames (all_strict m k.frames (are_strict_frames m c text k)) in
-    only_strict m b text h ∙ ap canon_row (same_sequence h.frames k.frames fs gs (sym h.is_text ∙ k.is_text)) ∙ sym (only_strict m c text k)
+    only_strict m b text h ∙ ap canon_frames (same_sequence h.frames k.frames fs gs (sym h.is_text ∙ k.is_text)) ∙ sym (only_strict m c text k)
 
 -- ---- which frames are encoded strictly
 
@@ -105,8 +105,8 @@ not_bad_beat f h e = absurd (let P : Frame → Type 0 = λ g. Spells strict (can
 
 strict_usual : (f : Frame) → IsStrict f → IsUsual f
 strict_usual f h =
-    let row : SpellsFrames strict None (canon f) (f ∷ []) = (canon f, [], sym (append-nil (canon f)), h.encodes, tt, refl) in
-    let sized = row_shortest strict None (canon f) (f ∷ []) row in
+    let sequence : SpellsFrames strict None (canon f) (f ∷ []) = (canon f, [], sym (append-nil (canon f)), h.encodes, tt, refl) in
+    let sized = sequence_shortest strict None (canon f) (f ∷ []) sequence in
     record { belongs = not_bad_beat f h.encodes; not_deep = sized.none_is_deep.0; not_long = sized.none_is_long.0 }
 
 back_same : (f : Frame) → f ≢ BadBeat 0 → read_back f ≡ f

@@ -10,7 +10,7 @@ use Rattle.amqp_stream.specs.Errors.{Cause, write_failed, out_of_memory, cause_o
 use Rattle.amqp_stream.specs.Ends.{Supply, Store, Takes, Gains, IsEmpty}
 use Rattle.amqp_stream.specs.Writing.{IsPrefix}
 use Rattle.amqp_stream.specs.Steps.{Manner}
-use Rattle.amqp_stream.specs.Transcribing.{transcript, IsRow, IsBehindBy, IsCausedBy}
+use Rattle.amqp_stream.specs.Transcribing.{transcript, IsSequence, IsBehindBy, IsCausedBy, IsWrittenUnless}
 use Rattle.amqp_text.specs.Lines.{line, lines}
 
 -- The line of each frame by itself, of whatever can be read. No frame is refused, the stream may end anywhere, and memory may run out at any frame.
@@ -23,24 +23,19 @@ dumped m bytes = transcript lines plain m bytes
 
 -- The lines of a sequence of frames were written, and then a whole frame has come.
 pub record AtFrame (m : ℕ) (taken written : List ℕ) : Type 0 where
-  pub row : List ℕ
+  pub sequence : List ℕ
   pub rest : List ℕ
-  pub parts : taken ≡ row ++ rest
-  pub is_row : IsRow plain m row
+  pub parts : taken ≡ sequence ++ rest
+  pub is_sequence : IsSequence plain m sequence
   pub next : BeginsWith (λ kind. Unit {0}) (Some m) rest
-  pub written_is : written ≡ dumped m row
+  pub written_is : written ≡ dumped m sequence
 
 -- when each result comes
 abbrev pub HasCauseDumped : ℕ → ℕ → List ℕ → List ℕ → Supply → Supply → Store → Store → Result (Unit {0}) StreamError → Type 0
-HasCauseDumped m turns taken written a b k l (Ok done) = IsRow plain m taken × IsEmpty b.left
+HasCauseDumped m turns taken written a b k l (Ok done) = IsSequence plain m taken × IsEmpty b.left
 HasCauseDumped m turns taken written a b k l (Err error) = IsCausedBy plain m turns taken a b k l (AtFrame m taken written) (cause_of error)
 
--- what was written of a text: all of it, or a part of its front where a write or memory failed
-abbrev pub IsWrittenUnless : List ℕ → List ℕ → Cause → Type 0
-IsWrittenUnless text written write_failed = IsPrefix written text
-IsWrittenUnless text written out_of_memory = IsPrefix written text
-IsWrittenUnless text written cause = written ≡ text
-
+-- what was written of a text, by the result of the call: all of it, unless the cause of an error is a write or memory
 abbrev pub HasWrittenDumped : List ℕ → List ℕ → Result (Unit {0}) StreamError → Type 0
 HasWrittenDumped text written (Ok done) = written ≡ text
 HasWrittenDumped text written (Err error) = IsWrittenUnless text written (cause_of error)

@@ -14,6 +14,7 @@ pub record HasOneNewline (text : List ℕ) : Type 0 where
   pub parts : text ≡ front ++ codes "\n"
   pub none_before : AllByRecursion (λ byte. byte ≢ 10) front
 
+-- each frame, strict or not, has such a line
 abbrev pub LinesHaveOneNewline : Type 0
 LinesHaveOneNewline = (frame : Frame) → HasOneNewline (line frame)
 

@@ -1,7 +1,8 @@
+-- The definitions of amqp_text.
 pub mod Words
 pub mod Values
 pub mod Slots
-pub mod Telling
+pub mod Rendering
 pub mod Lines
 pub mod Payloads
 pub mod LineTexts

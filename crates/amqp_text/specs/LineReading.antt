@@ -4,7 +4,7 @@ use Rattle.std.specs.List.{AllByRecursion}
 use Rattle.amqp_types.specs.declared.errors.NoMemory.{NoMemory}
 use Rattle.amqp_types.specs.Judging.{IsBytes}
 use Rattle.amqp_frame.specs.Frames.{Frame}
-use Rattle.amqp_frame.specs.Canonical.{canon_row}
+use Rattle.amqp_frame.specs.Canonical.{canon_frames}
 use Rattle.amqp_stream.specs.Ends.{Supply, Store, Takes, Rises, IsEmpty}
 use Rattle.amqp_stream.specs.declared.sink.SinkFault.{SinkFault}
 use Rattle.amqp_stream.specs.Writing.{IsPrefix, WritesAll, Gathered, GatherFails, Keeps}
@@ -13,6 +13,7 @@ use Rattle.amqp_text.specs.Undumping.{HoldsNewline, IsLongestText, read_size}
 use Rattle.amqp_text.specs.declared.errors.UndumpError.{UndumpError}
 use Rattle.amqp_text.specs.declared.errors.UndumpError.TheVariants as errors
 
+-- no byte is a newline (10)
 abbrev pub HasNoNewline : List ℕ → Type 0
 HasNoNewline = AllByRecursion (λ byte. byte ≢ 10)
 
@@ -30,10 +31,10 @@ EndsLine text None = HasNoNewline text
 EndsLine text (Some end) = IsFirstLine text end
 
 -- whether a text is the line of a frame, whose canonical bytes are then held
-abbrev pub TellsLine : ℕ → List ℕ → List ℕ → Result Bool NoMemory → Type 0
-TellsLine m text canonical (Ok true) = IsLineOf m text canonical
-TellsLine m text canonical (Ok false) = IsNoLine m text
-TellsLine m text canonical (Err error) = Unit {0}
+abbrev pub RendersLine : ℕ → List ℕ → List ℕ → Result Bool NoMemory → Type 0
+RendersLine m text canonical (Ok true) = IsLineOf m text canonical
+RendersLine m text canonical (Ok false) = IsNoLine m text
+RendersLine m text canonical (Err error) = Unit {0}
 
 -- the canonical bytes of the frame of a line are gathered, or not all of them, or the line is that of no frame
 abbrev pub GathersLine : ℕ → List ℕ → Store → Store → List ℕ → List ℕ → Result (Unit {0}) UndumpError → Type 0
@@ -51,11 +52,12 @@ GathersAll all rest old new before after (Err errors.WriteFault) = GatherFails o
 GathersAll all rest old new before after (Err errors.NoMemory) = (some : List ℕ) × IsPrefix some all × Gathered old new before after some
 GathersAll all rest old new before after (Err error) = ⊥
 
+-- what a call gathers of some text: the canonical bytes of the frames whose lines are the longest text at its front, by the result
 pub record GathersLines (m : ℕ) (text : List ℕ) (old new : Store) (before after : List ℕ) (result : Result ℕ UndumpError) : Type 0 where
   pub frames : List Frame
   pub rest : List ℕ
   pub is_longest : IsLongestText m text frames rest
-  pub gathers : GathersAll (canon_row frames) rest old new before after result
+  pub gathers : GathersAll (canon_frames frames) rest old new before after result
 
 -- what one read returns, by the bytes that it took
 abbrev pub ReadsAs : Supply → Supply → List ℕ → List ℕ → List ℕ → Result ℕ UndumpError → Type 0
@@ -77,13 +79,13 @@ abbrev pub stopped : UndumpError → Result (Unit {0}) SinkFault → Result (Uni
 stopped error (Ok done) = Err error
 stopped error (Err bad) = Err errors.WriteFault
 
--- what was pending was written, and then the call ends with this error, if it can
+-- what was pending is written first, and then the call ends with this error, or with WriteFault where the write fails
 pub record StopsWith (old new : Store) (pending : List ℕ) (error : UndumpError) (result : Result (Unit {0}) UndumpError) : Type 0 where
   pub written : Result (Unit {0}) SinkFault
   pub writes : WritesAll old new pending written
   pub answer : result ≡ stopped error written
 
 -- the result at the end of input, where this is held
-abbrev pub end_with : List ℕ → Result (Unit {0}) UndumpError
-end_with [] = Ok tt
-end_with (byte ∷ bytes) = Err errors.CutShort
+abbrev pub end_of_text : List ℕ → Result (Unit {0}) UndumpError
+end_of_text [] = Ok tt
+end_of_text (byte ∷ bytes) = Err errors.CutShort

@@ -12,25 +12,25 @@ use Rattle.amqp_stream.specs.Writing.{IsFaulty}
 use Rattle.amqp_text.specs.Lines.{line}
 
 -- why a borrowed frame has no line: a fault of its payload, or memory ran out
-abbrev pub IsUntold : Raw → Cause → Type 0
-IsUntold raw (faulty bad) = IsFaulty plain raw bad
-IsUntold raw out_of_memory = Unit {0}
-IsUntold raw cause = ⊥
+abbrev pub HasNoLine : Raw → Cause → Type 0
+HasNoLine raw (faulty bad) = IsFaulty plain raw bad
+HasNoLine raw out_of_memory = Unit {0}
+HasNoLine raw cause = ⊥
 
 -- the canonical bytes of the frame that a borrowed one is, or why there are none
 abbrev pub PutsCanonical : Raw → List ℕ → Result (Unit {0}) StreamError → Type 0
 PutsCanonical raw canonical (Ok done) = (frame : Frame) × (whole raw ≡ Ok frame) × (canonical ≡ canon frame)
-PutsCanonical raw canonical (Err error) = IsUntold raw (cause_of error)
+PutsCanonical raw canonical (Err error) = HasNoLine raw (cause_of error)
 
 -- the line of that frame
 abbrev pub PutsLine : Raw → List ℕ → Result (Unit {0}) StreamError → Type 0
 PutsLine raw text (Ok done) = (frame : Frame) × (whole raw ≡ Ok frame) × (text ≡ line frame)
-PutsLine raw text (Err error) = IsUntold raw (cause_of error)
+PutsLine raw text (Err error) = HasNoLine raw (cause_of error)
 
 -- its canonical bytes and its line
 abbrev pub PutsBoth : Raw → List ℕ → List ℕ → Result (Unit {0}) StreamError → Type 0
 PutsBoth raw canonical text (Ok done) = (frame : Frame) × (whole raw ≡ Ok frame) × (canonical ≡ canon frame) × (text ≡ line frame)
-PutsBoth raw canonical text (Err error) = IsUntold raw (cause_of error)
+PutsBoth raw canonical text (Err error) = HasNoLine raw (cause_of error)
 
 -- ---- typed frames
 

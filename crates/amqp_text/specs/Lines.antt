@@ -14,7 +14,7 @@ use Rattle.amqp_text.specs.Slots.{slots_text, set_text}
 unfoldable pub spaced : ℕ → List ℕ
 spaced number = codes " " ++ decimal number
 
--- the class and the method by their numbers, and a word for each slot that is not reserved
+-- the class and the method by their numbers, and a word for each field that is not reserved
 unfoldable pub method_words : Method → List ℕ
 method_words m = spaced m.class ++ (codes "." ++ (decimal m.id ++ slots_text (unwrap_or (slots_at m.class m.id) []) m.items))
 

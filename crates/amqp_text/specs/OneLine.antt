@@ -9,7 +9,7 @@ use Rattle.amqp_stream.specs.declared.errors.StreamError.{StreamError}
 use Rattle.amqp_stream.specs.Errors.{cause_of}
 use Rattle.amqp_text.specs.Laws.{IsStrict}
 use Rattle.amqp_text.specs.Lines.{line}
-use Rattle.amqp_text.specs.LineTexts.{IsUntold}
+use Rattle.amqp_text.specs.LineTexts.{HasNoLine}
 use Rattle.amqp_text.specs.declared.errors.TextError.{TextError}
 use Rattle.amqp_text.specs.declared.errors.TextError.TheVariants as texts
 
@@ -46,4 +46,4 @@ AppendsCanonical m text old new (Err texts.NoMemory) = new ≡ old
 -- The line of a borrowed frame is appended. An error is the fault of its payload, or memory, and leaves the vector as it was.
 abbrev pub AppendsRawLine : Raw → List ℕ → List ℕ → Result (Unit {0}) StreamError → Type 0
 AppendsRawLine raw old new (Ok done) = (frame : Frame) × (whole raw ≡ Ok frame) × (new ≡ old ++ line frame)
-AppendsRawLine raw old new (Err error) = IsUntold raw (cause_of error) × (new ≡ old)
+AppendsRawLine raw old new (Err error) = HasNoLine raw (cause_of error) × (new ≡ old)

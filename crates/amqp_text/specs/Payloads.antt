@@ -11,7 +11,7 @@ use Rattle.amqp_frame.specs.declared.outline.FrameOutline.{FrameOutline}
 use Rattle.amqp_frame.specs.Frames.{Frame, Proto, Meth, Head, Body, Beat, BadBeat}
 use Rattle.amqp_frame.specs.Outlines.{outline_of}
 use Rattle.amqp_text.specs.Lines.{spaced}
-use Rattle.amqp_text.specs.Telling.{told_properties, told_slots}
+use Rattle.amqp_text.specs.Rendering.{rendered_properties, rendered_slots}
 
 -- ---- canonical payloads
 
@@ -29,7 +29,7 @@ pub record IsIn (outline : FrameOutline) (payload : List ℕ) (frame : Frame) : 
   pub outline_is : outline ≡ outline_of frame
   pub is_payload : IsPayload payload frame
 
--- ---- telling
+-- ---- rendering
 
 -- the words of a method in front of its fields
 abbrev pub ids_words : ℕ → ℕ → ℕ → List ℕ
@@ -39,10 +39,10 @@ ids_words channel class id = codes "method" ++ (spaced channel ++ (spaced class 
 abbrev pub sizes_words : ℕ → ℕ → ℕ → List ℕ
 sizes_words channel class size = codes "header" ++ (spaced channel ++ (spaced class ++ spaced size))
 
--- the words of a method with these ids, out of its payload
-unfoldable pub told_method : ℕ → ℕ → ℕ → Judge (List ℕ)
-told_method channel class id payload = judge_map (λ text. ids_words channel class id ++ text) (told_slots (unwrap_or (slots_at class id) [])) (drop 4 payload)
+-- the words of a method with these ids, out of its payload, where 4 bytes of ids stand in front of the fields
+unfoldable pub rendered_method : ℕ → ℕ → ℕ → Judge (List ℕ)
+rendered_method channel class id payload = judge_map (λ text. ids_words channel class id ++ text) (rendered_slots (unwrap_or (slots_at class id) [])) (drop 4 payload)
 
--- the words of a content header of this class and size, out of its payload
-unfoldable pub told_header : ℕ → ℕ → ℕ → Judge (List ℕ)
-told_header channel class size payload = judge_map (λ text. sizes_words channel class size ++ text) told_properties (drop 12 payload)
+-- the words of a content header of this class and size, out of its payload, where class, weight and size take 12 bytes
+unfoldable pub rendered_header : ℕ → ℕ → ℕ → Judge (List ℕ)
+rendered_header channel class size payload = judge_map (λ text. sizes_words channel class size ++ text) rendered_properties (drop 12 payload)

@@ -13,16 +13,18 @@ use Rattle.amqp_types.specs.declared.tag.FieldTag.TheVariants as tag
 use Rattle.amqp_text.specs.Slots.{property_name}
 use Rattle.amqp_text.specs.declared.errors.TextError.{TextError}
 use Rattle.amqp_text.specs.declared.errors.TextError.TheVariants as texts
+use Rattle.amqp_types.specs.Constants.{inner_depth}
 
 -- what was read, and the text after it
 abbrev pub Reading : Type 0 → Type 0
 Reading A = Option (A × List ℕ)
 
+-- a way to read the front of a text; it is refused by None
 abbrev pub Reader : Type 0 → Type 0
 Reader A = List ℕ → Reading A
 
--- what follows goes on from what was read and the text after it
 infixl 10 ◌>>=◌
+-- what follows goes on from what was read and the text after it
 abbrev pub ◌>>=◌ : {A B : Type 0} → Reading A → (A × List ℕ → Reading B) → Reading B
 None >>= f = None
 (Some x) >>= f = f x
@@ -34,6 +36,7 @@ first_is c (d ∷ ds) = d == c
 
 -- ---- numbers
 
+-- the characters `0` to `9`
 unfoldable pub is_digit : ℕ → Bool
 is_digit c = nat_le 48 c && nat_le c 57
 
@@ -50,9 +53,11 @@ capped most n = if nat_le n.0 most then Some (n.0, n.1) else None
 abbrev pub below_zero : ℕ → ℕ × List ℕ → Reading ℕ
 below_zero most n = if nat_le n.0 most then Some (most - (n.0 - 1), n.1) else None
 
+-- a number in decimal that is not above the most; where there is no digit, it is 0
 unfoldable pub read_positive : ℕ → Reader ℕ
 read_positive most text = read_digits 0 text >>= capped most
 
+-- A number below zero, in two's complement: its sign, which is passed, and digits. (`-0` is read too, as -1 is.)
 unfoldable pub read_negative : ℕ → Reader ℕ
 read_negative most text = read_digits 0 (drop 1 text) >>= below_zero most
 
@@ -60,8 +65,9 @@ read_negative most text = read_digits 0 (drop 1 text) >>= below_zero most
 unfoldable pub read_bits : ℕ → Reader ℕ
 read_bits most text = if first_is 45 text then read_negative most text else read_positive most text
 
-unfoldable pub read_number : NumberWidth → Reader (List ℕ)
-read_number width text = read_bits (number_limit width - 1) text >>= λ n. Some (number_bytes width n.0, n.1)
+-- the bytes of a number of this width, the high byte first (section 4.2.5.1); a sign is read for unsigned numbers too
+unfoldable pub read_unsigned : NumberWidth → Reader (List ℕ)
+read_unsigned width text = read_bits (number_limit width - 1) text >>= λ n. Some (number_bytes width n.0, n.1)
 
 -- a truth value
 unfoldable pub read_truth : Reader (List ℕ)
@@ -69,7 +75,7 @@ read_truth text = Some (boolean_bytes (first_is 49 text), drop 1 text)
 
 -- a scale, a character, and a number
 unfoldable pub read_decimal : Reader (List ℕ)
-read_decimal text = read_number bytes1 text >>= λ scale. read_number bytes4 (drop 1 scale.1) >>= λ n. Some (scale.0 ++ n.0, n.1)
+read_decimal text = read_unsigned bytes1 text >>= λ scale. read_unsigned bytes4 (drop 1 scale.1) >>= λ n. Some (scale.0 ++ n.0, n.1)
 
 -- a sign in front of others
 abbrev pub with_sign : Bool → ℕ × List ℕ → Reading ℕ
@@ -80,18 +86,21 @@ unfoldable pub read_signs : ℕ → Reader ℕ
 read_signs zero text = Some (0, text)
 read_signs (suc count) text = read_signs count (drop 1 text) >>= with_sign (first_is 43 text)
 
+-- As many signs as flags, in one byte: the first sign is bit 0 (section 4.2.5.2). What is not `+` is read as `-` is.
 unfoldable pub read_flags : ℕ → Reader (List ℕ)
 read_flags count text = read_signs count text >>= λ b. Some (b.0 ∷ [], b.1)
 
 -- ---- hex
 
+-- the characters `0` to `9`, and `a` to `f`
 unfoldable pub is_hex : ℕ → Bool
 is_hex c = is_digit c || (nat_le 97 c && nat_le c 102)
 
+-- what a digit in hex is worth; any other character counts as a number below 16 too
 unfoldable pub nibble : ℕ → ℕ
 nibble c = (if nat_lt c 58 then c - 48 else c - 87) % 16
 
--- pairs of digits, as long as there are any
+-- pairs of characters, as long as the first of a pair is a hex digit; the second is not tested
 unfoldable pub read_hex : Reader (List ℕ)
 read_hex [] = Some ([], [])
 read_hex (a ∷ []) = Some ([], a ∷ [])
@@ -121,21 +130,25 @@ read_escaped (c ∷ []) = if c == 92 then None else Some (c ∷ [], [])
 read_escaped (c ∷ a ∷ []) = if c == 92 then None else Some (c ∷ [], a ∷ [])
 read_escaped (c ∷ a ∷ b ∷ cs) = if c == 92 then Some ((16 * nibble a + nibble b) ∷ [], cs) else Some (c ∷ [], a ∷ b ∷ cs)
 
--- with a length of four bytes, and of one
+-- what was read, with a length of four bytes in front, where they hold it
 abbrev pub framed_long : List ℕ × List ℕ → Reading (List ℕ)
 framed_long x = if nat_lt (length x.0) (2 ^ 32) then Some (with_length x.0, x.1) else None
 
+-- the same with a length of one byte
 abbrev pub framed_short : List ℕ × List ℕ → Reading (List ℕ)
 framed_short x = if nat_lt (length x.0) 256 then Some (short_string_bytes x.0, x.1) else None
 
+-- a quoted string, as a long string (section 4.2.5.3); the opening character is passed, whatever it is
 unfoldable pub read_long_string : Reader (List ℕ)
 read_long_string text = inside read_escaped 34 text >>= framed_long
 
+-- the same as a short string; whether it is UTF-8 is not tested here
 unfoldable pub read_short_string : Reader (List ℕ)
 read_short_string text = inside read_escaped 34 text >>= framed_short
 
 -- ---- values
 
+-- bytes in hex, with a length of four bytes in front
 unfoldable pub read_byte_array : Reader (List ℕ)
 read_byte_array text = read_hex text >>= framed_long
 
@@ -143,29 +156,31 @@ read_byte_array text = read_hex text >>= framed_long
 unfoldable pub read_entry : Reader (List ℕ) → Reader (List ℕ)
 read_entry value text = read_short_string text >>= λ key. value (drop 1 key.1) >>= λ v. Some (key.0 ++ v.0, v.1)
 
+-- an array: the values up to `]`, with a length of four bytes in front; a comma is passed wherever a value can begin
 unfoldable pub read_array : Reader (List ℕ) → Reader (List ℕ)
 read_array value text = inside (or_comma value) 93 text >>= framed_long
 
+-- a table: the entries up to `}`, in the same way (section 4.2.5.5)
 unfoldable pub read_table : Reader (List ℕ) → Reader (List ℕ)
 read_table value text = inside (or_comma (read_entry value)) 125 text >>= framed_long
 
 -- the value after a tag; `nested` reads a value one level deeper, where there is room for one
 unfoldable pub read_behind : Option (Reader (List ℕ)) → FieldTag → Reader (List ℕ)
 read_behind nested tag.Boolean text = read_truth text
-read_behind nested tag.ShortShortInt text = read_number bytes1 text
-read_behind nested tag.ShortShortUInt text = read_number bytes1 text
-read_behind nested tag.ShortInt text = read_number bytes2 text
-read_behind nested tag.ShortUInt text = read_number bytes2 text
-read_behind nested tag.LongInt text = read_number bytes4 text
-read_behind nested tag.LongUInt text = read_number bytes4 text
-read_behind nested tag.LongLongInt text = read_number bytes8 text
-read_behind nested tag.Float text = read_number bytes4 text
-read_behind nested tag.Double text = read_number bytes8 text
+read_behind nested tag.ShortShortInt text = read_unsigned bytes1 text
+read_behind nested tag.ShortShortUInt text = read_unsigned bytes1 text
+read_behind nested tag.ShortInt text = read_unsigned bytes2 text
+read_behind nested tag.ShortUInt text = read_unsigned bytes2 text
+read_behind nested tag.LongInt text = read_unsigned bytes4 text
+read_behind nested tag.LongUInt text = read_unsigned bytes4 text
+read_behind nested tag.LongLongInt text = read_unsigned bytes8 text
+read_behind nested tag.Float text = read_unsigned bytes4 text
+read_behind nested tag.Double text = read_unsigned bytes8 text
 read_behind nested tag.DecimalValue text = read_decimal text
 read_behind nested tag.LongString text = read_long_string text
 read_behind None tag.FieldArray text = None
 read_behind (Some value) tag.FieldArray text = read_array value text
-read_behind nested tag.Timestamp text = read_number bytes8 text
+read_behind nested tag.Timestamp text = read_unsigned bytes8 text
 read_behind None tag.FieldTable text = None
 read_behind (Some value) tag.FieldTable text = read_table value text
 read_behind nested tag.ByteArray text = read_byte_array text
@@ -176,10 +191,12 @@ abbrev pub after_colon : FieldTag → List ℕ → List ℕ
 after_colon tag.Void text = text
 after_colon t text = drop 1 text
 
+-- the value after a tag letter, with the byte of its tag in front; the letter must be that of a tag
 abbrev pub read_after : Option (Reader (List ℕ)) → Option FieldTag → Reader (List ℕ)
 read_after nested None text = None
 read_after nested (Some t) text = read_behind nested t (after_colon t text) >>= λ x. Some (tag_byte t ∷ x.0, x.1)
 
+-- a tag letter and the value after it
 unfoldable pub read_tagged : Option (Reader (List ℕ)) → Reader (List ℕ)
 read_tagged nested [] = None
 read_tagged nested (c ∷ cs) = read_after nested (tag_at c) cs
@@ -193,20 +210,22 @@ read_nested (suc room) = Some (read_tagged (read_nested room))
 unfoldable pub read_value : ℕ → Reader (List ℕ)
 read_value room = read_tagged (read_nested room)
 
--- ---- slots
+-- ---- fields
 
+-- the bytes of a field or a property of this form; in the values of a table, tables and arrays may nest 63 deep
 unfoldable pub read_form : Form → Reader (List ℕ)
-read_form (number_form width) = read_number width
+read_form (number_form width) = read_unsigned width
 read_form (flags_form count) = read_flags count
 read_form short_string_form = read_short_string
 read_form long_string_form = read_long_string
-read_form table_form = read_table (read_value 63)
+read_form table_form = read_table (read_value inner_depth)
 
 -- a word after a space, or the constant of a reserved field, which is not written
 unfoldable pub read_slot : Slot → Reader (List ℕ)
 read_slot (kept_slot form) text = read_form form (drop 1 text)
 read_slot (reserved_slot form constant) text = Some (form_bytes form constant, text)
 
+-- the bytes of fields, one after another
 unfoldable pub read_slots : List Slot → Reader (List ℕ)
 read_slots [] text = Some ([], text)
 read_slots (slot ∷ slots) text = read_slot slot text >>= λ one. read_slots slots one.1 >>= λ others. Some (one.0 ++ others.0, others.1)
@@ -233,22 +252,23 @@ unfoldable pub read_set : List Property → Reader (ℕ × List ℕ)
 read_set [] text = Some ((0, []), text)
 read_set (p ∷ ps) text = read_option p (strip (named p.bit) text) text >>= λ one. read_set ps one.1 >>= λ others. Some (((one.0.0 + others.0.0) % 2 ^ 16, one.0.1 ++ others.0.1), others.1)
 
+-- the mask in two bytes, and the properties after it (section 4.2.6.1)
 unfoldable pub read_properties : Reader (List ℕ)
 read_properties text = read_set properties text >>= λ set. Some (number_bytes bytes2 set.0.0 ++ set.0.1, set.1)
 
 -- ---- what a call appends
 
--- the canonical bytes of a reserved slot
+-- the canonical bytes of a reserved field, and none of another
 abbrev pub constant_bytes : Slot → List ℕ
 constant_bytes (kept_slot form) = []
 constant_bytes (reserved_slot form constant) = form_bytes form constant
 
--- What was read is after what stood there, and the text after it is given. (Where nothing is read, or memory runs out, nothing is said.)
-abbrev pub Reads : {K : Type 0} → (K → List ℕ) → Reading (List ℕ) → List ℕ → List ℕ → Result K TextError → Type 0
-Reads view (Some read) old new (Ok rest) = (view rest ≡ read.1) × (new ≡ old ++ read.0)
-Reads view (Some read) old new (Err texts.BadText) = ⊥
-Reads view (Some read) old new (Err texts.NoMemory) = Unit {0}
-Reads view None old new result = Unit {0}
+-- What was read is appended, and the text after it is returned. (Where nothing is read, or memory runs out, nothing is said.)
+abbrev pub ReadsWord : {K : Type 0} → (K → List ℕ) → Reading (List ℕ) → List ℕ → List ℕ → Result K TextError → Type 0
+ReadsWord view (Some read) old new (Ok rest) = (view rest ≡ read.1) × (new ≡ old ++ read.0)
+ReadsWord view (Some read) old new (Err texts.BadText) = ⊥
+ReadsWord view (Some read) old new (Err texts.NoMemory) = Unit {0}
+ReadsWord view None old new result = Unit {0}
 
 -- the same of a mask and bytes
 abbrev pub ReadsSet : {K N : Type 0} → (N → ℕ) → (K → List ℕ) → Reading (ℕ × List ℕ) → List ℕ → List ℕ → Result (N × K) TextError → Type 0
@@ -263,6 +283,6 @@ FindsText view text (Some found) = text ≡ Some (view found)
 FindsText view text None = text ≡ None
 
 -- what was read where it is a number
-abbrev pub Finds : {K N : Type 0} → (N → ℕ) → (K → List ℕ) → Reading ℕ → Option (N × K) → Type 0
-Finds number view reading (Some found) = reading ≡ Some (number found.0, view found.1)
-Finds number view reading None = reading ≡ None
+abbrev pub FindsWord : {K N : Type 0} → (N → ℕ) → (K → List ℕ) → Reading ℕ → Option (N × K) → Type 0
+FindsWord number view reading (Some found) = reading ≡ Some (number found.0, view found.1)
+FindsWord number view reading None = reading ≡ None

@@ -9,7 +9,7 @@ use Rattle.amqp_frame.specs.declared.frame_type.AMQPFrameType.TheVariants as kin
 use Rattle.amqp_frame.specs.Frames.{Raw}
 use Rattle.amqp_text.specs.declared.errors.TextError.{TextError}
 use Rattle.amqp_text.specs.declared.errors.TextError.TheVariants as texts
-use Rattle.amqp_text.specs.Reading.{Reading, Reader, ◌>>=◌, read_bits, read_number, read_hex, read_slots, read_properties, strip}
+use Rattle.amqp_text.specs.Reading.{Reading, Reader, ◌>>=◌, read_bits, read_unsigned, read_hex, read_slots, read_properties, strip}
 
 -- a number of two bytes after a character
 unfoldable pub read_id : Reader ℕ
@@ -17,13 +17,13 @@ read_id text = read_bits (2 ^ 16 - 1) (drop 1 text)
 
 -- two numbers of a byte, with a character between them
 unfoldable pub read_later : Reader (List ℕ)
-read_later text = read_number bytes1 text >>= λ b. read_number bytes1 (drop 1 b.1) >>= λ c. Some (b.0 ++ c.0, c.1)
+read_later text = read_unsigned bytes1 text >>= λ b. read_unsigned bytes1 (drop 1 b.1) >>= λ c. Some (b.0 ++ c.0, c.1)
 
 -- three of them
 unfoldable pub read_version : Reader (List ℕ)
-read_version text = read_number bytes1 text >>= λ a. read_later (drop 1 a.1) >>= λ later. Some (a.0 ++ later.0, later.1)
+read_version text = read_unsigned bytes1 text >>= λ a. read_later (drop 1 a.1) >>= λ later. Some (a.0 ++ later.0, later.1)
 
--- the slots of a method that is in the table
+-- the fields of a method that is in the table of methods
 unfoldable pub read_fields : Option (List Slot) → Reader (List ℕ)
 read_fields None text = None
 read_fields (Some slots) text = read_slots slots text

@@ -1,4 +1,4 @@
--- The text of slots and properties.
+-- The text of the fields of methods and of properties.
 use Rattle.std.specs.Prelude.{ℕ, ◌==◌, List, [], ◌∷◌, ◌++◌, take, drop, codes, Option, Some, None, unwrap_or}
 use Rattle.std.specs.Fmt.{decimal}
 use Rattle.std.specs.Map.{lookup}
@@ -8,7 +8,7 @@ use Rattle.amqp_types.specs.Properties.{Property}
 use Rattle.amqp_text.specs.Words.{quoted, signs}
 use Rattle.amqp_text.specs.Values.{table_text}
 
--- ---- slots
+-- ---- fields
 
 -- the items of a form as one word: a number, flags, a string or a table
 unfoldable pub form_text : Form → List Item → List ℕ
@@ -19,7 +19,7 @@ form_text long_string_form (bytes_item bytes ∷ items) = quoted bytes
 form_text table_form (entries_item es ∷ items) = table_text es
 form_text form items = []
 
--- a word for each slot that is not reserved, with a space in front
+-- a word for each field that is not reserved, with a space in front
 unfoldable pub slots_text : List Slot → List Item → List ℕ
 slots_text [] items = []
 slots_text (kept_slot form ∷ slots) items = (codes " " ++ form_text form (take (item_count form) items)) ++ slots_text slots (drop (item_count form) items)
@@ -46,6 +46,7 @@ property_names =
     (2, codes "cluster_id") ∷
     []
 
+-- the name of the property with this bit; a bit of no property has the empty name
 unfoldable pub property_name : ℕ → List ℕ
 property_name bit = unwrap_or (lookup (λ k. bit == k) property_names) []
 

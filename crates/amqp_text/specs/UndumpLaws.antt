@@ -5,7 +5,7 @@ use Rattle.amqp_types.specs.Judging.{IsBytes}
 use Rattle.amqp_frame.specs.Frames.{Frame, BadBeat}
 use Rattle.amqp_frame.specs.Fronts.{front}
 use Rattle.amqp_frame.specs.Spelling.{SpellsFrames}
-use Rattle.amqp_frame.specs.Canonical.{canon, canon_row, is_deep, is_long}
+use Rattle.amqp_frame.specs.Canonical.{canon, canon_frames, is_deep, is_long}
 use Rattle.amqp_frame.specs.Laws.{IsFrameHeld}
 use Rattle.amqp_stream.specs.Ends.{Store, Gains}
 use Rattle.amqp_text.specs.Dumping.{dumped}
@@ -15,11 +15,12 @@ use Rattle.amqp_text.specs.Undumping.{IsLongestText, UndumpsExactly}
 use Rattle.amqp_text.specs.declared.errors.UndumpError.{UndumpError}
 use Rattle.amqp_text.specs.declared.errors.UndumpError.TheVariants as errors
 
--- some bytes begin with one longest text
+-- two longest texts are the same: the frames, and the bytes after them
 pub record IsSameText (fs gs : List Frame) (rest more : List ℕ) : Type 0 where
   pub frames : fs ≡ gs
   pub rests : rest ≡ more
 
+-- within a limit, some bytes begin with at most one longest text
 abbrev pub OneLongestText : Type 0
 OneLongestText = (m : ℕ) (bytes : List ℕ) (fs gs : List Frame) (rest more : List ℕ) → IsLongestText m bytes fs rest → IsLongestText m bytes gs more → IsSameText fs gs rest more
 
@@ -32,8 +33,9 @@ DumpedTextIsReadBack = (m : ℕ) (bytes : List ℕ) → IsBytes bytes → IsLong
 pub record Undoes (m : ℕ) (bytes : List ℕ) (k l : Store) (result : Result (Unit {0}) UndumpError) : Type 0 where
   pub never_bad : result ≢ Err errors.BadText
   pub never_short : result ≢ Err errors.CutShort
-  pub written : result ≡ Ok tt → Gains k l (canon_row (front plain (Some m) bytes))
+  pub written : result ≡ Ok tt → Gains k l (canon_frames (front plain (Some m) bytes))
 
+-- so it is for both calls with the same limit, where the source of `undump` reports its bytes
 abbrev pub UndumpUndoesDump : Type 0
 UndumpUndoesDump = (m : ℕ) (bytes : List ℕ) (k l : Store) (result : Result (Unit {0}) UndumpError) → IsBytes bytes → UndumpsExactly m (dumped m bytes) k l result → Undoes m bytes k l result
 
@@ -41,7 +43,7 @@ UndumpUndoesDump = (m : ℕ) (bytes : List ℕ) (k l : Store) (result : Result (
 pub record AreBytesAndText (m : ℕ) (bytes text : List ℕ) : Type 0 where
   pub are_bytes : IsBytes bytes
   pub frames : List Frame
-  pub is_row : SpellsFrames strict (Some m) bytes frames
+  pub is_sequence : SpellsFrames strict (Some m) bytes frames
   pub is_text : text ≡ lines frames
 
 -- they correspond one to one
@@ -49,12 +51,12 @@ pub record CorrespondOneToOne : Type 0 where
   pub one_text : (m : ℕ) (bytes t u : List ℕ) → AreBytesAndText m bytes t → AreBytesAndText m bytes u → t ≡ u
   pub one_sequence : (m : ℕ) (b c text : List ℕ) → AreBytesAndText m b text → AreBytesAndText m c text → b ≡ c
 
--- A frame that programs hold is encoded strictly exactly where it is no heartbeat on channel 0 that does not belong there, and neither too
--- deep nor long.
+-- a frame that is no heartbeat on channel 0 that does not belong there, and neither too deep nor long
 pub record IsUsual (frame : Frame) : Type 0 where
   pub belongs : frame ≢ BadBeat 0
   pub not_deep : is_deep frame ≡ false
   pub not_long : is_long frame ≡ false
 
+-- a frame that programs hold, and whose canonical bytes are bytes, is encoded strictly by them exactly where it is usual
 abbrev pub StrictFramesAreUsual : Type 0
 StrictFramesAreUsual = (frame : Frame) → IsFrameHeld frame → IsBytes (canon frame) → IsStrict frame ↔ IsUsual frame

@@ -3,7 +3,7 @@ use Rattle.std.specs.Prelude.{◌≡◌, ◌≢◌, ℕ, ◌<◌, ◌≤◌, Lis
 use Rattle.amqp_types.specs.Levels.{strict}
 use Rattle.amqp_types.specs.Judging.{IsBytes}
 use Rattle.amqp_frame.specs.Frames.{Frame}
-use Rattle.amqp_frame.specs.Canonical.{canon_row}
+use Rattle.amqp_frame.specs.Canonical.{canon_frames}
 use Rattle.amqp_frame.specs.Spelling.{SpellsFrames}
 use Rattle.amqp_stream.specs.Ends.{Supply, Store, Takes, Gains, Rises, IsEmpty}
 use Rattle.amqp_stream.specs.Writing.{IsPrefix}
@@ -14,7 +14,7 @@ use Rattle.amqp_text.specs.declared.errors.UndumpError.TheVariants as errors
 -- Frames that their canonical bytes encode strictly, within a limit on payloads. These are bytes: contracts see them as natural
 -- numbers, and a body with a number above 255, which no program holds, could have a line of bytes too.
 abbrev pub AreStrict : ℕ → List Frame → Type 0
-AreStrict m frames = SpellsFrames strict (Some m) (canon_row frames) frames × IsBytes (canon_row frames)
+AreStrict m frames = SpellsFrames strict (Some m) (canon_frames frames) frames × IsBytes (canon_frames frames)
 
 -- a newline stands in the bytes
 pub record HoldsNewline (bytes : List ℕ) : Type 0 where
@@ -42,7 +42,7 @@ HasCauseUndumped turns taken rest a b k l (Err errors.NoMemory) = Unit {0}
 abbrev pub read_size : ℕ
 read_size = 65536
 
--- What is pending is written before each read: the canonical bytes of all lines but those that the last read ended.
+-- At the end at most 65,536 of the bytes taken, as many as a read takes, come after text whose frames were written.
 pub record IsOneReadBehind (m : ℕ) (taken written : List ℕ) : Type 0 where
   pub before : List ℕ
   pub last : List ℕ
@@ -51,7 +51,7 @@ pub record IsOneReadBehind (m : ℕ) (taken written : List ℕ) : Type 0 where
   pub frames : List Frame
   pub rest : List ℕ
   pub text : IsLongestText m before frames rest
-  pub written_begins : IsPrefix (canon_row frames) written
+  pub written_begins : IsPrefix (canon_frames frames) written
 
 -- what was written of some bytes: all of them, or a part of their front where a write or memory failed
 abbrev pub HasWrittenUndumped : List ℕ → List ℕ → Result (Unit {0}) UndumpError → Type 0
@@ -72,7 +72,7 @@ pub record Undumps (m turns : ℕ) (a b : Supply) (k l : Store) (result : Result
   pub text : IsLongestText m taken frames rest
   pub written : List ℕ
   pub gains : Gains k l written
-  pub writes : HasWrittenUndumped (canon_row frames) written result
+  pub writes : HasWrittenUndumped (canon_frames frames) written result
   pub cause : HasCauseUndumped turns taken rest a b k l result
   pub behind : IsOneReadBehind m taken written
 
@@ -91,7 +91,7 @@ pub record UndumpsExactly (m : ℕ) (bytes : List ℕ) (k l : Store) (result : R
   pub text : IsLongestText m bytes frames rest
   pub written : List ℕ
   pub gains : Gains k l written
-  pub answer : IsAnswerToText (canon_row frames) rest written result
+  pub answer : IsAnswerToText (canon_frames frames) rest written result
 
 -- valid text: the lines of frames within the limit, and a read budget above the number of bytes
 pub record IsValidText (m turns : ℕ) (bytes : List ℕ) : Type 0 where
@@ -100,6 +100,7 @@ pub record IsValidText (m turns : ℕ) (bytes : List ℕ) : Type 0 where
   pub is_text : bytes ≡ lines frames
   pub enough : length bytes < turns
 
+-- the call ended well, or memory ran out
 abbrev pub IsOkOrNoMemory : Result (Unit {0}) UndumpError → Type 0
 IsOkOrNoMemory (Ok done) = Unit {0}
 IsOkOrNoMemory (Err errors.NoMemory) = Unit {0}

@@ -12,6 +12,7 @@ abbrev pub tag_text : FieldTag → List ℕ
 tag_text tag.Void = codes "V"
 tag_text t = tag_byte t ∷ codes ":"
 
+-- `1` for true, `0` for false
 abbrev pub truth_text : Bool → List ℕ
 truth_text true = codes "1"
 truth_text false = codes "0"
@@ -43,5 +44,6 @@ abbrev mutual
 unfoldable pub value_text : FieldValue → List ℕ
 value_text v = tag_text (tag_of v) ++ content_text v
 
+-- the entries in the order in which they stand, between braces
 unfoldable pub table_text : List Entry → List ℕ
 table_text es = codes "{" ++ (parted (entries_texts (entries_of es)) ++ codes "}")

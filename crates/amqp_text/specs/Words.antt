@@ -10,6 +10,7 @@ hex_digit n = if nat_lt n 10 then 48 + n else 87 + n
 unfoldable pub hex_byte : ℕ → List ℕ
 hex_byte byte = hex_digit (byte / 16) ∷ hex_digit (byte % 16) ∷ []
 
+-- the two digits of each byte, one after another
 unfoldable pub hex : List ℕ → List ℕ
 hex bytes = flat_map hex_byte bytes
 

@@ -56,8 +56,9 @@ impl FrameWriter for Dumper {
     }
 }
 
-/// Writes the line of each frame of a stream, to the end of input or an error. Each read takes one of the read budget.
-/// Memory may run out at any frame: a line is longer than its frame.
+/// Writes the line of each frame of a stream, to the end of input or an error. `turns` is the read budget: so many
+/// reads at most are made. `max_payload` is in bytes; a longer payload is `TooLarge`. Memory may run out at any frame:
+/// a line is longer than its frame.
 pub fn dump<S: Source, K: Sink>(
     alloc: Global,
     source: &mut S,

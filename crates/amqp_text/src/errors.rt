@@ -116,7 +116,7 @@ impl UndumpError {
         }
     }
 
-    /// The status that a program ends with.
+    /// The exit status of a program that ends with this error.
     pub fn status(&self) -> u8
         ensures { result ≡ undump_error_status self.now }
     {

@@ -28,7 +28,7 @@ fn line_of(alloc: Global, frame: &AMQPFrame, bytes: &[u8]) -> Result<Vec<u8>, Ge
     }
 }
 
-/// Appends the line of a frame, and refuses what `gen_frame` refuses.
+/// Appends the line of a frame, with its newline, and refuses what `gen_frame` refuses.
 pub fn gen_line(alloc: Global, out: &mut Vec<u8>, frame: &AMQPFrame) -> Result<(), GenError>
     ensures { AppendsLine out.old.items out.new.items (frame_of frame.now) result }
 {

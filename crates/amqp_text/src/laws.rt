@@ -18,7 +18,7 @@ pub fn equal_texts_are_equal_sequences()
     ensures { EqualTextsAreEqualSequences }
 {}
 
-/// Bytes begin with one longest text.
+/// Within a limit, bytes begin with at most one longest text.
 pub fn one_longest_text()
     ensures { OneLongestText }
 {}
@@ -28,7 +28,8 @@ pub fn dumped_text_is_read_back()
     ensures { DumpedTextIsReadBack }
 {}
 
-/// Over what `dump` writes for some bytes, `undump` finds no fault, and writes the canonical bytes of the frames at their front.
+/// Over what `dump` writes for some bytes, `undump` finds no fault, and writes the canonical bytes of the frames at
+/// their front.
 pub fn undump_undoes_dump()
     ensures { UndumpUndoesDump }
 {}
@@ -38,8 +39,8 @@ pub fn bytes_and_texts_correspond()
     ensures { CorrespondOneToOne }
 {}
 
-/// A frame that programs hold has a line that is read back, where `gen_line` refuses it not and it is no heartbeat on channel 0 that does
-/// not belong there.
+/// A frame that programs hold is encoded strictly by its canonical bytes exactly where it is neither too deep nor long,
+/// and no heartbeat on channel 0 that does not belong there.
 pub fn strict_frames_are_usual()
     ensures { StrictFramesAreUsual }
 {}

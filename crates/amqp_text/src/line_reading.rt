@@ -2,7 +2,7 @@
 
 ghost use Rattle.std.specs.Prelude.{◌≡◌, ◌≢◌, ◌↔◌, ◌+◌, ◌-◌, ◌^◌, ◌<◌, ◌≤◌, true, false, length, take, IsTrue, Ok};
 ghost use Rattle.amqp_types.specs.Judging.{IsBytes};
-ghost use Rattle.amqp_text.specs.LineReading.{TellsLine};
+ghost use Rattle.amqp_text.specs.LineReading.{RendersLine};
 
 use crate::errors::TextError;
 use crate::line_text::LineText;
@@ -84,7 +84,7 @@ impl LineReader {
 
     /// Whether a text is the line of a frame within the limit, whose canonical bytes are then held.
     pub(crate) fn is_line(&mut self, text: &[u8], max_payload: ChunkSize) -> Result<bool, NoMemory>
-        ensures { TellsLine max_payload text.now self.new.text.canonical.bytes result }
+        ensures { RendersLine max_payload text.now self.new.text.canonical.bytes result }
     {
         self.payload.clear();
         let (frame_type, channel_id) = match read_words(&mut self.payload, without_newline(text)) {

@@ -30,7 +30,7 @@ fn empty_with_room(alloc: Global, buffer: &mut OutputBuffer, room: usize) -> Res
 }
 
 /// Puts the canonical bytes of a borrowed frame into a buffer, in place of what was there.
-#[tactic(auto, using(crate::proofs::Borrowed::untold))]
+#[tactic(auto, using(crate::proofs::Borrowed::unrendered))]
 fn put_canonical(
     alloc: Global,
     buffer: &mut OutputBuffer,
@@ -137,8 +137,8 @@ impl LineText {
         )
     }
 
-    /// Puts the line of a borrowed frame, in place of that of an earlier one. A canonical payload is not copied, so the canonical
-    /// bytes may be those of an earlier frame.
+    /// Puts the line of a borrowed frame, in place of that of an earlier one. A canonical payload is not copied, so the
+    /// canonical bytes may be those of an earlier frame.
     pub(crate) fn put_line(&mut self, raw: AMQPRawFrame<'_>) -> Result<(), StreamError>
         requires few { length raw.payload.now < 2 ^ 32 }
         ensures { PutsLine (raw_of raw.entry) self.new.line.items result }

@@ -3,9 +3,9 @@
 ghost use Rattle.std.specs.Prelude.{◌≡◌, ◌∷◌, ◌++◌, [], ℕ, codes, unwrap_or};
 ghost use Rattle.amqp_types.specs.Rows.{slots_at};
 ghost use Rattle.amqp_frame.specs.Frames.{Frame, Proto, Body};
-ghost use Rattle.amqp_text.specs.Telling.{Says, Writes, told_slots};
+ghost use Rattle.amqp_text.specs.Rendering.{Says, AppendsText, rendered_slots};
 ghost use Rattle.amqp_text.specs.Lines.{beat_words, line, spaced, words};
-ghost use Rattle.amqp_text.specs.Payloads.{IsIn, ids_words, sizes_words, told_header, told_method};
+ghost use Rattle.amqp_text.specs.Payloads.{IsIn, ids_words, sizes_words, rendered_header, rendered_method};
 
 use crate::slots::{write_properties, write_slots};
 use crate::words::{write_bytes, write_decimal, write_hex};
@@ -16,7 +16,7 @@ use amqp_types::{ChannelId, Identifier, NoMemory, PayloadSize};
 /// A space and a number in decimal.
 #[tactic(auto, unfolding(crate::specs::Lines::spaced))]
 fn write_spaced(out: &mut Vec<u8>, number: u64) -> Result<(), NoMemory>
-    ensures { Writes out.old.items out.new.items (spaced number) result }
+    ensures { AppendsText out.old.items out.new.items (spaced number) result }
 {
     out.push(b' ')?;
     write_decimal(out, number)
@@ -25,7 +25,7 @@ fn write_spaced(out: &mut Vec<u8>, number: u64) -> Result<(), NoMemory>
 /// A protocol header, whose payload is its version.
 fn write_version(out: &mut Vec<u8>, payload: &[u8]) -> Result<(), NoMemory>
     ensures { (major minor revision : ℕ) → payload.now ≡ major ∷ minor ∷ revision ∷ []
-        → Writes out.old.items out.new.items (words (Proto major minor revision)) result }
+        → AppendsText out.old.items out.new.items (words (Proto major minor revision)) result }
 {
     match payload {
         [major, minor, revision] => {
@@ -47,7 +47,7 @@ fn write_ids(
     class_id: Identifier,
     method_id: Identifier,
 ) -> Result<(), NoMemory>
-    ensures { Writes out.old.items out.new.items (ids_words channel_id class_id method_id) result }
+    ensures { AppendsText out.old.items out.new.items (ids_words channel_id class_id method_id) result }
 {
     write_bytes(out, b"method")?;
     write_spaced(out, channel_id as u64)?;
@@ -64,7 +64,7 @@ fn write_fields(
     method_id: Identifier,
     i: &[u8],
 ) -> Result<(), NoMemory>
-    ensures { Says (told_slots (unwrap_or (slots_at class_id method_id) []) i.now) out.old.items out.new.items result }
+    ensures { Says (rendered_slots (unwrap_or (slots_at class_id method_id) []) i.now) out.old.items out.new.items result }
 {
     match shapes_of(class_id, method_id) {
         Some(shapes) => write_slots(out, shapes, i),
@@ -81,7 +81,7 @@ fn write_method(
     method_id: Identifier,
     payload: &[u8],
 ) -> Result<(), NoMemory>
-    ensures { Says (told_method channel_id class_id method_id payload.now) out.old.items out.new.items result }
+    ensures { Says (rendered_method channel_id class_id method_id payload.now) out.old.items out.new.items result }
 {
     write_ids(out, channel_id, class_id, method_id)?;
     write_fields(out, class_id, method_id, bytes_from(payload, 4))
@@ -94,7 +94,7 @@ fn write_sizes(
     class_id: Identifier,
     body_size: PayloadSize,
 ) -> Result<(), NoMemory>
-    ensures { Writes out.old.items out.new.items (sizes_words channel_id class_id body_size) result }
+    ensures { AppendsText out.old.items out.new.items (sizes_words channel_id class_id body_size) result }
 {
     write_bytes(out, b"header")?;
     write_spaced(out, channel_id as u64)?;
@@ -111,7 +111,7 @@ fn write_header(
     body_size: PayloadSize,
     payload: &[u8],
 ) -> Result<(), NoMemory>
-    ensures { Says (told_header channel_id class_id body_size payload.now) out.old.items out.new.items result }
+    ensures { Says (rendered_header channel_id class_id body_size payload.now) out.old.items out.new.items result }
 {
     write_sizes(out, channel_id, class_id, body_size)?;
     write_properties(out, bytes_from(payload, 12))
@@ -120,7 +120,7 @@ fn write_header(
 /// A part of a body.
 #[tactic(auto, unfolding(crate::specs::Lines::words))]
 fn write_body(out: &mut Vec<u8>, channel_id: ChannelId, payload: &[u8]) -> Result<(), NoMemory>
-    ensures { Writes out.old.items out.new.items (words (Body channel_id payload.now)) result }
+    ensures { AppendsText out.old.items out.new.items (words (Body channel_id payload.now)) result }
 {
     write_bytes(out, b"body")?;
     write_spaced(out, channel_id as u64)?;
@@ -130,7 +130,7 @@ fn write_body(out: &mut Vec<u8>, channel_id: ChannelId, payload: &[u8]) -> Resul
 
 /// A heartbeat, which names the channel where none belongs.
 fn write_beat(out: &mut Vec<u8>, channel_id: ChannelId) -> Result<(), NoMemory>
-    ensures { Writes out.old.items out.new.items (codes "beat" ++ beat_words channel_id) result }
+    ensures { AppendsText out.old.items out.new.items (codes "beat" ++ beat_words channel_id) result }
 {
     write_bytes(out, b"beat")?;
     if channel_id == 0 {
@@ -141,7 +141,7 @@ fn write_beat(out: &mut Vec<u8>, channel_id: ChannelId) -> Result<(), NoMemory>
 
 /// What the line of a frame says, by its outline and its canonical payload.
 fn write_words(out: &mut Vec<u8>, outline: FrameOutline, payload: &[u8]) -> Result<(), NoMemory>
-    ensures { (frame : Frame) → IsIn outline payload.now frame → Writes out.old.items out.new.items (words frame) result }
+    ensures { (frame : Frame) → IsIn outline payload.now frame → AppendsText out.old.items out.new.items (words frame) result }
 {
     match outline {
         FrameOutline::ProtocolHeader => write_version(out, payload),
@@ -166,7 +166,7 @@ pub(crate) fn write_line(
     outline: FrameOutline,
     payload: &[u8],
 ) -> Result<(), NoMemory>
-    ensures { (frame : Frame) → IsIn outline payload.now frame → Writes out.old.items out.new.items (line frame) result }
+    ensures { (frame : Frame) → IsIn outline payload.now frame → AppendsText out.old.items out.new.items (line frame) result }
 {
     write_words(out, outline, payload)?;
     out.push(b'\n')?;

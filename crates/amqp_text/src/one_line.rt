@@ -12,7 +12,8 @@ use amqp_stream::StreamError;
 use amqp_types::{ChunkSize, append_bytes};
 use std::alloc::Global;
 
-/// Reads a line, with its newline, as the frame that it is the line of. No payload is longer than `max_payload`.
+/// Reads a line, with its newline, as the frame that it is the line of. The line of a payload above `max_payload` bytes
+/// is bad text.
 pub fn parse_line(alloc: Global, i: &[u8], max_payload: ChunkSize) -> Result<AMQPFrame, TextError>
     ensures { ParsesLine max_payload i.now result }
 {
@@ -26,7 +27,8 @@ pub fn parse_line(alloc: Global, i: &[u8], max_payload: ChunkSize) -> Result<AMQ
     }
 }
 
-/// Appends the canonical bytes of the frame that a line, with its newline, is the line of. No payload is longer than `max_payload`.
+/// Appends the canonical bytes of the frame that a line, with its newline, is the line of. The line of a payload above
+/// `max_payload` bytes is bad text.
 pub fn undump_line(
     alloc: Global,
     out: &mut Vec<u8>,
@@ -45,7 +47,7 @@ pub fn undump_line(
     }
 }
 
-/// Appends the line of a borrowed frame, or returns the fault of its payload.
+/// Appends the line of a borrowed frame, with its newline, or returns the fault of its payload.
 pub fn dump_line(alloc: Global, out: &mut Vec<u8>, raw: AMQPRawFrame<'_>) -> Result<(), StreamError>
     requires few { length raw.payload.now < 2 ^ 32 }
     ensures { AppendsRawLine (raw_of raw.entry) out.old.items out.new.items result }

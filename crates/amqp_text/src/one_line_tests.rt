@@ -1,4 +1,5 @@
-//! One line at a time: each method there and back, texts that are no line, each change of a line, and memory that is refused.
+//! One line at a time: each method there and back, texts that are no line, each change of a line, and memory that is
+//! refused.
 
 use crate::tests::{DECLARE, KINDS, KINDS_LINE, LIMIT, PROPERTIES_LINE};
 use crate::{TextError, dump_line, gen_line, parse_line, undump_line};

@@ -1,4 +1,4 @@
-//! Slots and properties as text, out of their canonical bytes.
+//! The fields of methods and the properties of messages as text, out of their canonical bytes.
 
 ghost use Rattle.std.specs.Prelude.{◌≡◌, ◌++◌, codes, map};
 ghost use Rattle.amqp_types.specs.Flags.{judge_flags};
@@ -7,7 +7,7 @@ ghost use Rattle.amqp_types.specs.Strings.{judge_short_string};
 ghost use Rattle.amqp_canonical.specs.Shapes.{form_of, property_of, slot_of, slots_of};
 ghost use Rattle.amqp_text.specs.Words.{quoted, signs};
 ghost use Rattle.amqp_text.specs.Slots.{property_name};
-ghost use Rattle.amqp_text.specs.Telling.{Says, Tells, Writes, is_reserved, told_form, told_properties, told_set, told_slot, told_slots};
+ghost use Rattle.amqp_text.specs.Rendering.{Says, Renders, AppendsText, is_reserved, rendered_form, rendered_properties, rendered_set, rendered_slot, rendered_slots};
 
 use crate::values::{
     write_long_long_uint, write_long_string, write_long_uint, write_short_short_uint,
@@ -15,15 +15,12 @@ use crate::values::{
 };
 use crate::words::{write_bytes, write_quoted, write_signs};
 use amqp_canonical::{Shape, bytes_from, has_bit, property_shapes, slot_size, split_key};
-use amqp_types::{Identifier, NoMemory};
-
-/// How deep tables and arrays may nest in the values of a table that is a slot.
-const ROOM: usize = 63;
+use amqp_types::{INNER_DEPTH, Identifier, NoMemory};
 
 /// So many flags of a byte.
 #[tactic(auto, unfolding(amqp_types::specs::Flags::judge_flags))]
 fn write_flags(out: &mut Vec<u8>, count: u8, i: &[u8]) -> Result<usize, NoMemory>
-    ensures { Tells (judge_map signs (judge_flags count) i.now) out.old.items out.new.items result }
+    ensures { Renders (judge_map signs (judge_flags count) i.now) out.old.items out.new.items result }
 {
     match i {
         [byte, ..] => {
@@ -35,9 +32,9 @@ fn write_flags(out: &mut Vec<u8>, count: u8, i: &[u8]) -> Result<usize, NoMemory
 }
 
 /// A short string.
-#[tactic(auto, using(crate::proofs::Told::short_told))]
+#[tactic(auto, using(crate::proofs::Rendered::short_rendered))]
 fn write_short_string(out: &mut Vec<u8>, i: &[u8]) -> Result<usize, NoMemory>
-    ensures { Tells (judge_map quoted judge_short_string i.now) out.old.items out.new.items result }
+    ensures { Renders (judge_map quoted judge_short_string i.now) out.old.items out.new.items result }
 {
     let (text, _) = split_key(i);
     write_quoted(out, text)?;
@@ -45,9 +42,9 @@ fn write_short_string(out: &mut Vec<u8>, i: &[u8]) -> Result<usize, NoMemory>
 }
 
 /// What stands at the front as this shape.
-#[tactic(auto, unfolding(crate::specs::Telling::told_form))]
+#[tactic(auto, unfolding(crate::specs::Rendering::rendered_form))]
 fn write_form(out: &mut Vec<u8>, shape: Shape, i: &[u8]) -> Result<usize, NoMemory>
-    ensures { Tells (told_form (form_of shape) i.now) out.old.items out.new.items result }
+    ensures { Renders (rendered_form (form_of shape) i.now) out.old.items out.new.items result }
 {
     match shape {
         Shape::Octet => write_short_short_uint(out, i),
@@ -62,11 +59,11 @@ fn write_form(out: &mut Vec<u8>, shape: Shape, i: &[u8]) -> Result<usize, NoMemo
         Shape::ReservedShortString => write_short_string(out, i),
         Shape::LongString => write_long_string(out, i),
         Shape::ReservedLongString => write_long_string(out, i),
-        Shape::Table => write_table(out, i, ROOM),
+        Shape::Table => write_table(out, i, INNER_DEPTH),
     }
 }
 
-/// Whether a slot is reserved.
+/// Whether a field is reserved.
 pub(crate) fn is_reserved(shape: Shape) -> bool
     ensures { result ≡ is_reserved (slot_of shape) }
 {
@@ -87,10 +84,10 @@ pub(crate) fn is_reserved(shape: Shape) -> bool
     }
 }
 
-/// A slot: a space and a word, or nothing where it is reserved.
-#[tactic(auto, using(crate::proofs::ToldSlots::reserved_told, crate::proofs::ToldSlots::kept_told))]
+/// A field: a space and a word, or nothing where it is reserved.
+#[tactic(auto, using(crate::proofs::RenderedSlots::reserved_rendered, crate::proofs::RenderedSlots::kept_rendered))]
 fn write_slot(out: &mut Vec<u8>, shape: Shape, i: &[u8]) -> Result<usize, NoMemory>
-    ensures { Tells (told_slot (slot_of shape) i.now) out.old.items out.new.items result }
+    ensures { Renders (rendered_slot (slot_of shape) i.now) out.old.items out.new.items result }
 {
     if is_reserved(shape) {
         return Ok(slot_size(shape, i));
@@ -99,10 +96,10 @@ fn write_slot(out: &mut Vec<u8>, shape: Shape, i: &[u8]) -> Result<usize, NoMemo
     write_form(out, shape, i)
 }
 
-/// Appends the text of slots of these shapes, one after another.
-#[tactic(auto, using(crate::proofs::ToldSlots::slots_told, crate::proofs::ToldSlots::no_slots))]
+/// Appends the text of fields of these shapes, one after another.
+#[tactic(auto, using(crate::proofs::RenderedSlots::slots_rendered, crate::proofs::RenderedSlots::no_slots))]
 pub(crate) fn write_slots(out: &mut Vec<u8>, shapes: &[Shape], i: &[u8]) -> Result<(), NoMemory>
-    ensures { Says (told_slots (slots_of shapes.now) i.now) out.old.items out.new.items result }
+    ensures { Says (rendered_slots (slots_of shapes.now) i.now) out.old.items out.new.items result }
 {
     match shapes {
         [] => Ok(()),
@@ -139,7 +136,7 @@ pub(crate) fn property_name(bit: Identifier) -> &'static [u8]
 
 /// A space, the name of the property with this bit, and `=`.
 fn write_name(out: &mut Vec<u8>, bit: u16) -> Result<(), NoMemory>
-    ensures { Writes out.old.items out.new.items (codes " " ++ (property_name bit ++ codes "=")) result }
+    ensures { AppendsText out.old.items out.new.items (codes " " ++ (property_name bit ++ codes "=")) result }
 {
     out.push(b' ')?;
     write_bytes(out, property_name(bit))?;
@@ -148,14 +145,14 @@ fn write_name(out: &mut Vec<u8>, bit: u16) -> Result<(), NoMemory>
 }
 
 /// The properties of these bits and shapes that the mask has, one after another.
-#[tactic(auto, using(crate::proofs::ToldSlots::option_told, crate::proofs::ToldSlots::option_past, crate::proofs::ToldSlots::no_options))]
+#[tactic(auto, using(crate::proofs::RenderedSlots::option_rendered, crate::proofs::RenderedSlots::option_past, crate::proofs::RenderedSlots::no_options))]
 fn write_set(
     out: &mut Vec<u8>,
     mask: u16,
     shapes: &[(u16, Shape)],
     i: &[u8],
 ) -> Result<(), NoMemory>
-    ensures { Says (told_set mask (map property_of shapes.now) i.now) out.old.items out.new.items result }
+    ensures { Says (rendered_set mask (map property_of shapes.now) i.now) out.old.items out.new.items result }
 {
     match shapes {
         [] => Ok(()),
@@ -171,9 +168,9 @@ fn write_set(
 }
 
 /// Appends the text of the properties that are set.
-#[tactic(auto, using(crate::proofs::ToldSlots::properties_told), unfolding(crate::specs::Telling::told_properties))]
+#[tactic(auto, using(crate::proofs::RenderedSlots::properties_rendered), unfolding(crate::specs::Rendering::rendered_properties))]
 pub(crate) fn write_properties(out: &mut Vec<u8>, i: &[u8]) -> Result<(), NoMemory>
-    ensures { Says (told_properties i.now) out.old.items out.new.items result }
+    ensures { Says (rendered_properties i.now) out.old.items out.new.items result }
 {
     match i {
         [a, b, rest @ ..] => write_set(out, u16::from_be_bytes([*a, *b]), property_shapes(), rest),

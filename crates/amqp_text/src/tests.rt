@@ -169,7 +169,8 @@ fn lines_before_a_failed_read_are_written(rt: HostRuntime) -> Result<(), Fail> {
     Ok(())
 }
 
-/// How a dump of the message ends, and what it has written, where its sink takes one byte a write and these writes fail.
+/// How a dump of the message ends, and what it has written, where its sink takes one byte a write and these writes
+/// fail.
 fn dumped_until(
     alloc: Global,
     failing: &[u64],

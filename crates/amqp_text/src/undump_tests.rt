@@ -107,7 +107,8 @@ fn frames_before_a_failed_read_are_written(rt: HostRuntime) -> Result<(), Fail> 
     Ok(())
 }
 
-/// How reading the message back ends, and what it has written, where its sink takes one byte a write and these writes fail.
+/// How reading the message back ends, and what it has written, where its sink takes one byte a write and these writes
+/// fail.
 fn undumped_until(
     alloc: Global,
     failing: &[u64],

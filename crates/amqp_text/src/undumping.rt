@@ -3,7 +3,7 @@
 ghost use Rattle.std.specs.Prelude.{◌≡◌, ◌⊎◌, ◌-◌, ◌<◌, ◌≤◌, ℕ, List, [], Some, Err, drop, length, take, vec_len, IfOk};
 ghost use Rattle.amqp_stream.specs.Ends.{Supply};
 ghost use Rattle.amqp_stream.specs.Transcribing.{NoFaults};
-ghost use Rattle.amqp_text.specs.LineReading.{EndsLine, GathersLine, GathersLines, HasNoNewline, ReadsOnce, StopsWith, end_with};
+ghost use Rattle.amqp_text.specs.LineReading.{EndsLine, GathersLine, GathersLines, HasNoNewline, ReadsOnce, StopsWith, end_of_text};
 ghost use Rattle.amqp_text.specs.Undumping.{IsOkOrNoMemory, IsValidText, Undumps, UndumpsExactly, read_size};
 
 use crate::errors::UndumpError;
@@ -17,7 +17,8 @@ use std::alloc::Global;
 /// How many bytes a read takes at most, and how many are pending at most.
 const PIECE: usize = 65536;
 
-/// Where the first line ends, after its newline. The first `searched` bytes, none of which is a newline, are not looked at.
+/// How many bytes the first line takes, with its newline; None where no newline comes. The first `searched` bytes, none
+/// of which is a newline, are not looked at.
 pub fn line_end(text: &[u8], searched: usize) -> Option<usize>
     requires within { searched ≤ length text.now }
     requires none { HasNoNewline (take searched text.now) }
@@ -62,7 +63,8 @@ fn gather_line<K: Sink>(
     }
 }
 
-/// Gathers the canonical bytes of the frames whose lines stand in front, and returns how many bytes come after these lines.
+/// Gathers the canonical bytes of the frames whose lines stand in front, and returns how many bytes come after these
+/// lines.
 fn gather_lines<K: Sink>(
     reader: &mut LineReader,
     out: &mut OutputBuffer,
@@ -139,7 +141,7 @@ fn stop<K: Sink>(
 
 /// The result at the end of input: what is held is a part of a line.
 fn end_of_input(held: &[u8]) -> Result<(), UndumpError>
-    ensures { result ≡ end_with held.now }
+    ensures { result ≡ end_of_text held.now }
 {
     if held.is_empty() {
         Ok(())
@@ -170,8 +172,8 @@ impl Lines {
     }
 }
 
-/// Writes the canonical bytes of the frame of each line that is read, to the end of input. What is pending is written before each
-/// read.
+/// Writes the canonical bytes of the frame of each line that is read, to the end of input. What is pending is written
+/// before each read.
 fn run<S: Source, K: Sink>(
     lines: &mut Lines,
     out: &mut OutputBuffer,
@@ -217,8 +219,9 @@ fn run<S: Source, K: Sink>(
     }
 }
 
-/// Writes the canonical bytes of the frame of each line of a stream, to the end of input or an error. Each read takes one of the
-/// read budget. Memory is taken for one line and one read.
+/// Writes the canonical bytes of the frame of each line of a stream, to the end of input or an error. `turns` is the
+/// read budget: so many reads at most are made, each of 65536 bytes at most. `max_payload` is in bytes; the line of a
+/// longer payload is bad text. Memory is taken for one line and one read.
 pub fn undump<S: Source, K: Sink>(
     alloc: Global,
     source: &mut S,

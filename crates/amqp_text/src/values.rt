@@ -1,5 +1,5 @@
 //! Values, arrays and tables as text, out of their canonical bytes.
-#![tactic(auto, using(crate::proofs::Told::untold, crate::proofs::Told::told_next), unfolding(crate::specs::Telling::told_behind, amqp_types::specs::ValueJudging::judge_decimal))]
+#![tactic(auto, using(crate::proofs::Rendered::unrendered, crate::proofs::Rendered::rendered_next), unfolding(crate::specs::Rendering::rendered_behind, amqp_types::specs::ValueJudging::judge_decimal))]
 
 ghost use Rattle.std.specs.Prelude.{◌≤◌, ◌<◌, ◌+◌, ◌++◌, codes, length, IfOk, IfSome};
 ghost use Rattle.std.specs.Fmt.{decimal};
@@ -10,7 +10,7 @@ ghost use Rattle.amqp_types.specs.Strings.{judge_long_string};
 ghost use Rattle.amqp_types.specs.ValueJudging.{filled, judge_decimal};
 ghost use Rattle.amqp_text.specs.Words.{hex, parted, quoted};
 ghost use Rattle.amqp_text.specs.Values.{tag_text, truth_text};
-ghost use Rattle.amqp_text.specs.Telling.{Finds, Tells, TellsAll, Writes, comma_before, told_behind, told_entry, told_items, told_nested, told_number, told_signed, told_table, told_value};
+ghost use Rattle.amqp_text.specs.Rendering.{FindsContent, Renders, RendersAll, AppendsText, comma_before, rendered_behind, rendered_entry, rendered_items, rendered_nested, rendered_number, rendered_signed, rendered_table, rendered_value};
 
 use crate::words::{write_bytes, write_decimal, write_hex, write_quoted, write_signed};
 use amqp_canonical::{bytes_from, split_key};
@@ -19,7 +19,7 @@ use amqp_types::{FieldTag, NoMemory, parse_long_bytes};
 /// What a length of 4 bytes covers at the front, and how many bytes both take.
 #[inline(always)]
 pub(crate) fn split_long(i: &[u8]) -> Option<(usize, &[u8])>
-    ensures found { Finds (λ content. content.now) result (judge_long_string i.now) }
+    ensures found { FindsContent (λ content. content.now) result (judge_long_string i.now) }
     ensures bound { IfSome result (λ found. found.0 ≤ length i.now) }
 {
     match parse_long_bytes(i) {
@@ -30,7 +30,7 @@ pub(crate) fn split_long(i: &[u8]) -> Option<(usize, &[u8])>
 
 /// An unsigned number of 1 byte.
 pub(crate) fn write_short_short_uint(out: &mut Vec<u8>, i: &[u8]) -> Result<usize, NoMemory>
-    ensures told { Tells (told_number bytes1 i.now) out.old.items out.new.items result }
+    ensures rendered { Renders (rendered_number bytes1 i.now) out.old.items out.new.items result }
     ensures used { IfOk result (λ n. n ≤ length i.now) }
 {
     match i {
@@ -44,7 +44,7 @@ pub(crate) fn write_short_short_uint(out: &mut Vec<u8>, i: &[u8]) -> Result<usiz
 
 /// An unsigned number of 2 bytes.
 pub(crate) fn write_short_uint(out: &mut Vec<u8>, i: &[u8]) -> Result<usize, NoMemory>
-    ensures told { Tells (told_number bytes2 i.now) out.old.items out.new.items result }
+    ensures rendered { Renders (rendered_number bytes2 i.now) out.old.items out.new.items result }
     ensures used { IfOk result (λ n. n ≤ length i.now) }
 {
     match i {
@@ -58,7 +58,7 @@ pub(crate) fn write_short_uint(out: &mut Vec<u8>, i: &[u8]) -> Result<usize, NoM
 
 /// An unsigned number of 4 bytes.
 pub(crate) fn write_long_uint(out: &mut Vec<u8>, i: &[u8]) -> Result<usize, NoMemory>
-    ensures told { Tells (told_number bytes4 i.now) out.old.items out.new.items result }
+    ensures rendered { Renders (rendered_number bytes4 i.now) out.old.items out.new.items result }
     ensures used { IfOk result (λ n. n ≤ length i.now) }
 {
     match i {
@@ -72,7 +72,7 @@ pub(crate) fn write_long_uint(out: &mut Vec<u8>, i: &[u8]) -> Result<usize, NoMe
 
 /// An unsigned number of 8 bytes.
 pub(crate) fn write_long_long_uint(out: &mut Vec<u8>, i: &[u8]) -> Result<usize, NoMemory>
-    ensures told { Tells (told_number bytes8 i.now) out.old.items out.new.items result }
+    ensures rendered { Renders (rendered_number bytes8 i.now) out.old.items out.new.items result }
     ensures used { IfOk result (λ n. n ≤ length i.now) }
 {
     match i {
@@ -86,7 +86,7 @@ pub(crate) fn write_long_long_uint(out: &mut Vec<u8>, i: &[u8]) -> Result<usize,
 
 /// A signed number of 1 byte.
 fn write_short_short_int(out: &mut Vec<u8>, i: &[u8]) -> Result<usize, NoMemory>
-    ensures told { Tells (told_signed bytes1 i.now) out.old.items out.new.items result }
+    ensures rendered { Renders (rendered_signed bytes1 i.now) out.old.items out.new.items result }
     ensures used { IfOk result (λ n. n ≤ length i.now) }
 {
     match i {
@@ -100,7 +100,7 @@ fn write_short_short_int(out: &mut Vec<u8>, i: &[u8]) -> Result<usize, NoMemory>
 
 /// A signed number of 2 bytes.
 fn write_short_int(out: &mut Vec<u8>, i: &[u8]) -> Result<usize, NoMemory>
-    ensures told { Tells (told_signed bytes2 i.now) out.old.items out.new.items result }
+    ensures rendered { Renders (rendered_signed bytes2 i.now) out.old.items out.new.items result }
     ensures used { IfOk result (λ n. n ≤ length i.now) }
 {
     match i {
@@ -114,7 +114,7 @@ fn write_short_int(out: &mut Vec<u8>, i: &[u8]) -> Result<usize, NoMemory>
 
 /// A signed number of 4 bytes.
 fn write_long_int(out: &mut Vec<u8>, i: &[u8]) -> Result<usize, NoMemory>
-    ensures told { Tells (told_signed bytes4 i.now) out.old.items out.new.items result }
+    ensures rendered { Renders (rendered_signed bytes4 i.now) out.old.items out.new.items result }
     ensures used { IfOk result (λ n. n ≤ length i.now) }
 {
     match i {
@@ -128,7 +128,7 @@ fn write_long_int(out: &mut Vec<u8>, i: &[u8]) -> Result<usize, NoMemory>
 
 /// A signed number of 8 bytes.
 fn write_long_long_int(out: &mut Vec<u8>, i: &[u8]) -> Result<usize, NoMemory>
-    ensures told { Tells (told_signed bytes8 i.now) out.old.items out.new.items result }
+    ensures rendered { Renders (rendered_signed bytes8 i.now) out.old.items out.new.items result }
     ensures used { IfOk result (λ n. n ≤ length i.now) }
 {
     match i {
@@ -142,7 +142,7 @@ fn write_long_long_int(out: &mut Vec<u8>, i: &[u8]) -> Result<usize, NoMemory>
 
 /// A truth value.
 fn write_boolean(out: &mut Vec<u8>, i: &[u8]) -> Result<usize, NoMemory>
-    ensures told { Tells (judge_map truth_text judge_boolean i.now) out.old.items out.new.items result }
+    ensures rendered { Renders (judge_map truth_text judge_boolean i.now) out.old.items out.new.items result }
     ensures used { IfOk result (λ n. n ≤ length i.now) }
 {
     match i {
@@ -160,7 +160,7 @@ fn write_boolean(out: &mut Vec<u8>, i: &[u8]) -> Result<usize, NoMemory>
 
 /// A scale and an unsigned number.
 fn write_decimal_value(out: &mut Vec<u8>, i: &[u8]) -> Result<usize, NoMemory>
-    ensures told { Tells (judge_map (λ d. decimal d.0 ++ (codes "/" ++ decimal d.1)) judge_decimal i.now) out.old.items out.new.items result }
+    ensures rendered { Renders (judge_map (λ d. decimal d.0 ++ (codes "/" ++ decimal d.1)) judge_decimal i.now) out.old.items out.new.items result }
     ensures used { IfOk result (λ n. n ≤ length i.now) }
 {
     match i {
@@ -176,7 +176,7 @@ fn write_decimal_value(out: &mut Vec<u8>, i: &[u8]) -> Result<usize, NoMemory>
 
 /// A long string.
 pub(crate) fn write_long_string(out: &mut Vec<u8>, i: &[u8]) -> Result<usize, NoMemory>
-    ensures told { Tells (judge_map quoted judge_long_string i.now) out.old.items out.new.items result }
+    ensures rendered { Renders (judge_map quoted judge_long_string i.now) out.old.items out.new.items result }
     ensures used { IfOk result (λ n. n ≤ length i.now) }
 {
     match split_long(i) {
@@ -190,7 +190,7 @@ pub(crate) fn write_long_string(out: &mut Vec<u8>, i: &[u8]) -> Result<usize, No
 
 /// A byte array.
 fn write_byte_array(out: &mut Vec<u8>, i: &[u8]) -> Result<usize, NoMemory>
-    ensures told { Tells (judge_map hex judge_long_string i.now) out.old.items out.new.items result }
+    ensures rendered { Renders (judge_map hex judge_long_string i.now) out.old.items out.new.items result }
     ensures used { IfOk result (λ n. n ≤ length i.now) }
 {
     match split_long(i) {
@@ -204,7 +204,7 @@ fn write_byte_array(out: &mut Vec<u8>, i: &[u8]) -> Result<usize, NoMemory>
 
 /// A comma, where more bytes come.
 fn write_comma(out: &mut Vec<u8>, rest: &[u8]) -> Result<(), NoMemory>
-    ensures { Writes out.old.items out.new.items (comma_before rest.now) result }
+    ensures { AppendsText out.old.items out.new.items (comma_before rest.now) result }
 {
     match rest {
         [] => Ok(()),
@@ -217,7 +217,7 @@ fn write_comma(out: &mut Vec<u8>, rest: &[u8]) -> Result<(), NoMemory>
 
 /// A tag letter, and a colon where something follows.
 fn write_tag(out: &mut Vec<u8>, tag: FieldTag) -> Result<(), NoMemory>
-    ensures { Writes out.old.items out.new.items (tag_text tag) result }
+    ensures { AppendsText out.old.items out.new.items (tag_text tag) result }
 {
     match tag {
         FieldTag::Void => {
@@ -228,11 +228,11 @@ fn write_tag(out: &mut Vec<u8>, tag: FieldTag) -> Result<(), NoMemory>
     }
 }
 
-/// Appends the text of a value at the front, and returns how many bytes it takes. Tables and arrays may nest `room` deep
-/// in it.
-#[cycle(tell)]
+/// Appends the text of a value at the front, and returns how many bytes it takes. Tables and arrays may nest `room`
+/// deep in it.
+#[cycle(render)]
 pub(crate) fn write_value(out: &mut Vec<u8>, i: &[u8], room: usize) -> Result<usize, NoMemory>
-    ensures told { Tells (told_value room i.now) out.old.items out.new.items result }
+    ensures rendered { Renders (rendered_value room i.now) out.old.items out.new.items result }
     ensures used { IfOk result (λ n. (0 < n) × (n ≤ length i.now + 1)) }
 {
     match i {
@@ -249,14 +249,14 @@ pub(crate) fn write_value(out: &mut Vec<u8>, i: &[u8], room: usize) -> Result<us
 }
 
 /// The value after a tag.
-#[cycle(tell)]
+#[cycle(render)]
 fn write_after_tag(
     out: &mut Vec<u8>,
     tag: FieldTag,
     i: &[u8],
     room: usize,
 ) -> Result<usize, NoMemory>
-    ensures told { Tells (told_behind (told_nested room) tag i.now) out.old.items out.new.items result }
+    ensures rendered { Renders (rendered_behind (rendered_nested room) tag i.now) out.old.items out.new.items result }
     ensures used { IfOk result (λ n. n ≤ length i.now) }
 {
     match tag {
@@ -281,9 +281,9 @@ fn write_after_tag(
 }
 
 /// An array.
-#[cycle(tell)]
+#[cycle(render)]
 fn write_array(out: &mut Vec<u8>, i: &[u8], room: usize) -> Result<usize, NoMemory>
-    ensures told { Tells (told_items (told_value room) (codes "[") (codes "]") i.now) out.old.items out.new.items result }
+    ensures rendered { Renders (rendered_items (rendered_value room) (codes "[") (codes "]") i.now) out.old.items out.new.items result }
     ensures used { IfOk result (λ n. n ≤ length i.now) }
 {
     match split_long(i) {
@@ -297,11 +297,11 @@ fn write_array(out: &mut Vec<u8>, i: &[u8], room: usize) -> Result<usize, NoMemo
     }
 }
 
-/// Appends the text of a table at the front, and returns how many bytes it takes. Tables and arrays may nest `room` deep in
-/// its values.
-#[cycle(tell)]
+/// Appends the text of a table at the front, and returns how many bytes it takes. Tables and arrays may nest `room`
+/// deep in its values.
+#[cycle(render)]
 pub(crate) fn write_table(out: &mut Vec<u8>, i: &[u8], room: usize) -> Result<usize, NoMemory>
-    ensures told { Tells (told_table (told_value room) i.now) out.old.items out.new.items result }
+    ensures rendered { Renders (rendered_table (rendered_value room) i.now) out.old.items out.new.items result }
     ensures used { IfOk result (λ n. n ≤ length i.now) }
 {
     match split_long(i) {
@@ -316,9 +316,9 @@ pub(crate) fn write_table(out: &mut Vec<u8>, i: &[u8], room: usize) -> Result<us
 }
 
 /// The values that fill an array.
-#[cycle(tell)]
+#[cycle(render)]
 fn write_values(out: &mut Vec<u8>, content: &[u8], room: usize) -> Result<(), NoMemory>
-    ensures { TellsAll parted (filled (told_value room) 0 content.now) out.old.items out.new.items result }
+    ensures { RendersAll parted (filled (rendered_value room) 0 content.now) out.old.items out.new.items result }
 {
     let mut rest = content;
     while !rest.is_empty() {
@@ -330,9 +330,9 @@ fn write_values(out: &mut Vec<u8>, content: &[u8], room: usize) -> Result<(), No
 }
 
 /// The entries that fill a table.
-#[cycle(tell)]
+#[cycle(render)]
 fn write_entries(out: &mut Vec<u8>, content: &[u8], room: usize) -> Result<(), NoMemory>
-    ensures { TellsAll parted (filled (told_entry (told_value room)) 0 content.now) out.old.items out.new.items result }
+    ensures { RendersAll parted (filled (rendered_entry (rendered_value room)) 0 content.now) out.old.items out.new.items result }
 {
     let mut rest = content;
     while !rest.is_empty() {
@@ -344,9 +344,9 @@ fn write_entries(out: &mut Vec<u8>, content: &[u8], room: usize) -> Result<(), N
 }
 
 /// An entry: its key, `=` and its value.
-#[cycle(tell)]
+#[cycle(render)]
 fn write_entry(out: &mut Vec<u8>, i: &[u8], room: usize) -> Result<usize, NoMemory>
-    ensures told { Tells (told_entry (told_value room) i.now) out.old.items out.new.items result }
+    ensures rendered { Renders (rendered_entry (rendered_value room) i.now) out.old.items out.new.items result }
     ensures used { IfOk result (λ n. (0 < n) × (n ≤ length i.now + 2)) }
 {
     let (key, value) = split_key(i);

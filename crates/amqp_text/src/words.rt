@@ -4,7 +4,7 @@ ghost use Rattle.std.specs.Prelude.{◌≡◌, ◌+◌, ◌<◌, ◌≤◌, [], 
 ghost use Rattle.std.specs.Fmt.{decimal, signed_decimal};
 ghost use Rattle.amqp_types.specs.Flags.{flags_from};
 ghost use Rattle.amqp_text.specs.Words.{escaped, hex, hex_byte, hex_digit, is_plain, quoted, sign, signs};
-ghost use Rattle.amqp_text.specs.Telling.{Writes};
+ghost use Rattle.amqp_text.specs.Rendering.{AppendsText};
 
 use amqp_canonical::has_bit;
 use amqp_types::NoMemory;
@@ -15,7 +15,7 @@ const MOST_DIGITS: usize = 20;
 /// Appends bytes as they are.
 #[inline(always)]
 pub(crate) fn write_bytes(out: &mut Vec<u8>, bytes: &[u8]) -> Result<(), NoMemory>
-    ensures { Writes out.old.items out.new.items bytes.now result }
+    ensures { AppendsText out.old.items out.new.items bytes.now result }
 {
     out.extend_from_slice(bytes)?;
     Ok(())
@@ -39,7 +39,7 @@ fn put_digits(digits: &mut [u8; MOST_DIGITS], number: u64) -> usize
 
 /// Appends a number in decimal.
 pub(crate) fn write_decimal(out: &mut Vec<u8>, number: u64) -> Result<(), NoMemory>
-    ensures { Writes out.old.items out.new.items (decimal number) result }
+    ensures { AppendsText out.old.items out.new.items (decimal number) result }
 {
     let mut digits = [0; MOST_DIGITS];
     let place = put_digits(&mut digits, number);
@@ -48,7 +48,7 @@ pub(crate) fn write_decimal(out: &mut Vec<u8>, number: u64) -> Result<(), NoMemo
 
 /// Appends a number in decimal, with its sign where it is below zero.
 pub(crate) fn write_signed(out: &mut Vec<u8>, number: i64) -> Result<(), NoMemory>
-    ensures { Writes out.old.items out.new.items (signed_decimal number) result }
+    ensures { AppendsText out.old.items out.new.items (signed_decimal number) result }
 {
     if number < 0 {
         out.push(b'-')?;
@@ -82,7 +82,7 @@ fn hex_byte(byte: u8) -> [u8; 2]
 /// Appends bytes in hex.
 #[tactic(auto, unfolding(crate::specs::Words::hex))]
 pub(crate) fn write_hex(out: &mut Vec<u8>, bytes: &[u8]) -> Result<(), NoMemory>
-    ensures { Writes out.old.items out.new.items (hex bytes.now) result }
+    ensures { AppendsText out.old.items out.new.items (hex bytes.now) result }
 {
     for byte in bytes {
         write_bytes(out, &hex_byte(*byte))?;
@@ -103,7 +103,7 @@ fn is_plain(byte: u8) -> bool
 #[inline(always)]
 #[tactic(auto, unfolding(crate::specs::Words::escaped))]
 fn write_escaped(out: &mut Vec<u8>, byte: u8) -> Result<(), NoMemory>
-    ensures { Writes out.old.items out.new.items (escaped byte) result }
+    ensures { AppendsText out.old.items out.new.items (escaped byte) result }
 {
     if is_plain(byte) {
         out.push(byte)?;
@@ -116,7 +116,7 @@ fn write_escaped(out: &mut Vec<u8>, byte: u8) -> Result<(), NoMemory>
 /// Appends a quoted string.
 #[tactic(auto, unfolding(crate::specs::Words::quoted))]
 pub(crate) fn write_quoted(out: &mut Vec<u8>, bytes: &[u8]) -> Result<(), NoMemory>
-    ensures { Writes out.old.items out.new.items (quoted bytes.now) result }
+    ensures { AppendsText out.old.items out.new.items (quoted bytes.now) result }
 {
     out.push(b'"')?;
     for byte in bytes {
@@ -137,7 +137,7 @@ fn sign(flag: bool) -> u8
 /// Appends a sign for each of so many flags of a byte, flag 0 first.
 #[tactic(auto, unfolding(crate::specs::Words::signs))]
 pub(crate) fn write_signs(out: &mut Vec<u8>, count: u8, byte: u8) -> Result<(), NoMemory>
-    ensures { Writes out.old.items out.new.items (signs (flags_from count 0 byte)) result }
+    ensures { AppendsText out.old.items out.new.items (signs (flags_from count 0 byte)) result }
 {
     for k in 0..count {
         out.push(sign(has_bit(byte as u16, k as u16)))?;

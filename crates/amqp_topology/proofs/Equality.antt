@@ -39,28 +39,28 @@ declare_to : (a b : Declare) → a ≡ b → SameDeclare a b
 unfolding SameDeclare
 declare_to a b e = search rules
 
-same_declare : (a b : Declare) → Decides (declare.ghosts.eq a b) (a ≡ b)
+pub same_declare : (a b : Declare) → Decides (declare.ghosts.eq a b) (a ≡ b)
 same_declare a b = (λ h. declare_of a b ((declare_fields a b).0 h), λ e. (declare_fields a b).1 (declare_to a b e))
 
-same_declare_ok : (a b : DeclareOk) → Decides (declare_ok.ghosts.eq a b) (a ≡ b)
+pub same_declare_ok : (a b : DeclareOk) → Decides (declare_ok.ghosts.eq a b) (a ≡ b)
 same_declare_ok a b = search rules
 
-same_bind : (a b : Bind) → Decides (bind.ghosts.eq a b) (a ≡ b)
+pub same_bind : (a b : Bind) → Decides (bind.ghosts.eq a b) (a ≡ b)
 same_bind a b = search (rules, same_tables)
 
-same_purge : (a b : Purge) → Decides (purge.ghosts.eq a b) (a ≡ b)
+pub same_purge : (a b : Purge) → Decides (purge.ghosts.eq a b) (a ≡ b)
 same_purge a b = search rules
 
-same_purge_ok : (a b : PurgeOk) → Decides (purge_ok.ghosts.eq a b) (a ≡ b)
+pub same_purge_ok : (a b : PurgeOk) → Decides (purge_ok.ghosts.eq a b) (a ≡ b)
 same_purge_ok a b = search rules
 
-same_delete : (a b : Delete) → Decides (delete.ghosts.eq a b) (a ≡ b)
+pub same_delete : (a b : Delete) → Decides (delete.ghosts.eq a b) (a ≡ b)
 same_delete a b = search rules
 
-same_delete_ok : (a b : DeleteOk) → Decides (delete_ok.ghosts.eq a b) (a ≡ b)
+pub same_delete_ok : (a b : DeleteOk) → Decides (delete_ok.ghosts.eq a b) (a ≡ b)
 same_delete_ok a b = search rules
 
-same_unbind : (a b : Unbind) → Decides (unbind.ghosts.eq a b) (a ≡ b)
+pub same_unbind : (a b : Unbind) → Decides (unbind.ghosts.eq a b) (a ≡ b)
 same_unbind a b = search (rules, same_tables)
 
 same : (a b : AMQPMethod) → method.ghosts.eq a b ≡ true → a ≡ b

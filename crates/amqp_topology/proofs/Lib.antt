@@ -1,1 +1,2 @@
+-- The lemmas of amqp_topology.
 pub mod Equality

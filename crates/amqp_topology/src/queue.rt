@@ -183,7 +183,7 @@ macro_rules! with_fields {
     };
 }
 
-/// The size of the class id, the method id and the fields.
+/// The size in bytes of the class id, the method id and the fields.
 #[tactic(auto)]
 pub fn size_queue(method: &AMQPMethod) -> Result<u64, GenError>
     ensures { Measures result (payload_size (method_of method.now)) }

@@ -3,39 +3,39 @@ use Rattle.std.proofs.Common.{◌≡◌, ℕ, ◌+◌, ◌≤◌, List, ◌++◌
 use Rattle.std.proofs.lemmas.List.{length-append}
 use Rattle.amqp_types.specs.Levels.{Level, plain, tidy, strict}
 use Rattle.amqp_types.specs.Judging.{Judge, took, IsExact}
-use Rattle.amqp_types.specs.Sequences.{judge_map, judge_both, SpellsMade, SpellsBoth}
+use Rattle.amqp_types.specs.Sequences.{judge_map, judge_both, SpellsMapped, SpellsBoth}
 use Rattle.amqp_types.specs.FormLaws.{IsLawful}
 use Rattle.amqp_types.proofs.FormLaws.{is_plain, one_at_each}
 use Rattle.amqp_types.proofs.Sequences.{map_spelled, map_taken, both_exact}
 
-map_exact : {A B : Type 0} (make : A → B) (judge : Judge A) (Spells : List ℕ → A → Type 0) → IsExact judge Spells → IsExact (judge_map make judge) (SpellsMade Spells make)
+map_exact : {A B : Type 0} (make : A → B) (judge : Judge A) (Spells : List ℕ → A → Type 0) → IsExact judge Spells → IsExact (judge_map make judge) (SpellsMapped Spells make)
 map_exact make judge Spells exact = record {
-  spelled = map_spelled make judge Spells (SpellsMade Spells make) exact (λ bytes x h. record { thing = x; spelled = h; made = refl });
+  spelled = map_spelled make judge Spells (SpellsMapped Spells make) exact (λ bytes x h. record { thing = x; spelled = h; made = refl });
   taken = λ bytes rest y h. map_taken make judge Spells exact bytes rest h.thing h.spelled ∙ ap (λ z. took z (length bytes)) (sym h.made);
 }
 
 module _ {A B : Type 0} (make : A → B) (judge : Judge A) (Spells : Level → List ℕ → A → Type 0) (short : A → List ℕ) (canonical : B → List ℕ) (law : IsLawful judge Spells short) (same : (x : A) → canonical (make x) ≡ short x) where
-  abbrev Made : Level → List ℕ → B → Type 0
-  Made level = SpellsMade (Spells level) make
+  abbrev Mapped : Level → List ℕ → B → Type 0
+  Mapped level = SpellsMapped (Spells level) make
 
-  made_exact : IsExact (judge_map make judge) (Made plain)
-  made_exact = map_exact make judge (Spells plain) law.exact
+  mapped_exact : IsExact (judge_map make judge) (Mapped plain)
+  mapped_exact = map_exact make judge (Spells plain) law.exact
 
-  made_strict_is_tidy : (bytes : List ℕ) (y : B) → Made strict bytes y → Made tidy bytes y
-  made_strict_is_tidy bytes y h = record { thing = h.thing; spelled = law.strict_is_tidy bytes h.thing h.spelled; made = h.made }
+  mapped_strict_is_tidy : (bytes : List ℕ) (y : B) → Mapped strict bytes y → Mapped tidy bytes y
+  mapped_strict_is_tidy bytes y h = record { thing = h.thing; spelled = law.strict_is_tidy bytes h.thing h.spelled; made = h.made }
 
-  made_tidy_is_plain : (bytes : List ℕ) (y : B) → Made tidy bytes y → Made plain bytes y
-  made_tidy_is_plain bytes y h = record { thing = h.thing; spelled = law.tidy_is_plain bytes h.thing h.spelled; made = h.made }
+  mapped_tidy_is_plain : (bytes : List ℕ) (y : B) → Mapped tidy bytes y → Mapped plain bytes y
+  mapped_tidy_is_plain bytes y h = record { thing = h.thing; spelled = law.tidy_is_plain bytes h.thing h.spelled; made = h.made }
 
   bytes_of : (y : B) (x : A) → y ≡ make x → canonical y ≡ short x
   bytes_of y x made = ap canonical made ∙ same x
 
-  pub made_lawful : IsLawful (judge_map make judge) Made canonical
-  made_lawful = record {
-    exact = made_exact;
-    strict_is_tidy = made_strict_is_tidy;
-    tidy_is_plain = made_tidy_is_plain;
-    one_meaning = one_at_each (judge_map make judge) Made made_exact (is_plain Made made_strict_is_tidy made_tidy_is_plain);
+  pub mapped_lawful : IsLawful (judge_map make judge) Mapped canonical
+  mapped_lawful = record {
+    exact = mapped_exact;
+    strict_is_tidy = mapped_strict_is_tidy;
+    tidy_is_plain = mapped_tidy_is_plain;
+    one_meaning = one_at_each (judge_map make judge) Mapped mapped_exact (is_plain Mapped mapped_strict_is_tidy mapped_tidy_is_plain);
     strict_is_canonical = λ bytes y h. law.strict_is_canonical bytes h.thing h.spelled ∙ sym (bytes_of y h.thing h.made);
     canonical_is_strict = λ bytes y h.
         let P : List ℕ → Type 0 = λ bs. Spells strict bs h.thing in

@@ -1,3 +1,4 @@
+-- The lemmas of amqp_types.
 pub mod Bytes
 pub mod Exact
 pub mod Judged
@@ -11,4 +12,4 @@ pub mod Puts
 pub mod FlagBytes
 pub mod FormLaws
 pub mod Lawful
-pub mod Telling
+pub mod Deciding

@@ -8,15 +8,15 @@ use Rattle.amqp_types.proofs.Bytes.{IsBytes-drop}
 use Rattle.amqp_types.proofs.Took.{bind_took, value_took, count_took}
 
 -- what is made of what was read
-module _ {A B : Type 0} (make : A → B) (judge : Judge A) (Spells : List ℕ → A → Type 0) (Made : List ℕ → B → Type 0) (exact : IsExact judge Spells) (into : (bytes : List ℕ) (x : A) → Spells bytes x → Made bytes (make x)) where
-  pub map_spelled : (bytes : List ℕ) (y : B) (n : ℕ) → IsBytes bytes → judge_map make judge bytes ≡ took y n → Made (take n bytes) y × (n ≤ length bytes)
+module _ {A B : Type 0} (make : A → B) (judge : Judge A) (Spells : List ℕ → A → Type 0) (Mapped : List ℕ → B → Type 0) (exact : IsExact judge Spells) (into : (bytes : List ℕ) (x : A) → Spells bytes x → Mapped bytes (make x)) where
+  pub map_spelled : (bytes : List ℕ) (y : B) (n : ℕ) → IsBytes bytes → judge_map make judge bytes ≡ took y n → Mapped (take n bytes) y × (n ≤ length bytes)
   map_spelled bytes y n fits h =
       let found = bind_took (judge bytes) _ y n h in
       let one = exact.spelled bytes found.0 found.1 fits found.2 in
       let is : make found.0 ≡ y = value_took _ y _ n found.3 in
       let count : found.1 ≡ n = count_took _ y _ n found.3 in
-      let P : ℕ → Type 0 = λ m. Made (take m bytes) y in
-      let Q : B → Type 0 = λ z. Made (take found.1 bytes) z in
+      let P : ℕ → Type 0 = λ m. Mapped (take m bytes) y in
+      let Q : B → Type 0 = λ z. Mapped (take found.1 bytes) z in
       (subst P count (subst Q is (into (take found.1 bytes) found.0 one.0)), omega (arith, one.1, count))
 
 pub map_taken : {A B : Type 0} (make : A → B) (judge : Judge A) (Spells : List ℕ → A → Type 0) → IsExact judge Spells → (bytes rest : List ℕ) (x : A) → Spells bytes x → judge_map make judge (bytes ++ rest) ≡ took (make x) (length bytes)

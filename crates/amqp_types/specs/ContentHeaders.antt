@@ -17,6 +17,7 @@ use Rattle.amqp_types.specs.PropertySpelling.{SpellsProperties}
 use Rattle.amqp_types.specs.PropertyLaws.{AreOptionsHeld}
 use Rattle.amqp_types.specs.declared.errors.GenError.{GenError}
 
+-- a class id, the size of the whole body in bytes, and an option for each property, in the order in which they stand
 pub record ContentHeader : Type 0 where
   pub class_id : ℕ
   pub body_size : ℕ
@@ -30,6 +31,7 @@ header_slots =
     kept_slot (number_form bytes8) ∷
     []
 
+-- the items of the fields in front of the properties: the class id and the size of the body, and none for the weight
 abbrev pub header_items : ContentHeader → List Item
 header_items header = number_item header.class_id ∷ number_item header.body_size ∷ []
 
@@ -38,9 +40,11 @@ abbrev pub header_of_parts : List Item → List (Option Item) → ContentHeader
 header_of_parts (number_item class ∷ number_item size ∷ []) set = record { class_id = class; body_size = size; options = set }
 header_of_parts items set = record { class_id = 0; body_size = 0; options = set }
 
+-- the class id, the weight and the size of the body, and after them the mask and the properties
 unfoldable pub judge_content_header : Judge ContentHeader
 judge_content_header = judge_both (judge_slots header_slots) judge_properties header_of_parts
 
+-- the fields in front of the properties, and after them the properties, all of them encoded at this level
 abbrev pub SpellsContentHeader : Level → List ℕ → ContentHeader → Type 0
 SpellsContentHeader level = SpellsBoth (SpellsSlots level header_slots) (SpellsProperties level) header_of_parts
 
@@ -54,6 +58,7 @@ content_header_size header = measured (any_deep_option header.options) (any_long
 
 -- ---- laws
 
+-- The laws of a form of bytes hold of content headers.
 abbrev pub ContentHeadersAreLawful : Type 0
 ContentHeadersAreLawful = IsLawful judge_content_header SpellsContentHeader content_header_bytes
 

@@ -5,6 +5,7 @@ use Rattle.amqp_types.specs.declared.errors.ParserError.TheVariants as parser_er
 use Rattle.amqp_types.specs.declared.errors.GenError.{GenError}
 use Rattle.amqp_types.specs.declared.errors.GenError.TheVariants as gen_errors
 
+-- the number of an error of decoding, from 1 on in the order of the variants
 abbrev pub parser_error_number : ParserError → ℕ
 parser_error_number parser_errors.Incomplete = 1
 parser_error_number parser_errors.UnknownFrameType = 2
@@ -19,6 +20,7 @@ parser_error_number parser_errors.UnknownTag = 10
 parser_error_number parser_errors.TooDeep = 11
 parser_error_number parser_errors.NoMemory = 12
 
+-- the text as which an error of decoding is rendered: the name of its variant
 abbrev pub parser_error_name : ParserError → List ℕ
 parser_error_name parser_errors.Incomplete = codes "Incomplete"
 parser_error_name parser_errors.UnknownFrameType = codes "UnknownFrameType"
@@ -33,12 +35,14 @@ parser_error_name parser_errors.UnknownTag = codes "UnknownTag"
 parser_error_name parser_errors.TooDeep = codes "TooDeep"
 parser_error_name parser_errors.NoMemory = codes "NoMemory"
 
+-- the number of an error of encoding, from 1 on in the order of the variants
 abbrev pub gen_error_number : GenError → ℕ
 gen_error_number gen_errors.TooDeep = 1
 gen_error_number gen_errors.TooLong = 2
 gen_error_number gen_errors.BufferTooSmall = 3
 gen_error_number gen_errors.NoMemory = 4
 
+-- the text as which an error of encoding is rendered: the name of its variant
 abbrev pub gen_error_name : GenError → List ℕ
 gen_error_name gen_errors.TooDeep = codes "TooDeep"
 gen_error_name gen_errors.TooLong = codes "TooLong"

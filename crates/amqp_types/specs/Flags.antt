@@ -14,11 +14,12 @@ abbrev pub flags_from : ℕ → ℕ → ℕ → List Bool
 flags_from zero k byte = []
 flags_from (suc count) k byte = flag_at byte k ∷ flags_from count (k + 1) byte
 
+-- the bit of a flag, 1 where it is set
 abbrev pub bit_of : Bool → ℕ
 bit_of false = 0
 bit_of true = 1
 
--- the byte whose lowest bits are the flags, and whose others are zero
+-- the byte whose lowest bits are the flags, and whose unused bits are zero
 abbrev pub flags_byte : List Bool → ℕ
 flags_byte [] = 0
 flags_byte (flag ∷ flags) = bit_of flag + 2 * flags_byte flags
@@ -33,7 +34,7 @@ FromTidy plain Rule = Unit {0}
 FromTidy tidy Rule = Rule
 FromTidy strict Rule = Rule
 
--- From level tidy on the bits above the flags are zero.
+-- The lowest bits of one byte are the flags. From level tidy on the unused bits, those above the flags, are zero.
 pub record SpellsFlags (level : Level) (count : ℕ) (bytes : List ℕ) (flags : List Bool) : Type 0 where
   pub byte : ℕ
   pub fits : byte < 256
@@ -41,5 +42,6 @@ pub record SpellsFlags (level : Level) (count : ℕ) (bytes : List ℕ) (flags :
   pub flags_are : flags ≡ flags_from count 0 byte
   pub unused : FromTidy level (byte < 2 ^ count)
 
+-- as many flags out of one byte, from its lowest bit on; its unused bits are ignored
 unfoldable pub judge_flags : ℕ → Judge (List Bool)
 judge_flags count bytes = judge_number bytes1 bytes >>= λ byte. took (flags_from count 0 byte.0) byte.1

@@ -1,4 +1,4 @@
--- Reading from the left out of one container: what is taken and how many bytes it uses, or the first thing that cannot be read.
+-- Reading from the left out of one input, payload, table or array: what is taken and how many bytes it uses, or the first thing that cannot be read.
 use Rattle.std.specs.Prelude.{◌≡◌, ℕ, ◌<◌, ◌≤◌, List, ◌++◌, length, take, slice_index}
 
 -- why bytes are refused, whatever follows them
@@ -16,17 +16,20 @@ pub data Fault : Type 0 where
   too_deep : Fault
   not_tidy : Fault
 
--- took: this, in so many bytes. past: the container ends inside what is decoded
+-- took: this, in so many bytes. past: incomplete, as the input, payload, table or array ends inside
+-- what is decoded. fault: refused, whatever follows
 pub data Judged (A : Type 0) : Type 0 where
   took : A → ℕ → Judged A
   past : Judged A
   fault : Fault → Judged A
 
+-- decoding from the front of some bytes, of which it need not use all
 abbrev pub Judge : Type 0 → Type 0
 Judge A = List ℕ → Judged A
 
 -- what follows goes on from what was taken and how many bytes it used
 infixl 10 ◌>>=◌
+-- what is incomplete stays so, and the first fault is the one that is reported
 abbrev pub ◌>>=◌ : {A B : Type 0} → Judged A → (A × ℕ → Judged B) → Judged B
 (took x n) >>= f = f (x, n)
 past >>= f = past

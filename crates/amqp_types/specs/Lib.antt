@@ -1,3 +1,5 @@
+-- The definitions of amqp_types.
+pub mod Constants
 pub mod Levels
 pub mod Judging
 pub mod Sequences

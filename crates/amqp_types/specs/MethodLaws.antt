@@ -30,6 +30,7 @@ are_sound_classes (class ∷ classes) = (is_short class.0 && are_sound_rows clas
 abbrev pub RowsAreLawful : Type 0
 RowsAreLawful = (class id : ℕ) (slots : List Slot) → slots_at class id ≡ Some slots → IsLawful (judge_slots slots) (λ level. SpellsSlots level slots) (slots_bytes slots)
 
+-- The laws of a form of bytes hold of the payloads of methods, with both ids in front of the fields.
 abbrev pub PayloadsAreLawful : Type 0
 PayloadsAreLawful = IsLawful judge_payload SpellsPayload payload_bytes
 

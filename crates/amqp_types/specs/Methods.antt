@@ -14,6 +14,7 @@ pub record Method : Type 0 where
   pub id : ℕ
   pub items : List Item
 
+-- the method with this class id, this method id and these items
 abbrev pub method : ℕ → ℕ → List Item → Method
 method class id items = record { class = class; id = id; items = items }
 
@@ -23,6 +24,7 @@ method class id items = record { class = class; id = id; items = items }
 unfoldable pub method_bytes : Method → List ℕ
 method_bytes m = number_bytes bytes2 m.id ++ slots_bytes (unwrap_or (slots_at m.class m.id) []) m.items
 
+-- the size in bytes of the method id and the fields, or why they are not written
 unfoldable pub method_size : Method → Result ℕ GenError
 method_size m = items_size m.items (method_bytes m)
 
@@ -30,6 +32,7 @@ method_size m = items_size m.items (method_bytes m)
 unfoldable pub payload_bytes : Method → List ℕ
 payload_bytes m = number_bytes bytes2 m.class ++ method_bytes m
 
+-- the size in bytes of both ids and the fields, or why they are not written
 unfoldable pub payload_size : Method → Result ℕ GenError
 payload_size m = items_size m.items (payload_bytes m)
 

@@ -10,12 +10,14 @@ pub data NumberWidth : Type 0 where
   bytes4 : NumberWidth
   bytes8 : NumberWidth
 
+-- the same width, counted in bits
 abbrev pub width_of : NumberWidth → Width
 width_of bytes1 = w8
 width_of bytes2 = w16
 width_of bytes4 = w32
 width_of bytes8 = w64
 
+-- how many bytes a number of the width has
 abbrev pub byte_count : NumberWidth → ℕ
 byte_count bytes1 = 1
 byte_count bytes2 = 2
@@ -38,6 +40,7 @@ pub record SpellsNumber (width : NumberWidth) (bytes : List ℕ) (n : ℕ) : Typ
   pub fits : n < number_limit width
   pub bytes_are : bytes ≡ number_bytes width n
 
+-- as many bytes as the width has, the most significant first; fewer are incomplete
 abbrev pub judge_number : NumberWidth → Judge ℕ
 judge_number width bytes =
     if nat_lt (length bytes) (byte_count width) then past

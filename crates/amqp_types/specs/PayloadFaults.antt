@@ -18,8 +18,10 @@ IsInside bad = ⊥
 abbrev pub FailsInside : {A : Type 0} → Judge A → Type 0
 FailsInside judge = (bytes : List ℕ) (bad : Fault) → judge bytes ≡ fault bad → IsInside bad
 
+-- the payload of a method is refused for what stands inside it alone: never for its frame, for trailing bytes or as not tidy
 abbrev pub PayloadsFailInside : Type 0
 PayloadsFailInside = FailsInside judge_payload
 
+-- the same of the payload of a content header
 abbrev pub ContentHeadersFailInside : Type 0
 ContentHeadersFailInside = FailsInside judge_content_header

@@ -8,6 +8,7 @@ pub record Property : Type 0 where
   pub bit : ℕ
   pub form : Form
 
+-- the property with this bit of the mask and this form
 abbrev pub property : ℕ → Form → Property
 property bit form = record { bit = bit; form = form }
 

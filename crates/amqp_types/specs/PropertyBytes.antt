@@ -18,6 +18,7 @@ mask_of [] options = 0
 mask_of (p ∷ ps) [] = 0
 mask_of (p ∷ ps) (option ∷ options) = worth_of (2 ^ p.bit) option + mask_of ps options
 
+-- a property in its form where it is set, and no bytes where it is not
 unfoldable pub optional_bytes : Form → Option Item → List ℕ
 optional_bytes form None = []
 optional_bytes form (Some item) = form_bytes form (item ∷ [])
@@ -34,18 +35,22 @@ properties_bytes options = form_bytes (number_form bytes2) (number_item (mask_of
 
 -- ---- which properties are refused
 
+-- tables and arrays nest more than 64 deep in a property that is set
 unfoldable pub is_deep_option : Option Item → Bool
 is_deep_option None = false
 is_deep_option (Some item) = is_deep_item item
 
+-- four bytes do not hold a length in a property that is set
 unfoldable pub is_long_option : Option Item → Bool
 is_long_option None = false
 is_long_option (Some item) = is_long_item item
 
+-- one of the properties nests too deep
 unfoldable pub any_deep_option : List (Option Item) → Bool
 any_deep_option [] = false
 any_deep_option (option ∷ options) = is_deep_option option || any_deep_option options
 
+-- one of the properties has a length that four bytes do not hold
 unfoldable pub any_long_option : List (Option Item) → Bool
 any_long_option [] = false
 any_long_option (option ∷ options) = is_long_option option || any_long_option options

@@ -8,6 +8,7 @@ use Rattle.amqp_types.specs.Slots.{Item, Form}
 use Rattle.amqp_types.specs.SlotJudging.{judge_form}
 use Rattle.amqp_types.specs.Properties.{Property, properties}
 
+-- the first item, where there is one; the form of a property gives just one
 abbrev pub first_item : List Item → Option Item
 first_item [] = None
 first_item (item ∷ items) = Some item
@@ -22,7 +23,7 @@ unfoldable pub judge_set : ℕ → List Property → Judge (List (Option Item))
 judge_set mask [] bytes = took [] 0
 judge_set mask (p ∷ ps) bytes = judge_both (judge_optional (flag_at mask p.bit) p.form) (judge_set mask ps) (λ option options. option ∷ options) bytes
 
--- bits 1 and 0 of the mask are ignored
+-- a mask of two bytes, and the properties that it says are set; its unused bits, 1 and 0, are ignored
 unfoldable pub judge_properties : Judge (List (Option Item))
 judge_properties bytes = do
   mask ← judge_number bytes2 bytes

@@ -15,6 +15,7 @@ abbrev pub gives_one : Form → Bool
 gives_one (flags_form count) = false
 gives_one form = true
 
+-- each of the properties has a form that gives one item
 abbrev pub give_one : List Property → Bool
 give_one [] = true
 give_one (p ∷ ps) = gives_one p.form && give_one ps
@@ -23,6 +24,7 @@ give_one (p ∷ ps) = gives_one p.form && give_one ps
 abbrev pub SetsAreLawful : Type 0
 SetsAreLawful = (mask : ℕ) (ps : List Property) → give_one ps ≡ true → IsLawful (judge_set mask ps) (λ level. SpellsSet level mask ps) (set_bytes ps)
 
+-- The laws of a form of bytes hold of a mask and the properties that it says are set.
 abbrev pub PropertiesAreLawful : Type 0
 PropertiesAreLawful = IsLawful judge_properties SpellsProperties properties_bytes
 

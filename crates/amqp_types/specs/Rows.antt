@@ -6,42 +6,55 @@ use Rattle.amqp_types.specs.Slots.{number_item, flag_item, text_item, bytes_item
 
 -- ---- what rows are made of
 
+-- a number of 1 byte
 abbrev octet : Slot
 octet = kept_slot (number_form bytes1)
 
+-- a number of 2 bytes
 abbrev short : Slot
 short = kept_slot (number_form bytes2)
 
+-- a number of 4 bytes
 abbrev long : Slot
 long = kept_slot (number_form bytes4)
 
+-- a number of 8 bytes
 abbrev long_long : Slot
 long_long = kept_slot (number_form bytes8)
 
+-- as many flags in one byte: bits that stand side by side share it (section 4.2.5.2)
 abbrev flags : ℕ → Slot
 flags count = kept_slot (flags_form count)
 
+-- a short string: a length of 1 byte, and that many bytes of UTF-8
 abbrev short_string : Slot
 short_string = kept_slot short_string_form
 
+-- a long string: a length of 4 bytes, and that many bytes
 abbrev long_string : Slot
 long_string = kept_slot long_string_form
 
+-- a table: the length of its entries in 4 bytes, and the entries (section 4.2.5.5)
 abbrev table : Slot
 table = kept_slot table_form
 
+-- 2 bytes that are read and dropped, and written as this number
 abbrev reserved_short : ℕ → Slot
 reserved_short n = reserved_slot (number_form bytes2) (number_item n ∷ [])
 
+-- 4 bytes that are read and dropped, and written as this number
 abbrev reserved_long : ℕ → Slot
 reserved_long n = reserved_slot (number_form bytes4) (number_item n ∷ [])
 
+-- a byte of one flag that is read and dropped, and written as false
 abbrev reserved_flag : Slot
 reserved_flag = reserved_slot (flags_form 1) (flag_item false ∷ [])
 
+-- a short string that is read and dropped, and written empty
 abbrev reserved_short_string : Slot
 reserved_short_string = reserved_slot short_string_form (text_item [] ∷ [])
 
+-- a long string that is read and dropped, and written empty
 abbrev reserved_long_string : Slot
 reserved_long_string = reserved_slot long_string_form (bytes_item [] ∷ [])
 
@@ -159,7 +172,7 @@ queue_rows =
 -- sending messages, and receiving and acknowledging them
 abbrev pub basic_rows : List Row
 basic_rows =
-    -- qos: reserved, prefetch_count, global
+    -- qos: reserved (the standard's prefetch_size), prefetch_count, global
     (10, reserved_long 0 ∷ short ∷ flags 1 ∷ []) ∷
     -- qos-ok
     (11, []) ∷
@@ -225,6 +238,7 @@ tx_rows =
 
 -- ---- the classes
 
+-- the id of each class, and the rows of its methods
 abbrev pub classes : List (ℕ × List Row)
 classes =
     (10, connection_rows) ∷

@@ -7,7 +7,7 @@ abbrev pub judge_map : {A B : Type 0} → (A → B) → Judge A → Judge B
 judge_map make judge bytes = judge bytes >>= λ x. took (make x.0) x.1
 
 -- The bytes are those of a thing, and y is what is made of it.
-pub record SpellsMade {A B : Type 0} (Spells : List ℕ → A → Type 0) (make : A → B) (bytes : List ℕ) (y : B) : Type 0 where
+pub record SpellsMapped {A B : Type 0} (Spells : List ℕ → A → Type 0) (make : A → B) (bytes : List ℕ) (y : B) : Type 0 where
   pub thing : A
   pub spelled : Spells bytes thing
   pub made : y ≡ make thing

@@ -15,6 +15,7 @@ IsRising es = IsStrictlySortedBy (slice_cmp nat_cmp) (keys_of es)
 abbrev pub value_at : List ℕ → List Entry → Option FieldValue
 value_at key es = lookup (is_at (slice_cmp nat_cmp key)) es
 
+-- the value that comes later, and where there is none the one before it
 abbrev pub later : Option FieldValue → Option FieldValue → Option FieldValue
 later (Some v) before = Some v
 later None before = before
@@ -34,5 +35,6 @@ abbrev pub settled_on : List Entry → List Entry → List Entry
 settled_on table [] = table
 settled_on table (e ∷ es) = settled_on (insert_entry (slice_cmp nat_cmp) table e.0 e.1) es
 
+-- the table that some entries make: put into an empty one, one after another
 abbrev pub settled : List Entry → List Entry
 settled entries = settled_on [] entries

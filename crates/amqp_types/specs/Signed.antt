@@ -14,5 +14,6 @@ pub record SpellsSigned (width : NumberWidth) (bytes : List ℕ) (n : ℤ) : Typ
   pub spelled : SpellsNumber width bytes bits
   pub means : n ≡ cast_signed (width_of width) bits
 
+-- as many bytes as the width has, read as two's complement; fewer are incomplete
 abbrev pub judge_signed : NumberWidth → Judge ℤ
 judge_signed width bytes = judge_number width bytes >>= λ n. took (cast_signed (width_of width) n.0) n.1

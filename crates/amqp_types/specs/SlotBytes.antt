@@ -13,10 +13,12 @@ abbrev pub item_count : Form → ℕ
 item_count (flags_form count) = count
 item_count form = 1
 
+-- the flag that an item is; an item of another kind counts as false
 abbrev pub flag_of : Item → Bool
 flag_of (flag_item flag) = flag
 flag_of item = false
 
+-- the flags that the items are, in their order
 abbrev pub flags_of : List Item → List Bool
 flags_of [] = []
 flags_of (item ∷ items) = flag_of item ∷ flags_of items
@@ -49,10 +51,12 @@ is_long_item (bytes_item bytes) = is_too_long bytes
 is_long_item (entries_item es) = is_long_table es
 is_long_item item = false
 
+-- tables and arrays nest more than 64 deep in one of the items
 abbrev pub any_deep : List Item → Bool
 any_deep [] = false
 any_deep (item ∷ items) = is_deep_item item || any_deep items
 
+-- four bytes do not hold a length in one of the items
 abbrev pub any_long : List Item → Bool
 any_long [] = false
 any_long (item ∷ items) = is_long_item item || any_long items

@@ -1,4 +1,4 @@
--- Reading fields from the left out of one container.
+-- Reading fields from the left out of one payload.
 use Rattle.std.specs.Prelude.{◌≡◌, ℕ, ◌-◌, List, [], ◌∷◌, ◌++◌, length, drop, map, Result, Ok, Err}
 use Rattle.amqp_types.specs.Judging.{Judge, took}
 use Rattle.amqp_types.specs.Answers.{Refuses}
@@ -22,6 +22,7 @@ judge_form table_form = judge_map (λ es. entries_item es ∷ []) judge_field_ta
 unfoldable pub judge_dropped : Form → Judge (List Item)
 judge_dropped form = judge_map (λ items. []) (judge_form form)
 
+-- a field that is kept gives its items, and one that is reserved gives none, whether or not it holds its constant
 abbrev pub judge_slot : Slot → Judge (List Item)
 judge_slot (kept_slot form) = judge_form form
 judge_slot (reserved_slot form constant) = judge_dropped form

@@ -27,14 +27,17 @@ is_least short_string_form (text_item [] ∷ []) = true
 is_least long_string_form (bytes_item [] ∷ []) = true
 is_least form items = false
 
+-- each reserved field has such a constant
 abbrev pub are_least : List Slot → Bool
 are_least [] = true
 are_least (kept_slot form ∷ slots) = are_least slots
 are_least (reserved_slot form constant ∷ slots) = is_least form constant && are_least slots
 
+-- The laws of a form of bytes hold of each form of a field.
 abbrev pub FormsAreLawful : Type 0
 FormsAreLawful = (form : Form) → IsLawful (judge_form form) (λ level. SpellsForm level form) (form_bytes form)
 
+-- The laws hold of fields one after another. Their constants are least, as else the canonical bytes would not be a shortest encoding.
 abbrev pub SlotsAreLawful : Type 0
 SlotsAreLawful = (slots : List Slot) → are_least slots ≡ true → IsLawful (judge_slots slots) (λ level. SpellsSlots level slots) (slots_bytes slots)
 
@@ -44,6 +47,8 @@ SpelledSlotsAreBounded = (level : Level) (slots : List Slot) (bytes : List ℕ) 
 
 -- ---- what programs hold
 
+-- items that a form is written for: a number within its width, as many flags as it counts and at most 8, a text of at most 255 bytes,
+-- any bytes, or a table in ascending key order whose keys and values are held
 abbrev pub IsFormHeld : Form → List Item → Type 0
 IsFormHeld (number_form width) (number_item n ∷ []) = n < number_limit width
 IsFormHeld (flags_form count) items = (count ≤ 8) × (are_flags count items ≡ true)
@@ -52,6 +57,7 @@ IsFormHeld long_string_form (bytes_item bytes ∷ []) = Unit {0}
 IsFormHeld table_form (entries_item es ∷ []) = IsRising es × AllEntriesHeld (entries_of es)
 IsFormHeld form items = ⊥
 
+-- the items of the kept fields, one after another, each held in its form, and no others
 abbrev pub AreSlotsHeld : List Slot → List Item → Type 0
 AreSlotsHeld [] items = items ≡ []
 AreSlotsHeld (kept_slot form ∷ slots) items = IsFormHeld form (take (item_count form) items) × AreSlotsHeld slots (drop (item_count form) items)

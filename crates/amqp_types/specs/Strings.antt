@@ -18,6 +18,7 @@ pub record SpellsShortString (bytes text : List ℕ) : Type 0 where
   pub utf8 : IsUtf8 text
   pub bytes_are : bytes ≡ short_string_bytes text
 
+-- fewer bytes than the length says are incomplete, even where those that are there are not UTF-8
 unfoldable pub judge_short_string : Judge (List ℕ)
 judge_short_string [] = past
 judge_short_string (n ∷ bytes) =
@@ -43,6 +44,7 @@ pub record SpellsLongString (bytes content : List ℕ) : Type 0 where
   pub fits : length content < 2 ^ 32
   pub bytes_are : bytes ≡ with_length content
 
+-- fewer bytes than the length says are incomplete; all bytes are allowed
 unfoldable pub judge_long_string : Judge (List ℕ)
 judge_long_string bytes = do
   n ← judge_number bytes4 bytes

@@ -25,6 +25,7 @@ tag_byte tag.FieldTable = 70
 tag_byte tag.ByteArray = 120
 tag_byte tag.Void = 86
 
+-- all tags, each once
 abbrev pub tags : List FieldTag
 tags =
     tag.Boolean ∷ tag.ShortShortInt ∷ tag.ShortShortUInt ∷ tag.ShortInt ∷ tag.ShortUInt ∷ tag.LongInt ∷ tag.LongUInt ∷ tag.LongLongInt ∷
@@ -36,6 +37,7 @@ IsReadOnly byte tag.ShortInt = byte ≡ 85
 IsReadOnly byte tag.LongLongInt = byte ≡ 76
 IsReadOnly byte t = ⊥
 
+-- the byte that is written, and at levels plain and tidy also one that is only read
 abbrev pub SpellsTag : Level → ℕ → FieldTag → Type 0
 SpellsTag plain byte t = (byte ≡ tag_byte t) ⊎ IsReadOnly byte t
 SpellsTag tidy byte t = (byte ≡ tag_byte t) ⊎ IsReadOnly byte t

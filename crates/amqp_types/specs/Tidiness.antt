@@ -34,7 +34,7 @@ begins_with (want ∷ wanted) (byte ∷ bytes) = (byte == want) && begins_with w
 abbrev pub test_both : {A : Type 0} → Judge A → (List ℕ → Bool) → (List ℕ → Bool) → List ℕ → Bool
 test_both first one two bytes = one bytes && two (drop (used_by (first bytes)) bytes)
 
--- the bits above the flags are zero
+-- the unused bits, those above the flags, are zero
 abbrev pub is_tidy_form : Form → List ℕ → Bool
 is_tidy_form (flags_form count) (byte ∷ bytes) = nat_lt byte (2 ^ count)
 is_tidy_form form bytes = true
@@ -44,6 +44,7 @@ abbrev pub is_tidy_slot : Slot → List ℕ → Bool
 is_tidy_slot (kept_slot form) bytes = is_tidy_form form bytes
 is_tidy_slot (reserved_slot form constant) bytes = begins_with (form_bytes form constant) bytes
 
+-- fields one after another, each of which is tidy
 unfoldable pub are_tidy_slots : List Slot → List ℕ → Bool
 are_tidy_slots [] bytes = true
 are_tidy_slots (slot ∷ slots) bytes = test_both (judge_slot slot) (is_tidy_slot slot) (are_tidy_slots slots) bytes
@@ -53,6 +54,7 @@ abbrev pub are_tidy_known : Option (List Slot) → List ℕ → Bool
 are_tidy_known (Some slots) bytes = are_tidy_slots slots bytes
 are_tidy_known None bytes = true
 
+-- the number in the two bytes from a place on
 abbrev pub short_at : ℕ → List ℕ → ℕ
 short_at place bytes = from_be_bytes w16 (take 2 (drop place bytes))
 
@@ -60,7 +62,7 @@ short_at place bytes = from_be_bytes w16 (take 2 (drop place bytes))
 unfoldable pub is_tidy_payload : List ℕ → Bool
 is_tidy_payload bytes = are_tidy_known (slots_at (short_at 0 bytes) (short_at 2 bytes)) (drop 4 bytes)
 
--- bits 1 and 0 of the mask in front are zero
+-- the unused bits of the mask in front, 1 and 0, are zero
 unfoldable pub are_tidy_properties : List ℕ → Bool
 are_tidy_properties bytes = not (flag_at (short_at 0 bytes) 1) && not (flag_at (short_at 0 bytes) 0)
 
@@ -70,19 +72,23 @@ is_tidy_content_header = test_both (judge_slots header_slots) (are_tidy_slots he
 
 -- ---- laws
 
--- A test says of bytes that are decoded whether they encode what is decoded.
-pub record IsToldBy {A : Type 0} (judge : Judge A) (Spells : List ℕ → A → Type 0) (test : List ℕ → Bool) : Type 0 where
+-- A test decides whether bytes that are decoded encode what is decoded.
+pub record IsDecidedBy {A : Type 0} (judge : Judge A) (Spells : List ℕ → A → Type 0) (test : List ℕ → Bool) : Type 0 where
   pub spelled : (bytes : List ℕ) (x : A) (n : ℕ) → IsBytes bytes → judge bytes ≡ took x n → test bytes ≡ true → Spells (take n bytes) x
   pub tested : (bytes rest : List ℕ) (x : A) → Spells bytes x → test (bytes ++ rest) ≡ true
 
-abbrev pub TidySlotsAreTold : Type 0
-TidySlotsAreTold = (slots : List Slot) → are_least slots ≡ true → IsToldBy (judge_slots slots) (SpellsSlots tidy slots) (are_tidy_slots slots)
+-- The test of fields decides whether their encoding is tidy, where the constants of reserved ones are least.
+abbrev pub TidySlotsAreDecided : Type 0
+TidySlotsAreDecided = (slots : List Slot) → are_least slots ≡ true → IsDecidedBy (judge_slots slots) (SpellsSlots tidy slots) (are_tidy_slots slots)
 
-abbrev pub TidyPayloadsAreTold : Type 0
-TidyPayloadsAreTold = IsToldBy judge_payload (SpellsPayload tidy) is_tidy_payload
+-- The test of a payload decides whether the encoding of a method is tidy.
+abbrev pub TidyPayloadsAreDecided : Type 0
+TidyPayloadsAreDecided = IsDecidedBy judge_payload (SpellsPayload tidy) is_tidy_payload
 
-abbrev pub TidyPropertiesAreTold : Type 0
-TidyPropertiesAreTold = IsToldBy judge_properties (SpellsProperties tidy) are_tidy_properties
+-- The test of the mask decides whether the encoding of properties is tidy.
+abbrev pub TidyPropertiesAreDecided : Type 0
+TidyPropertiesAreDecided = IsDecidedBy judge_properties (SpellsProperties tidy) are_tidy_properties
 
-abbrev pub TidyContentHeadersAreTold : Type 0
-TidyContentHeadersAreTold = IsToldBy judge_content_header (SpellsContentHeader tidy) is_tidy_content_header
+-- The test of the weight and of the mask decides whether the encoding of a content header is tidy.
+abbrev pub TidyContentHeadersAreDecided : Type 0
+TidyContentHeadersAreDecided = IsDecidedBy judge_content_header (SpellsContentHeader tidy) is_tidy_content_header

@@ -5,30 +5,36 @@ use base.Stored.{Gv, gnil, gnum, gcons, num}
 use denote.Struct.Codes.{itself}
 use Rattle.amqp_types.specs.Values.{FieldValue, FieldValues, FieldEntries, short_short_int, short_int, long_int, long_long_int, short_short_uint, short_uint, long_uint, float, double, timestamp, long_string, byte_array, boolean_value, signed_value, unsigned_value, decimal_value, bytes_value, array_value, table_value, void_value, no_values, next_value, no_entries, next_entry}
 
+-- a list of numbers as a tree: each number beside the tree of those after it
 abbrev numbers_to : List ℕ → Gv
 numbers_to [] = gnil
 numbers_to (n ∷ ns) = gcons (gnum n) (numbers_to ns)
 
+-- the list of such a tree; of another tree, some list
 abbrev numbers_from : Gv → List ℕ
 numbers_from gnil = []
 numbers_from (gnum n) = []
 numbers_from (gcons a b) = num a ∷ numbers_from b
 
+-- numbers made a tree are had back from it
 pub numbers_back : (ns : List ℕ) → numbers_from (numbers_to ns) ≡ ns
 numbers_back [] = refl
 numbers_back (n ∷ ns) = λ i. n ∷ numbers_back ns i
 
+-- the first of the two parts of a tree, empty where there are none
 abbrev first_of : Gv → Gv
 first_of gnil = gnil
 first_of (gnum n) = gnil
 first_of (gcons a b) = a
 
+-- the second of the two parts of a tree, empty where there are none
 abbrev second_of : Gv → Gv
 second_of gnil = gnil
 second_of (gnum n) = gnil
 second_of (gcons a b) = b
 
 abbrev mutual
+  -- a value as a tree: a number for its kind (and for true, false and signs) beside what it holds; nothing is the empty tree
   value_to : FieldValue → Gv
   value_to (boolean_value false) = gcons (gnum 0) gnil
   value_to (boolean_value true) = gcons (gnum 1) gnil
@@ -53,15 +59,18 @@ abbrev mutual
   value_to (table_value es) = gcons (gnum 20) (entries_to es)
   value_to void_value = gnil
 
+  -- each value beside the tree of those after it
   values_to : FieldValues → Gv
   values_to no_values = gnil
   values_to (next_value v vs) = gcons (value_to v) (values_to vs)
 
+  -- each key beside its value and the tree of the entries after it
   entries_to : FieldEntries → Gv
   entries_to no_entries = gnil
   entries_to (next_entry k v es) = gcons (numbers_to k) (gcons (value_to v) (entries_to es))
 
 abbrev mutual
+  -- the value of such a tree; of another tree, some value
   value_from : Gv → FieldValue
   value_from gnil = void_value
   value_from (gnum n) = void_value
@@ -88,11 +97,13 @@ abbrev mutual
       if num a == 19 then array_value (values_from b) else (
       table_value (entries_from b)))))))))))))))))))))
 
+  -- the values of such a tree; of another tree, some values
   values_from : Gv → FieldValues
   values_from gnil = no_values
   values_from (gnum n) = no_values
   values_from (gcons a b) = next_value (value_from a) (values_from b)
 
+  -- the entries of such a tree; of another tree, some entries
   entries_from : Gv → FieldEntries
   entries_from gnil = no_entries
   entries_from (gnum n) = no_entries
@@ -101,6 +112,7 @@ abbrev mutual
   entries_from (gcons a (gcons b c)) = next_entry (numbers_from a) (value_from b) (entries_from c)
 
 mutual
+  -- a value made a tree is had back from it
   pub value_back : (v : FieldValue) → value_from (value_to v) ≡ v
   value_back (boolean_value false) = refl
   value_back (boolean_value true) = refl
@@ -125,13 +137,16 @@ mutual
   value_back (table_value es) = λ i. table_value (entries_back es i)
   value_back void_value = refl
 
+  -- the same of the values of an array
   pub values_back : (vs : FieldValues) → values_from (values_to vs) ≡ vs
   values_back no_values = refl
   values_back (next_value v vs) = λ i. next_value (value_back v i) (values_back vs i)
 
+  -- the same of the entries of a table
   pub entries_back : (es : FieldEntries) → entries_from (entries_to es) ≡ es
   entries_back no_entries = refl
   entries_back (next_entry k v es) = λ i. next_entry (numbers_back k i) (value_back v i) (entries_back es i)
 
+-- values are coded by their trees, from which they are had back: values with the same tree are the same
 abbrev pub value_code : Coded FieldValue
 value_code = code_by Gv itself value_to value_from value_back

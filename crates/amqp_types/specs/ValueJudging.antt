@@ -1,4 +1,4 @@
--- Reading values from the left out of one container.
+-- Reading values from the left out of one payload, table or array.
 use Rattle.std.specs.Prelude.{ℕ, zero, suc, ◌+◌, ◌-◌, List, [], ◌∷◌, Option, Some, None, Result, Ok, Err}
 use Rattle.amqp_types.specs.Judging.{Judged, Judge, Fault, took, past, fault, short_payload, unknown_tag, too_deep, ◌>>=◌}
 use Rattle.amqp_types.specs.Sequences.{judge_map, judge_both}
@@ -14,9 +14,11 @@ use Rattle.amqp_types.specs.declared.tag.FieldTag.{FieldTag}
 use Rattle.amqp_types.specs.declared.tag.FieldTag.TheVariants as tag
 use Rattle.amqp_types.specs.declared.errors.ParserError.{ParserError}
 use Rattle.amqp_types.specs.declared.errors.ParserError.TheVariants as errors
+use Rattle.amqp_types.specs.Constants.{max_depth, inner_depth}
 
 -- ---- what fills a table or an array
 
+-- what is made of a result; a fault stays
 abbrev pub read_map : {A B : Type 0} → (A → B) → Result A Fault → Result B Fault
 read_map f (Ok x) = Ok (f x)
 read_map f (Err bad) = Err bad
@@ -42,12 +44,13 @@ whole n (Err bad) = fault bad
 unfoldable pub judge_entry : Judge FieldValue → Judge Entry
 judge_entry value = judge_both judge_short_string value (λ k v. (k, v))
 
--- what an array and a table hold, where `value` decodes a value in them
+-- an array: a length of four bytes, and values that fill that many bytes, where `value` decodes each of them
 unfoldable pub judge_array : Judge FieldValue → Judge (List FieldValue)
 judge_array value bytes = do
   content ← judge_long_string bytes
   whole content.1 (filled value 0 content.0)
 
+-- a table: a length of four bytes, and entries that fill that many bytes; of duplicate keys the last one wins
 unfoldable pub judge_table : Judge FieldValue → Judge (List Entry)
 judge_table value bytes = do
   content ← judge_long_string bytes
@@ -59,12 +62,15 @@ judge_table value bytes = do
 unfoldable pub judge_decimal : Judge (ℕ × ℕ)
 judge_decimal = judge_both (judge_number bytes1) (judge_number bytes4) (λ scale n. (scale, n))
 
+-- a signed number, of the kind's width
 abbrev pub judge_signed_kind : SignedKind → Judge FieldValue
 judge_signed_kind kind = judge_map (signed_value kind) (judge_signed (signed_width kind))
 
+-- an unsigned number or bits, of the kind's width
 abbrev pub judge_unsigned_kind : UnsignedKind → Judge FieldValue
 judge_unsigned_kind kind = judge_map (unsigned_value kind) (judge_number (unsigned_width kind))
 
+-- a length of four bytes and that many bytes, for either kind
 abbrev pub judge_bytes_kind : BytesKind → Judge FieldValue
 judge_bytes_kind kind = judge_map (bytes_value kind) judge_long_string
 
@@ -95,6 +101,7 @@ abbrev pub behind_tag : Option (Judge FieldValue) → Option FieldTag → Judge 
 behind_tag nested None bytes = fault unknown_tag
 behind_tag nested (Some t) bytes = judge_behind nested t bytes >>= λ v. took v.0 (1 + v.1)
 
+-- a tag byte, and after it the value; where no byte is left, this is incomplete
 unfoldable pub judge_tagged : Option (Judge FieldValue) → Judge FieldValue
 judge_tagged nested [] = past
 judge_tagged nested (byte ∷ bytes) = behind_tag nested (tag_at byte) bytes
@@ -110,14 +117,17 @@ judge_value room = judge_tagged (nested room)
 
 -- ---- at most 64 levels
 
+-- a tag and its value, with room for nesting of 64 levels
 abbrev pub judge_field_value : Judge FieldValue
-judge_field_value = judge_value 64
+judge_field_value = judge_value max_depth
 
+-- an array without a tag: it is the first level, and its values have room for 63 more
 abbrev pub judge_field_array : Judge (List FieldValue)
-judge_field_array = judge_array (judge_value 63)
+judge_field_array = judge_array (judge_value inner_depth)
 
+-- a table without a tag: it is the first level, and its values have room for 63 more
 abbrev pub judge_field_table : Judge (List Entry)
-judge_field_table = judge_table (judge_value 63)
+judge_field_table = judge_table (judge_value inner_depth)
 
 -- a refusal of what stands inside a table or an array whose bytes are all there
 abbrev pub inside_error : ParserError → ParserError

@@ -15,12 +15,15 @@ use Rattle.amqp_types.specs.ValueSpelling.{SpellsValue, SpellsFieldArray, Spells
 use Rattle.amqp_types.specs.FormLaws.{IsLawful}
 use Rattle.amqp_types.specs.declared.errors.GenError.{GenError}
 
+-- The laws of a form of bytes hold of a tag and its value, whatever the room for nesting.
 abbrev pub ValuesAreLawful : Type 0
 ValuesAreLawful = (room : ℕ) → IsLawful (judge_value room) (λ level. SpellsValue level room) tagged_bytes
 
+-- The laws hold of arrays of at most 64 levels, without a tag.
 abbrev pub ArraysAreLawful : Type 0
 ArraysAreLawful = IsLawful judge_field_array SpellsFieldArray array_bytes
 
+-- The laws hold of tables of at most 64 levels, without a tag.
 abbrev pub TablesAreLawful : Type 0
 TablesAreLawful = IsLawful judge_field_table SpellsFieldTable table_bytes
 
@@ -42,6 +45,7 @@ pub record InsertChangesOneKey : Type 0 where
 
 -- numbers within their ranges, keys that are short strings, and tables in the order of their keys
 abbrev mutual
+  -- a value, with all that is inside it
   pub IsHeld : FieldValue → Type 0
   IsHeld (boolean_value b) = Unit {0}
   IsHeld (signed_value kind n) = FitsSigned (width_of (signed_width kind)) n
@@ -52,10 +56,12 @@ abbrev mutual
   IsHeld (table_value es) = IsRising (pairs es) × AllEntriesHeld es
   IsHeld void_value = Unit {0}
 
+  -- each of the values
   pub AllHeld : FieldValues → Type 0
   AllHeld no_values = Unit {0}
   AllHeld (next_value v vs) = IsHeld v × AllHeld vs
 
+  -- each key, of at most 255 bytes of UTF-8, and each value
   pub AllEntriesHeld : FieldEntries → Type 0
   AllEntriesHeld no_entries = Unit {0}
   AllEntriesHeld (next_entry k v es) = (length k < 256) × IsUtf8 k × IsHeld v × AllEntriesHeld es
@@ -67,6 +73,6 @@ pub record HeldIsReadBack : Type 0 where
   pub table : (es : List Entry) (rest : List ℕ) → IsRising es → AllEntriesHeld (entries_of es) → table_size es ≡ Ok (length (table_bytes es)) → judge_field_table (table_bytes es ++ rest) ≡ took es (length (table_bytes es))
 
 -- What was read has a size, which is no more than it used.
-pub record IsWithin (size : Result ℕ GenError) (bytes : List ℕ) (used : ℕ) : Type 0 where
+pub record IsNoLonger (size : Result ℕ GenError) (bytes : List ℕ) (used : ℕ) : Type 0 where
   pub sized : size ≡ Ok (length bytes)
   pub shorter : length bytes ≤ used

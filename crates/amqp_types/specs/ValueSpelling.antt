@@ -10,6 +10,7 @@ use Rattle.amqp_types.specs.Values.{FieldValue, Entry, boolean_value, signed_val
 use Rattle.amqp_types.specs.ValueBytes.{signed_width, unsigned_width}
 use Rattle.amqp_types.specs.Tags.{SpellsTag, tag_of}
 use Rattle.amqp_types.specs.Settling.{IsSettled}
+use Rattle.amqp_types.specs.Constants.{max_depth, inner_depth}
 
 -- a list of things, one after another
 abbrev pub SpellsEach : {A : Type 0} → (List ℕ → A → Type 0) → List ℕ → List A → Type 0
@@ -72,11 +73,14 @@ SpellsValue level (suc room) = SpellsTagged level (SpellsBehind level (suc room)
 
 -- ---- at most 64 levels
 
+-- a tag and its value, with room for nesting of 64 levels
 abbrev pub SpellsFieldValue : Level → List ℕ → FieldValue → Type 0
-SpellsFieldValue level = SpellsValue level 64
+SpellsFieldValue level = SpellsValue level max_depth
 
+-- an array without a tag: it is the first level, and its values have room for 63 more
 abbrev pub SpellsFieldArray : Level → List ℕ → List FieldValue → Type 0
-SpellsFieldArray level = SpellsArray (SpellsValue level 63)
+SpellsFieldArray level = SpellsArray (SpellsValue level inner_depth)
 
+-- a table without a tag: it is the first level, and its values have room for 63 more
 abbrev pub SpellsFieldTable : Level → List ℕ → List Entry → Type 0
-SpellsFieldTable level = SpellsTable level (SpellsValue level 63)
+SpellsFieldTable level = SpellsTable level (SpellsValue level inner_depth)

@@ -19,3 +19,6 @@ pub const FRAME_END: ShortShortUInt = 206;
 
 /// How many tables and arrays may stand one inside another.
 pub const MAX_DEPTH: usize = 64;
+
+/// How many may stand inside a field that is itself a table or an array.
+pub const INNER_DEPTH: usize = MAX_DEPTH - 1;

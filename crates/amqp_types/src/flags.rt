@@ -75,7 +75,7 @@ impl AMQPFlags {
         self.count == 0
     }
 
-    /// The byte of the flags: flag `k` is bit `k`, and the other bits are zero.
+    /// The byte of the flags: flag `k` is bit `k`, and the unused bits are zero (section 4.2.5.2).
     pub fn to_byte(&self) -> u8
         ensures { result ≡ flags_byte self.now }
     {
@@ -117,7 +117,7 @@ fn flags_of_byte(byte: u8, n: usize) -> AMQPFlags
     flags
 }
 
-/// The byte of these flags, the first one at the lowest bit.
+/// The byte of these flags, the first one at the lowest bit and the unused bits zero.
 pub fn byte_of_flags(flags: &[bool]) -> u8
     requires few { length flags.now ≤ 8 }
     ensures value { result ≡ flags_byte flags.now }
@@ -140,7 +140,7 @@ pub fn flag_of_byte(byte: u8, k: u8) -> bool
     (byte >> k) & 1 == 1
 }
 
-/// Decodes a byte of `n` flags, whose other bits may be any.
+/// Decodes a byte of `n` flags, whose unused bits may be any. Returns how many bytes it used, 1, and the flags.
 #[tactic(auto, unfolding(crate::specs::Flags::judge_flags))]
 pub fn parse_flags(i: &[u8], n: usize) -> Result<(usize, AMQPFlags), ParserError>
     requires some { 1 ≤ n }
@@ -172,7 +172,7 @@ pub fn put_flags(buf: &mut [u8], at: usize, value: &AMQPFlags) -> usize
     put_bytes(buf, at, &[value.to_byte()])
 }
 
-/// Appends a byte of flags to a vector, its other bits zero.
+/// Appends a byte of flags to a vector, its unused bits zero.
 pub fn gen_flags(_alloc: Global, out: &mut Vec<u8>, value: &AMQPFlags) -> Result<(), GenError>
     requires some { value.now ≢ [] }
     ensures { Appends out.old.items out.new.items (Ok 1) (flags_bytes value.now) result }

@@ -151,7 +151,7 @@ pub fn gen_id(_alloc: Global, out: &mut Vec<u8>, value: Identifier) -> Result<()
     append_bytes(out, &value.to_be_bytes())
 }
 
-/// The size of a truth value.
+/// The size of a truth value, 1 byte.
 pub fn size_boolean(value: &Boolean) -> Result<u64, GenError>
     ensures { result ≡ Ok (length (boolean_bytes value.now)) }
 {
@@ -159,7 +159,7 @@ pub fn size_boolean(value: &Boolean) -> Result<u64, GenError>
     Ok(1)
 }
 
-/// Puts a truth value at a place of a slice, and returns the place after it.
+/// Puts a truth value, 1 for true and 0 for false, at a place of a slice, and returns the place after it.
 pub fn put_boolean(buf: &mut [u8], at: usize, value: &Boolean) -> usize
     requires room { at + length (boolean_bytes value.now) ≤ length buf.old }
     ensures { Puts buf.old buf.new at (boolean_bytes value.now) result }

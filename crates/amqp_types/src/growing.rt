@@ -5,7 +5,8 @@ ghost use Rattle.amqp_types.specs.declared.errors.GenError.TheVariants as gen_er
 
 use crate::errors::GenError;
 
-/// Makes room for `size` more bytes, which are zero, and returns where they begin.
+/// Makes room for `size` more bytes, which are zero, and returns where they begin. A length that `usize` does not hold
+/// is out of memory too.
 pub fn grow(out: &mut Vec<u8>, size: u64) -> Result<usize, GenError>
     ensures place { IfOk result (λ at. at ≡ vec_len out.old) }
     ensures grown { IfOk result (λ _. out.new.items ≡ out.old.items ++ replicate size 0) }

@@ -1,4 +1,5 @@
-//! Decoding numbers and booleans from the front of a slice.
+//! Decoding numbers and booleans from the front of a slice. Each call returns how many bytes it used, and the value;
+//! where the slice is shorter, the error is `Incomplete`.
 
 ghost use Rattle.std.specs.Prelude.{◌≤◌, length, IfOk};
 ghost use Rattle.amqp_types.specs.Answers.{AnswersFully};

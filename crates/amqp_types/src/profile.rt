@@ -6,7 +6,7 @@ pub enum Profile {
     /// Every encoding that the standard's grammar gives, the ones that peers really send.
     Plain,
 
-    /// Only encodings in which nothing is dropped: reserved fields, unused bits and heartbeat
-    /// payloads stand as a writer leaves them.
+    /// Only encodings in which all that is dropped stands as it is written: reserved fields, unused bits, the weight of
+    /// a header and the payload of a heartbeat.
     Tidy,
 }

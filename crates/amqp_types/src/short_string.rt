@@ -35,7 +35,7 @@ impl Model for ShortString {
 }
 
 impl ShortString {
-    /// The string with this text.
+    /// The string with a copy of this text; `TooLong` where it has more than 255 bytes.
     pub fn new(alloc: Global, text: &str) -> Result<ShortString, MakeError>
         ensures ok { IfOk result (λ string. string ≡ text.now) }
         ensures fits { OnOk result (length text.now ≤ 255) }

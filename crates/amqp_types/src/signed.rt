@@ -1,5 +1,5 @@
-//! Decoding and encoding signed numbers: from the front of a slice, at a place of a slice, and at the end
-//! of a vector.
+//! Decoding and encoding signed numbers in two's complement, the most significant byte first: from the front of a
+//! slice, at a place of a slice, and at the end of a vector.
 
 ghost use Rattle.std.specs.Prelude.{◌≡◌, ◌+◌, ◌≤◌, length, Ok, IfOk};
 ghost use Rattle.amqp_types.specs.Answers.{AnswersFully};

@@ -27,7 +27,7 @@ fn text_of(bytes: &[u8]) -> Option<&str>
     }
 }
 
-/// Decodes a short string and borrows its text.
+/// Decodes a short string and borrows its text; `NotUtf8` where the bytes are not UTF-8.
 #[tactic(auto, unfolding(crate::specs::Strings::judge_short_string))]
 pub fn parse_short_str(i: &[u8]) -> Result<(usize, &str), ParserError>
     ensures judged { AnswersFully (λ text. text.now) result (judge_short_string i.now) }
@@ -48,7 +48,7 @@ pub fn parse_short_str(i: &[u8]) -> Result<(usize, &str), ParserError>
     }
 }
 
-/// Decodes a length of four bytes and borrows that many bytes.
+/// Decodes a length of 4 bytes and borrows that many bytes.
 #[tactic(auto, unfolding(crate::specs::Strings::judge_long_string))]
 pub fn parse_long_bytes(i: &[u8]) -> Result<(usize, &[u8]), ParserError>
     ensures judged { AnswersFully (λ bytes. bytes.now) result (judge_long_string i.now) }
@@ -70,7 +70,7 @@ pub fn parse_table_bytes(i: &[u8]) -> Result<(usize, &[u8]), ParserError>
     parse_long_bytes(i)
 }
 
-/// Decodes a short string.
+/// Decodes a short string and copies its text; `NotUtf8` where the bytes are not UTF-8.
 #[tactic(auto, unfolding(crate::specs::Strings::judge_short_string))]
 pub fn parse_short_string(alloc: Global, i: &[u8]) -> Result<(usize, ShortString), ParserError>
     ensures judged { Answers (λ text. text) result (judge_short_string i.now) }
@@ -83,7 +83,7 @@ pub fn parse_short_string(alloc: Global, i: &[u8]) -> Result<(usize, ShortString
     }
 }
 
-/// Decodes a long string.
+/// Decodes a long string and copies its bytes.
 pub fn parse_long_string(alloc: Global, i: &[u8]) -> Result<(usize, LongString), ParserError>
     ensures judged { Answers (λ bytes. bytes) result (judge_long_string i.now) }
     ensures used { IfOk result (λ found. found.0 ≤ length i.now) }
@@ -92,7 +92,7 @@ pub fn parse_long_string(alloc: Global, i: &[u8]) -> Result<(usize, LongString),
     Ok((n, LongString::new(alloc, bytes)?))
 }
 
-/// Decodes a byte array, which is encoded as a long string is.
+/// Decodes a byte array, which is encoded as a long string is, and copies its bytes.
 pub fn parse_byte_array(alloc: Global, i: &[u8]) -> Result<(usize, ByteArray), ParserError>
     ensures judged { Answers (λ bytes. bytes) result (judge_long_string i.now) }
     ensures used { IfOk result (λ found. found.0 ≤ length i.now) }
@@ -101,7 +101,7 @@ pub fn parse_byte_array(alloc: Global, i: &[u8]) -> Result<(usize, ByteArray), P
     Ok((n, ByteArray::new(alloc, bytes)?))
 }
 
-/// The size of a short string.
+/// The size of a short string in bytes, with the byte of its length.
 pub fn size_short_string(value: &ShortString) -> Result<u64, GenError>
     ensures size { result ≡ Ok (length (short_string_bytes value.now)) }
     ensures bound { length (short_string_bytes value.now) ≤ 256 }
@@ -131,7 +131,7 @@ pub fn gen_short_string(
     Ok(())
 }
 
-/// The size of a long string.
+/// The size of a long string in bytes, with the 4 bytes of its length; `TooLong` where these do not hold it.
 pub fn size_long_string(value: &[u8]) -> Result<u64, GenError>
     ensures size { result ≡ long_string_size value.now }
     ensures bound { IfOk result (λ n. n < 2 ^ 33) }
@@ -162,7 +162,7 @@ pub fn gen_long_string(_alloc: Global, out: &mut Vec<u8>, value: &[u8]) -> Resul
     Ok(())
 }
 
-/// The size of a byte array.
+/// The size of a byte array in bytes, with the 4 bytes of its length; `TooLong` where these do not hold it.
 pub fn size_byte_array(value: &ByteArray) -> Result<u64, GenError>
     ensures size { result ≡ long_string_size value.now }
     ensures bound { IfOk result (λ n. n < 2 ^ 33) }

@@ -3,6 +3,13 @@
 ghost use Rattle.std.specs.Prelude.{◌≡◌};
 ghost use Rattle.amqp_types.specs.Tags.{tag_at, tag_byte};
 
+use crate::tag_bytes::{
+    TAG_BOOLEAN, TAG_BYTE_ARRAY, TAG_DECIMAL_VALUE, TAG_DOUBLE, TAG_FIELD_ARRAY, TAG_FIELD_TABLE,
+    TAG_FLOAT, TAG_LONG_INT, TAG_LONG_LONG_INT, TAG_LONG_LONG_INT_READ, TAG_LONG_STRING,
+    TAG_LONG_UINT, TAG_SHORT_INT, TAG_SHORT_INT_READ, TAG_SHORT_SHORT_INT, TAG_SHORT_SHORT_UINT,
+    TAG_SHORT_UINT, TAG_TIMESTAMP, TAG_VOID,
+};
+
 /// The kinds of values that tables and arrays hold, one for each tag.
 #[derive(Clone, Copy, Debug, PartialEq, Eq)]
 pub enum FieldTag {
@@ -64,23 +71,23 @@ impl FieldTag {
         ensures { result ≡ tag_at byte }
     {
         match byte {
-            b't' => Some(FieldTag::Boolean),
-            b'b' => Some(FieldTag::ShortShortInt),
-            b'B' => Some(FieldTag::ShortShortUInt),
-            b's' | b'U' => Some(FieldTag::ShortInt),
-            b'u' => Some(FieldTag::ShortUInt),
-            b'I' => Some(FieldTag::LongInt),
-            b'i' => Some(FieldTag::LongUInt),
-            b'l' | b'L' => Some(FieldTag::LongLongInt),
-            b'f' => Some(FieldTag::Float),
-            b'd' => Some(FieldTag::Double),
-            b'D' => Some(FieldTag::DecimalValue),
-            b'S' => Some(FieldTag::LongString),
-            b'A' => Some(FieldTag::FieldArray),
-            b'T' => Some(FieldTag::Timestamp),
-            b'F' => Some(FieldTag::FieldTable),
-            b'x' => Some(FieldTag::ByteArray),
-            b'V' => Some(FieldTag::Void),
+            TAG_BOOLEAN => Some(FieldTag::Boolean),
+            TAG_SHORT_SHORT_INT => Some(FieldTag::ShortShortInt),
+            TAG_SHORT_SHORT_UINT => Some(FieldTag::ShortShortUInt),
+            TAG_SHORT_INT | TAG_SHORT_INT_READ => Some(FieldTag::ShortInt),
+            TAG_SHORT_UINT => Some(FieldTag::ShortUInt),
+            TAG_LONG_INT => Some(FieldTag::LongInt),
+            TAG_LONG_UINT => Some(FieldTag::LongUInt),
+            TAG_LONG_LONG_INT | TAG_LONG_LONG_INT_READ => Some(FieldTag::LongLongInt),
+            TAG_FLOAT => Some(FieldTag::Float),
+            TAG_DOUBLE => Some(FieldTag::Double),
+            TAG_DECIMAL_VALUE => Some(FieldTag::DecimalValue),
+            TAG_LONG_STRING => Some(FieldTag::LongString),
+            TAG_FIELD_ARRAY => Some(FieldTag::FieldArray),
+            TAG_TIMESTAMP => Some(FieldTag::Timestamp),
+            TAG_FIELD_TABLE => Some(FieldTag::FieldTable),
+            TAG_BYTE_ARRAY => Some(FieldTag::ByteArray),
+            TAG_VOID => Some(FieldTag::Void),
             _ => None,
         }
     }
@@ -90,23 +97,23 @@ impl FieldTag {
         ensures { result ≡ tag_byte self }
     {
         match self {
-            FieldTag::Boolean => b't',
-            FieldTag::ShortShortInt => b'b',
-            FieldTag::ShortShortUInt => b'B',
-            FieldTag::ShortInt => b's',
-            FieldTag::ShortUInt => b'u',
-            FieldTag::LongInt => b'I',
-            FieldTag::LongUInt => b'i',
-            FieldTag::LongLongInt => b'l',
-            FieldTag::Float => b'f',
-            FieldTag::Double => b'd',
-            FieldTag::DecimalValue => b'D',
-            FieldTag::LongString => b'S',
-            FieldTag::FieldArray => b'A',
-            FieldTag::Timestamp => b'T',
-            FieldTag::FieldTable => b'F',
-            FieldTag::ByteArray => b'x',
-            FieldTag::Void => b'V',
+            FieldTag::Boolean => TAG_BOOLEAN,
+            FieldTag::ShortShortInt => TAG_SHORT_SHORT_INT,
+            FieldTag::ShortShortUInt => TAG_SHORT_SHORT_UINT,
+            FieldTag::ShortInt => TAG_SHORT_INT,
+            FieldTag::ShortUInt => TAG_SHORT_UINT,
+            FieldTag::LongInt => TAG_LONG_INT,
+            FieldTag::LongUInt => TAG_LONG_UINT,
+            FieldTag::LongLongInt => TAG_LONG_LONG_INT,
+            FieldTag::Float => TAG_FLOAT,
+            FieldTag::Double => TAG_DOUBLE,
+            FieldTag::DecimalValue => TAG_DECIMAL_VALUE,
+            FieldTag::LongString => TAG_LONG_STRING,
+            FieldTag::FieldArray => TAG_FIELD_ARRAY,
+            FieldTag::Timestamp => TAG_TIMESTAMP,
+            FieldTag::FieldTable => TAG_FIELD_TABLE,
+            FieldTag::ByteArray => TAG_BYTE_ARRAY,
+            FieldTag::Void => TAG_VOID,
         }
     }
 }

@@ -30,7 +30,7 @@ pub record IsBounded (n deep : ℕ) (v : FieldValue) : Type 0 where
 abbrev pub BoundedBy : ℕ → (List ℕ → FieldValue → Type 0) → Type 0
 BoundedBy deep Spells = (bytes : List ℕ) (v : FieldValue) → Spells bytes v → IsBounded (length bytes) deep v
 
-neither : (a b : Bool) → a ≡ false → b ≡ false → (a || b) ≡ false
+pub neither : (a b : Bool) → a ≡ false → b ≡ false → (a || b) ≡ false
 neither true b p q = p
 neither false b p q = q
 

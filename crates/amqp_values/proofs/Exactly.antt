@@ -24,18 +24,18 @@ use Rattle.amqp_values.proofs.Conversions.{items-values_of, pairs-entries_of, va
 use Rattle.amqp_values.proofs.Tags.{tag_spelled, tag_read}
 use Rattle.amqp_values.proofs.Filled.{HasBytes, array_exact, table_exact}
 
-decimal_exact : IsExact judge_decimal SpellsDecimal
+pub decimal_exact : IsExact judge_decimal SpellsDecimal
 unfolding judge_decimal
 decimal_exact = both_exact (judge_number bytes1) (judge_number bytes4) (λ scale n. (scale, n)) (SpellsNumber bytes1) (SpellsNumber bytes4) (number_exact bytes1) (number_exact bytes4)
 
 -- ---- which tag a value has that was read after a tag
 
-mapped_tag : {A : Type 0} (make : A → FieldValue) (judge : Judge A) (t : FieldTag) → ((x : A) → tag_of (make x) ≡ t) → (bytes : List ℕ) (v : FieldValue) (n : ℕ) → judge_map make judge bytes ≡ took v n → tag_of v ≡ t
+pub mapped_tag : {A : Type 0} (make : A → FieldValue) (judge : Judge A) (t : FieldTag) → ((x : A) → tag_of (make x) ≡ t) → (bytes : List ℕ) (v : FieldValue) (n : ℕ) → judge_map make judge bytes ≡ took v n → tag_of v ≡ t
 mapped_tag make judge t same bytes v n h =
     let found = bind_took (judge bytes) _ v n h in
     ap tag_of (sym (value_took (make found.0) v _ n found.3)) ∙ same found.0
 
-tag_behind : (nest : Option (Judge FieldValue)) (t : FieldTag) (bytes : List ℕ) (v : FieldValue) (n : ℕ) → judge_behind nest t bytes ≡ took v n → tag_of v ≡ t
+pub tag_behind : (nest : Option (Judge FieldValue)) (t : FieldTag) (bytes : List ℕ) (v : FieldValue) (n : ℕ) → judge_behind nest t bytes ≡ took v n → tag_of v ≡ t
 unfolding judge_behind
 tag_behind nest tag.Boolean bytes v n h = mapped_tag boolean_value judge_boolean _ (λ x. refl) bytes v n h
 tag_behind nest tag.ShortShortInt bytes v n h = mapped_tag (signed_value short_short_int) (judge_signed bytes1) _ (λ x. refl) bytes v n h

@@ -72,7 +72,7 @@ pub entry_exact : (value : Judge FieldValue) (Spells : List ℕ → FieldValue �
 unfolding judge_entry
 entry_exact value Spells exact = both_exact judge_short_string value (λ k v. (k, v)) SpellsShortString Spells short_string_exact exact
 
-entry_some : (Spells : List ℕ → FieldValue → Type 0) → HasBytes (SpellsEntry Spells)
+pub entry_some : (Spells : List ℕ → FieldValue → Type 0) → HasBytes (SpellsEntry Spells)
 entry_some Spells bytes e h = omega (arith, ap length h.bytes_are, length-append h.front h.behind, ap length h.first_is.bytes_are)
 
 module _ (value : Judge FieldValue) (Spells : List ℕ → FieldValue → Type 0) (exact : IsExact value Spells) (some : HasBytes Spells) where

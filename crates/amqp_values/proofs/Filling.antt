@@ -88,7 +88,7 @@ after_one : {A : Type 0} (front : List A) (x : A) (read : Result (List A) Fault)
 after_one front x (Ok xs) = ap Ok (sym (append_assoc front (x ∷ []) xs))
 after_one front x (Err f) = refl
 
-after_none : {A : Type 0} (read : Result (List A) Fault) → after [] read ≡ read
+pub after_none : {A : Type 0} (read : Result (List A) Fault) → after [] read ≡ read
 after_none (Ok xs) = refl
 after_none (Err f) = refl
 
@@ -113,7 +113,7 @@ pub goes_on_settled : (item : Judge Entry) (found : List Entry) (e : Entry) (n :
 goes_on_settled item found e n bytes total some is up le so_far =
     sym (settled_one found e (filled item 0 (drop n bytes))) ∙ sym (ap (read_map (settled_on found)) (filled_next item bytes e n some is up le)) ∙ so_far
 
-none_left : (at : ℕ) (bytes : List ℕ) → length bytes ≤ at → drop at bytes ≡ []
+pub none_left : (at : ℕ) (bytes : List ℕ) → length bytes ≤ at → drop at bytes ≡ []
 none_left zero [] h = refl
 none_left zero (b ∷ bytes) h = absurd (omega arith)
 none_left (suc at) [] h = refl

@@ -1,3 +1,4 @@
+-- The lemmas of amqp_values.
 pub mod Pairs
 pub mod Parts
 pub mod Filling
@@ -24,3 +25,4 @@ pub mod PlainValues
 pub mod Tidiness
 pub mod PayloadFaults
 pub mod Holding
+pub mod OneMethod

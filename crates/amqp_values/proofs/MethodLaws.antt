@@ -89,7 +89,7 @@ rows_lawful class id slots h = slots_lawful slots (in_table class id slots h).le
 
 -- ---- what is decoded is encoded
 
-known_took : {A : Type 0} (unknown : Fault) (o : Option A) (x : A) (n : ℕ) → known unknown o ≡ took x n → o ≡ Some x
+pub known_took : {A : Type 0} (unknown : Fault) (o : Option A) (x : A) (n : ℕ) → known unknown o ≡ took x n → o ≡ Some x
 known_took unknown None x n h = absurd cc
 known_took unknown (Some y) x n h = ap Some (value_took y x 0 n h)
 
@@ -192,7 +192,7 @@ tidy_is_plain : (bytes : List ℕ) (m : Method) → SpellsPayload tidy bytes m �
 tidy_is_plain bytes m h = at_level tidy plain bytes m h ((rows_lawful m.class m.id h.slots h.known).tidy_is_plain h.slot_bytes m.items h.slots_are)
 
 -- the canonical bytes of a method with these fields
-payload_of_slots : (m : Method) (slots : List Slot) → slots_at m.class m.id ≡ Some slots → payload_bytes m ≡ number_bytes bytes2 m.class ++ (number_bytes bytes2 m.id ++ slots_bytes slots m.items)
+pub payload_of_slots : (m : Method) (slots : List Slot) → slots_at m.class m.id ≡ Some slots → payload_bytes m ≡ number_bytes bytes2 m.class ++ (number_bytes bytes2 m.id ++ slots_bytes slots m.items)
 unfolding payload_bytes method_bytes
 payload_of_slots m slots is_known = ap (λ o. number_bytes bytes2 m.class ++ (number_bytes bytes2 m.id ++ slots_bytes (unwrap_or o []) m.items)) is_known
 

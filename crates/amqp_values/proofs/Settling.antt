@@ -60,7 +60,7 @@ value_at-settled_on q found [] = refl
 value_at-settled_on q found (e ∷ es) =
     value_at-settled_on q (insert_entry cmp found e.0 e.1) es ∙ ap (later (last_at q es)) (value_at-insert_entry q found e.0 e.1) ∙ later_none (last_at q es) (is_at (cmp q) e.0) e.1 (value_at q found)
 
--- ---- the keys rise
+-- ---- the keys ascend
 all_keys : (P : List ℕ → Type 0) (o : Ordering) (e : Entry) (es more : List Entry) (k : List ℕ) (v : FieldValue) → P k → P e.0 → AllByRecursion P (keys_of es) → AllByRecursion P (keys_of more)
     → AllByRecursion P (keys_of (match_ordering o ((k, v) ∷ e ∷ es) ((e.0, v) ∷ es) (e ∷ more)))
 all_keys P Less e es more k v p q r s = (p, (q, r))

@@ -16,8 +16,8 @@ use Rattle.amqp_types.specs.SlotSpelling.{SpellsForm}
 use Rattle.amqp_types.specs.SlotLaws.{FormsAreLawful}
 use Rattle.amqp_types.proofs.FlagBytes.{flags_from_length}
 use Rattle.amqp_types.proofs.FormLaws.{numbers_lawful, short_strings_lawful, long_strings_lawful, flags_lawful}
-use Rattle.amqp_types.proofs.Lawful.{made_lawful}
-use Rattle.amqp_values.proofs.Bounded.{value_bounded, table_bounded}
+use Rattle.amqp_types.proofs.Lawful.{mapped_lawful}
+use Rattle.amqp_values.proofs.Bounded.{value_bounded, table_bounded, neither}
 use Rattle.amqp_values.proofs.ValueLaws.{tables_lawful}
 
 pub flags_of-map : (flags : List Bool) → flags_of (map flag_item flags) ≡ flags
@@ -26,11 +26,11 @@ flags_of-map (flag ∷ flags) = ap (λ (fs : List Bool). flag ∷ fs) (flags_of-
 
 pub forms_lawful : FormsAreLawful
 unfolding judge_form form_bytes
-forms_lawful (number_form width) = made_lawful (λ n. number_item n ∷ []) (judge_number width) (λ level. SpellsNumber width) (number_bytes width) (form_bytes (number_form width)) (numbers_lawful width) (λ n. refl)
-forms_lawful (flags_form count) = made_lawful (map flag_item) (judge_flags count) (λ level. SpellsFlags level count) flags_bytes (form_bytes (flags_form count)) (flags_lawful count) (λ flags. ap flags_bytes (flags_of-map flags))
-forms_lawful short_string_form = made_lawful (λ text. text_item text ∷ []) judge_short_string (λ level. SpellsShortString) short_string_bytes (form_bytes short_string_form) short_strings_lawful (λ text. refl)
-forms_lawful long_string_form = made_lawful (λ bytes. bytes_item bytes ∷ []) judge_long_string (λ level. SpellsLongString) with_length (form_bytes long_string_form) long_strings_lawful (λ bytes. refl)
-forms_lawful table_form = made_lawful (λ es. entries_item es ∷ []) judge_field_table SpellsFieldTable table_bytes (form_bytes table_form) tables_lawful (λ es. refl)
+forms_lawful (number_form width) = mapped_lawful (λ n. number_item n ∷ []) (judge_number width) (λ level. SpellsNumber width) (number_bytes width) (form_bytes (number_form width)) (numbers_lawful width) (λ n. refl)
+forms_lawful (flags_form count) = mapped_lawful (map flag_item) (judge_flags count) (λ level. SpellsFlags level count) flags_bytes (form_bytes (flags_form count)) (flags_lawful count) (λ flags. ap flags_bytes (flags_of-map flags))
+forms_lawful short_string_form = mapped_lawful (λ text. text_item text ∷ []) judge_short_string (λ level. SpellsShortString) short_string_bytes (form_bytes short_string_form) short_strings_lawful (λ text. refl)
+forms_lawful long_string_form = mapped_lawful (λ bytes. bytes_item bytes ∷ []) judge_long_string (λ level. SpellsLongString) with_length (form_bytes long_string_form) long_strings_lawful (λ bytes. refl)
+forms_lawful table_form = mapped_lawful (λ es. entries_item es ∷ []) judge_field_table SpellsFieldTable table_bytes (form_bytes table_form) tables_lawful (λ es. refl)
 
 -- what a form gives: as many items, none of them long or too deep
 pub record Gives (form : Form) (items : List Item) : Type 0 where
@@ -49,10 +49,6 @@ flags_not_deep (flag ∷ flags) = flags_not_deep flags
 flags_not_long : (flags : List Bool) → any_long (map flag_item flags) ≡ false
 flags_not_long [] = refl
 flags_not_long (flag ∷ flags) = flags_not_long flags
-
-pub neither : (a b : Bool) → a ≡ false → b ≡ false → (a || b) ≡ false
-neither true b p q = p
-neither false b p q = q
 
 below : (n : ℕ) → n < 2 ^ 32 → nat_le (2 ^ 32) n ≡ false
 below n h = grind (arith, nat_tests)

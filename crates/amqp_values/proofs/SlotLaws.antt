@@ -18,7 +18,8 @@ use Rattle.amqp_types.proofs.FormLaws.{is_plain, flags_back, flags_byte_below}
 use Rattle.amqp_types.proofs.Lawful.{both_lawful}
 use Rattle.amqp_types.proofs.Numbers.{number_bytes-length}
 use Rattle.amqp_types.proofs.Sequences.{map_spelled, map_taken}
-use Rattle.amqp_values.proofs.SlotForms.{forms_lawful, form_gives, neither}
+use Rattle.amqp_values.proofs.SlotForms.{forms_lawful, form_gives}
+use Rattle.amqp_values.proofs.Bounded.{neither}
 
 -- ---- constants of reserved fields
 
@@ -135,7 +136,7 @@ no_slots_lawful = record {
 }
 
 -- the bytes of a kept field, and those of the fields after it
-kept_bytes : (form : Form) (slots : List Slot) (xs ys : List Item) → length xs ≡ item_count form → slots_bytes (kept_slot form ∷ slots) (xs ++ ys) ≡ form_bytes form xs ++ slots_bytes slots ys
+pub kept_bytes : (form : Form) (slots : List Slot) (xs ys : List Item) → length xs ≡ item_count form → slots_bytes (kept_slot form ∷ slots) (xs ++ ys) ≡ form_bytes form xs ++ slots_bytes slots ys
 unfolding slots_bytes
 kept_bytes form slots xs ys count = ap₂ (λ a b. form_bytes form a ++ slots_bytes slots b) (take_at xs ys (item_count form) count) (drop_at xs ys (item_count form) count)
 
@@ -164,7 +165,7 @@ any_long-append : (xs ys : List Item) → any_long xs ≡ false → any_long ys 
 any_long-append [] ys p q = q
 any_long-append (x ∷ xs) ys p q = let b = either (is_long_item x) (any_long xs) p in neither (is_long_item x) (any_long (xs ++ ys)) b.0 (any_long-append xs ys b.1 q)
 
-form_is_plain : (level : Level) (form : Form) (bytes : List ℕ) (items : List Item) → SpellsForm level form bytes items → SpellsForm plain form bytes items
+pub form_is_plain : (level : Level) (form : Form) (bytes : List ℕ) (items : List Item) → SpellsForm level form bytes items → SpellsForm plain form bytes items
 form_is_plain level form = is_plain (λ l. SpellsForm l form) (forms_lawful form).strict_is_tidy (forms_lawful form).tidy_is_plain level
 
 pub slots_bounded : SpelledSlotsAreBounded

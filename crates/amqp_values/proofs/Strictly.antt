@@ -131,7 +131,7 @@ value_tidy_is_plain (suc room) = tagged_tidy_is_plain _ _ (behind_tidy_is_plain 
 
 -- ---- what is plain has a strict encoding, its canonical bytes
 
-in_order : (found es : List Entry) → IsRising (found ++ es) → settled_on found es ≡ found ++ es
+pub in_order : (found es : List Entry) → IsRising (found ++ es) → settled_on found es ≡ found ++ es
 in_order found [] s = sym (append-nil found)
 in_order found (e ∷ es) s =
     let P : List Entry → Type 0 = λ xs. IsRising xs in

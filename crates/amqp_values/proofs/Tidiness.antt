@@ -15,10 +15,10 @@ use Rattle.amqp_types.specs.SlotLaws.{is_least, are_least}
 use Rattle.amqp_types.specs.Rows.{slots_at}
 use Rattle.amqp_types.specs.Methods.{Method, judge_payload}
 use Rattle.amqp_types.specs.MethodSpelling.{SpellsPayload}
-use Rattle.amqp_types.specs.Tidiness.{begins_with, is_tidy_form, are_tidy_slots, are_tidy_known, short_at, is_tidy_payload, TidySlotsAreTold, TidyPayloadsAreTold}
+use Rattle.amqp_types.specs.Tidiness.{begins_with, is_tidy_form, are_tidy_slots, are_tidy_known, short_at, is_tidy_payload, TidySlotsAreDecided, TidyPayloadsAreDecided}
 use Rattle.amqp_types.proofs.Exact.{took_count}
 use Rattle.amqp_types.proofs.Numbers.{number_bytes-length}
-use Rattle.amqp_types.proofs.Telling.{IsTest, told, both_test}
+use Rattle.amqp_types.proofs.Deciding.{IsTest, decides, both_test}
 use Rattle.amqp_values.proofs.PlainValues.{field_table_plain_is_tidy}
 use Rattle.amqp_values.proofs.SlotForms.{forms_lawful}
 use Rattle.amqp_values.proofs.SlotLaws.{constant_strict, reserved_lawful, slots_lawful}
@@ -112,8 +112,8 @@ slots_test (reserved_slot form constant ∷ slots) least =
     let law = reserved_lawful form constant b.0 in
     both_test (judge_dropped form) (λ xs ys. xs ++ ys) (λ level. SpellsReserved level form constant) (λ level. SpellsSlots level slots) (begins_with (form_bytes form constant)) (are_tidy_slots slots) law.exact law.tidy_is_plain (reserved_test form constant b.0) (slots_test slots b.1)
 
-pub slots_told : TidySlotsAreTold
-slots_told slots least = told (judge_slots slots) (λ level. SpellsSlots level slots) (are_tidy_slots slots) (slots_lawful slots least).exact (slots_test slots least)
+pub slots_decided : TidySlotsAreDecided
+slots_decided slots least = decides (judge_slots slots) (λ level. SpellsSlots level slots) (are_tidy_slots slots) (slots_lawful slots least).exact (slots_test slots least)
 
 -- ---- payloads of methods
 
@@ -149,5 +149,5 @@ payload_tested bytes rest m h =
     let test = slots_test h.slots (in_table m.class m.id h.slots h.known).least in
     payload_slots tidy bytes rest m h ∙ test.tested h.slot_bytes rest m.items h.slots_are
 
-pub payloads_told : TidyPayloadsAreTold
-payloads_told = told judge_payload SpellsPayload is_tidy_payload payloads_lawful.exact (record { tidied = payload_tidied; tested = payload_tested })
+pub payloads_decided : TidyPayloadsAreDecided
+payloads_decided = decides judge_payload SpellsPayload is_tidy_payload payloads_lawful.exact (record { tidied = payload_tidied; tested = payload_tested })

@@ -10,7 +10,7 @@ use Rattle.amqp_types.specs.ValueBytes.{tagged_bytes, tagged_size, array_bytes, 
 use Rattle.amqp_types.specs.Settling.{IsSettled, IsRising}
 use Rattle.amqp_types.specs.ValueJudging.{judge_value, judge_field_value, judge_field_array, judge_field_table}
 use Rattle.amqp_types.specs.ValueSpelling.{SpellsValue, SpellsFieldArray, SpellsFieldTable}
-use Rattle.amqp_types.specs.ValueLaws.{ValuesAreLawful, ArraysAreLawful, TablesAreLawful, SpelledIsBounded, SettledIsSettling, HeldIsReadBack, IsWithin, AllHeld, AllEntriesHeld, IsHeld}
+use Rattle.amqp_types.specs.ValueLaws.{ValuesAreLawful, ArraysAreLawful, TablesAreLawful, SpelledIsBounded, SettledIsSettling, HeldIsReadBack, IsNoLonger, AllHeld, AllEntriesHeld, IsHeld}
 use Rattle.amqp_types.proofs.FormLaws.{is_plain, one_at_each}
 use Rattle.amqp_values.proofs.Conversions.{items-values_of, pairs-entries_of}
 use Rattle.amqp_values.proofs.Settling.{settles, settled_is}
@@ -127,20 +127,20 @@ held_is_read_back = record { value = value_back; array = array_back; table = tab
 writable : (deep : ℕ) (long : Bool) (bytes : List ℕ) → deep ≤ 64 → long ≡ false → measured (nat_lt 64 deep) long bytes ≡ Ok (length bytes)
 writable deep long bytes few short = let shallow : nat_lt 64 deep ≡ false = grind (arith, nat_tests) in rw (shallow, short) refl
 
-pub value_within : (bytes : List ℕ) (v : FieldValue) (n : ℕ) → IsBytes bytes → judge_field_value bytes ≡ took v n → IsWithin (tagged_size v) (tagged_bytes v) n
+pub value_within : (bytes : List ℕ) (v : FieldValue) (n : ℕ) → IsBytes bytes → judge_field_value bytes ≡ took v n → IsNoLonger (tagged_size v) (tagged_bytes v) n
 value_within bytes v n fits h =
     let exact = value_exact 64 in
     let spelled = exact.spelled bytes v n fits h in
     let b = value_bounded 64 (take n bytes) v spelled.0 in
     record { sized = writable (depth v) (is_long v) (tagged_bytes v) b.not_deep b.not_long; shorter = omega (arith, b.shorter, length-take-le n bytes spelled.1) }
 
-pub array_within : (bytes : List ℕ) (vs : List FieldValue) (n : ℕ) → IsBytes bytes → judge_field_array bytes ≡ took vs n → IsWithin (array_size vs) (array_bytes vs) n
+pub array_within : (bytes : List ℕ) (vs : List FieldValue) (n : ℕ) → IsBytes bytes → judge_field_array bytes ≡ took vs n → IsNoLonger (array_size vs) (array_bytes vs) n
 array_within bytes vs n fits h =
     let spelled = field_array_exact.spelled bytes vs n fits h in
     let b = array_bounded 63 (SpellsValue plain 63) (value_bounded 63) (take n bytes) vs spelled.0 in
     record { sized = writable (depth (array_value (values_of vs))) _ (array_bytes vs) b.not_deep b.not_long; shorter = omega (arith, b.shorter, length-take-le n bytes spelled.1) }
 
-pub table_within : (bytes : List ℕ) (es : List Entry) (n : ℕ) → IsBytes bytes → judge_field_table bytes ≡ took es n → IsWithin (table_size es) (table_bytes es) n
+pub table_within : (bytes : List ℕ) (es : List Entry) (n : ℕ) → IsBytes bytes → judge_field_table bytes ≡ took es n → IsNoLonger (table_size es) (table_bytes es) n
 unfolding table_bytes is_deep_table is_long_table
 table_within bytes es n fits h =
     let spelled = field_table_exact.spelled bytes es n fits h in

@@ -1,3 +1,4 @@
+-- The definitions of amqp_values.
 pub mod Views
 pub mod Falls
 pub mod Sameness

@@ -4,6 +4,7 @@ use Rattle.amqp_types.specs.Values.{FieldValue, Entry, short_short_int, short_in
 use Rattle.amqp_values.specs.declared.value.AMQPValue.{AMQPValue}
 use Rattle.amqp_values.specs.declared.value.AMQPValue.TheVariants as variant
 
+-- a value by its kind and content (AMQP 0-9-1, section 4.2.5.5); a float or a double by its bits, a time by its number
 abbrev pub value_of : AMQPValue → FieldValue
 value_of (variant.Boolean b) = boolean_value b
 value_of (variant.ShortShortInt n) = signed_value short_short_int n

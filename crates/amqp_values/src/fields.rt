@@ -69,7 +69,8 @@ fn size_field(field: &Field<'_>) -> Result<u64, GenError>
 fn size_both(first: Result<u64, GenError>, second: Result<u64, GenError>) -> Result<u64, GenError>
     requires { IfOk first (λ n. IfOk second (λ m. n + m < 2 ^ 64)) }
     ensures sum { IfOk result (λ k. IfOk first (λ n. IfOk second (λ m. k ≡ n + m)) × IsOk first × IsOk second) }
-    ensures size { (da db la lb : Bool) (xs ys : List ℕ) → first ≡ measured da la xs → second ≡ measured db lb ys → result ≡ measured (da || db) (la || lb) (xs ++ ys) }
+    ensures size { (da db la lb : Bool) (xs ys : List ℕ) → first ≡ measured da la xs → second ≡ measured db lb ys
+        → result ≡ measured (da || db) (la || lb) (xs ++ ys) }
 {
     match first {
         Ok(n) => match second {

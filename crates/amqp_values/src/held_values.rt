@@ -1,4 +1,5 @@
-//! What values, arrays and tables hold, whatever a program does: the premise of the laws that read canonical bytes back.
+//! What values, arrays and tables hold, whatever a program does: the premise of the laws that read canonical bytes
+//! back.
 
 ghost use Rattle.std.specs.Prelude.{◌<◌, ◌^◌, length};
 ghost use Rattle.std.specs.Str.{IsUtf8};

@@ -5,7 +5,7 @@ ghost use Rattle.std.specs.Bool.{Decides};
 ghost use Rattle.amqp_types.specs.Values.{FieldValue, FieldValues, FieldEntries};
 ghost use Rattle.amqp_types.specs.ValueLaws.{ValuesAreLawful, ArraysAreLawful, TablesAreLawful, SpelledIsBounded, SettledIsSettling, InsertChangesOneKey, HeldIsReadBack};
 ghost use Rattle.amqp_types.specs.SlotLaws.{FormsAreLawful, SlotsAreLawful, SpelledSlotsAreBounded, HeldSlotsAreReadBack};
-ghost use Rattle.amqp_types.specs.Tidiness.{TidySlotsAreTold};
+ghost use Rattle.amqp_types.specs.Tidiness.{TidySlotsAreDecided};
 ghost use Rattle.amqp_values.specs.Sameness.{same_value, same_items, same_entries};
 
 /// The laws of values after their tags, for each number of levels that may nest.
@@ -70,7 +70,7 @@ pub fn held_slots_are_read_back()
     ensures { HeldSlotsAreReadBack }
 {}
 
-/// A test says which fields are tidy.
-pub fn tidy_slots_are_told()
-    ensures { TidySlotsAreTold }
+/// A test decides which fields are tidy.
+pub fn tidy_slots_are_decided()
+    ensures { TidySlotsAreDecided }
 {}

@@ -7,7 +7,7 @@ ghost use Rattle.amqp_types.specs.ValueBytes.{value_bytes, values_bytes, entries
 ghost use Rattle.amqp_values.specs.Views.{value_of};
 
 use crate::value::{AMQPValue, DecimalValue, FieldArray, FieldTable};
-use amqp_types::{GenError, MAX_DEPTH};
+use amqp_types::{GenError, INNER_DEPTH, MAX_DEPTH};
 
 /// The first length that four bytes do not hold.
 const LENGTH_LIMIT: u64 = 1 << 32;
@@ -147,7 +147,7 @@ pub fn size_field_array(value: &FieldArray) -> Result<u64, GenError>
     ensures size { result ≡ array_size value.now }
     ensures bound { IfOk result (λ n. n < 2 ^ 33) }
 {
-    if !array_has_room(value, MAX_DEPTH - 1) {
+    if !array_has_room(value, INNER_DEPTH) {
         return Err(GenError::TooDeep);
     }
     match values_length(value) {
@@ -162,7 +162,7 @@ pub fn size_field_table(value: &FieldTable) -> Result<u64, GenError>
     ensures size { result ≡ table_size value.now }
     ensures bound { IfOk result (λ n. n < 2 ^ 33) }
 {
-    if !table_has_room(value, MAX_DEPTH - 1) {
+    if !table_has_room(value, INNER_DEPTH) {
         return Err(GenError::TooDeep);
     }
     match entries_length(value) {

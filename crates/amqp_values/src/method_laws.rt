@@ -5,7 +5,7 @@ ghost use Rattle.std.specs.Prelude.{IsTrue};
 ghost use Rattle.amqp_types.specs.Rows.{classes};
 ghost use Rattle.amqp_types.specs.PayloadFaults.{PayloadsFailInside};
 ghost use Rattle.amqp_types.specs.MethodLaws.{are_sound_classes, RowsAreLawful, PayloadsAreLawful, SpelledPayloadsAreBounded, HeldPayloadsAreReadBack};
-ghost use Rattle.amqp_types.specs.Tidiness.{TidyPayloadsAreTold};
+ghost use Rattle.amqp_types.specs.Tidiness.{TidyPayloadsAreDecided};
 
 /// Two bytes hold each id of the table, and its reserved fields have the least constants of their
 /// forms.
@@ -13,7 +13,7 @@ pub fn table_is_sound()
     ensures { IsTrue (are_sound_classes classes) }
 {}
 
-/// The laws of the fields of each row of the table.
+/// The laws of the fields of each method of the table.
 pub fn rows_are_lawful()
     ensures { RowsAreLawful }
 {}
@@ -28,9 +28,9 @@ pub fn spelled_payloads_are_bounded()
     ensures { SpelledPayloadsAreBounded }
 {}
 
-/// A test says which payloads of methods are tidy.
-pub fn tidy_payloads_are_told()
-    ensures { TidyPayloadsAreTold }
+/// A test decides which payloads of methods are tidy.
+pub fn tidy_payloads_are_decided()
+    ensures { TidyPayloadsAreDecided }
 {}
 
 /// A payload of a method shows only faults of what stands inside it.

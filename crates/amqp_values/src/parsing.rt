@@ -5,15 +5,15 @@ ghost use Rattle.amqp_types.specs.Answers.{Answers, AnswersFully, AnswersWhole};
 ghost use Rattle.amqp_types.specs.Settling.{settled};
 ghost use Rattle.amqp_types.specs.ValueJudging.{read_map, filled, nested, inside_error, judge_entry, judge_array, judge_table, judge_decimal, judge_behind, judge_value, judge_field_value, judge_field_array, judge_field_table};
 ghost use Rattle.amqp_types.specs.ValueBytes.{tagged_bytes, tagged_size, array_bytes, array_size, table_bytes, table_size};
-ghost use Rattle.amqp_types.specs.ValueLaws.{IsWithin};
+ghost use Rattle.amqp_types.specs.ValueLaws.{IsNoLonger};
 ghost use Rattle.amqp_values.specs.Views.{value_of, entry_of};
 
 use crate::value::{AMQPValue, DecimalValue, FieldArray, FieldTable};
 use amqp_types::{
-    FieldTag, MAX_DEPTH, ParserError, ShortString, parse_boolean, parse_byte_array, parse_double,
-    parse_float, parse_long_bytes, parse_long_int, parse_long_long_int, parse_long_string,
-    parse_long_uint, parse_short_int, parse_short_short_int, parse_short_short_uint,
-    parse_short_string, parse_short_uint, parse_timestamp,
+    FieldTag, INNER_DEPTH, MAX_DEPTH, ParserError, ShortString, parse_boolean, parse_byte_array,
+    parse_double, parse_float, parse_long_bytes, parse_long_int, parse_long_long_int,
+    parse_long_string, parse_long_uint, parse_short_int, parse_short_short_int,
+    parse_short_short_uint, parse_short_string, parse_short_uint, parse_timestamp,
 };
 use std::alloc::Global;
 
@@ -218,29 +218,30 @@ fn entry_within(
     Ok((n + m, (key, value)))
 }
 
-/// Decodes a tag and its value.
+/// Decodes a tag and its value, in which tables and arrays nest at most 64 levels deep (AMQP 0-9-1, section 4.2.5.5).
 pub fn parse_value(alloc: Global, i: &[u8]) -> Result<(usize, AMQPValue), ParserError>
     ensures judged { Answers value_of result (judge_field_value i.now) }
-    ensures within { IfOk result (λ found. IsWithin (tagged_size (value_of found.1)) (tagged_bytes (value_of found.1)) found.0) }
+    ensures within { IfOk result (λ found. IsNoLonger (tagged_size (value_of found.1)) (tagged_bytes (value_of found.1)) found.0) }
     ensures used { IfOk result (λ found. found.0 ≤ length i.now) }
 {
     value_within(alloc, i, MAX_DEPTH)
 }
 
-/// Decodes an array: a length of four bytes, and the values that fill as many.
+/// Decodes an array, at most 64 levels deep: a length of four bytes, and the values that fill as many.
 pub fn parse_field_array(alloc: Global, i: &[u8]) -> Result<(usize, FieldArray), ParserError>
     ensures judged { Answers (λ array. array) result (judge_field_array i.now) }
-    ensures within { IfOk result (λ found. IsWithin (array_size found.1) (array_bytes found.1) found.0) }
+    ensures within { IfOk result (λ found. IsNoLonger (array_size found.1) (array_bytes found.1) found.0) }
     ensures used { IfOk result (λ found. found.0 ≤ length i.now) }
 {
-    array_within(alloc, i, MAX_DEPTH - 1)
+    array_within(alloc, i, INNER_DEPTH)
 }
 
-/// Decodes a table: a length of four bytes, and the entries that fill as many.
+/// Decodes a table, at most 64 levels deep: a length of four bytes, and the entries that fill as many (AMQP 0-9-1,
+/// section 4.2.5.5). Of duplicate keys the last one wins.
 pub fn parse_field_table(alloc: Global, i: &[u8]) -> Result<(usize, FieldTable), ParserError>
     ensures judged { Answers (λ table. table) result (judge_field_table i.now) }
-    ensures within { IfOk result (λ found. IsWithin (table_size found.1) (table_bytes found.1) found.0) }
+    ensures within { IfOk result (λ found. IsNoLonger (table_size found.1) (table_bytes found.1) found.0) }
     ensures used { IfOk result (λ found. found.0 ≤ length i.now) }
 {
-    table_within(alloc, i, MAX_DEPTH - 1)
+    table_within(alloc, i, INNER_DEPTH)
 }

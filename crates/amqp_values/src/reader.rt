@@ -1,4 +1,4 @@
-//! Decoding the fields of one container, one after another.
+//! Decoding the fields of one payload, one after another.
 
 ghost use Rattle.std.specs.Prelude.{◌≡◌, ◌≤◌, ◌-◌, [], ◌∷◌, length, map, OnErr};
 ghost use Rattle.amqp_types.specs.Numbers.{bytes1, bytes2, bytes4, bytes8};
@@ -16,10 +16,10 @@ use amqp_types::{
 };
 use std::alloc::Global;
 
-/// The bytes of one container that are not read yet.
+/// The bytes of one payload that are not decoded yet. A field that is refused is not passed over.
 #[derive(Drop)]
 pub struct SlotReader<'a> {
-    /// What is left.
+    /// The bytes from the next field on.
     pub rest: &'a [u8],
 }
 
@@ -91,7 +91,7 @@ impl<'a> SlotReader<'a> {
         Ok(value)
     }
 
-    /// Decodes a byte of `N` flags.
+    /// Decodes a byte of `N` flags, the first of them in the lowest bit. The byte is returned with its unused bits.
     #[tactic(auto, using(crate::proofs::Steps::dropped, amqp_types::proofs::Judged::refuses_next), unfolding(amqp_types::specs::SlotJudging::judge_form, amqp_types::specs::Flags::judge_flags))]
     pub fn flags<const N: usize>(&mut self) -> Result<ShortShortUInt, ParserError>
         ensures step { Steps (λ byte. map flag_item (flags_from N 0 byte)) result self.old.rest.now self.new.rest.now (judge_form (flags_form N)) }

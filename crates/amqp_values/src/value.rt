@@ -15,17 +15,17 @@ use std::alloc::Global;
 use std::collections::{BTreeMap, btree_map};
 use std::marker::Model;
 
-/// A number that is to be divided by ten as often as the scale says.
+/// A decimal value (AMQP 0-9-1, section 4.2.5.5): a number that is to be divided by ten as often as the scale says.
 #[derive(Clone, Copy, Debug, PartialEq, Eq)]
 pub struct DecimalValue {
     /// How many digits stand after the point.
     pub scale: ShortShortUInt,
 
-    /// The digits.
+    /// The digits, as one number.
     pub value: LongUInt,
 }
 
-/// A value in a table or an array.
+/// A value in a table or an array (AMQP 0-9-1, section 4.2.5.5).
 #[cycle(value)]
 #[derive(Debug, Drop)]
 pub enum AMQPValue {
@@ -68,7 +68,7 @@ pub enum AMQPValue {
     /// An array.
     FieldArray(FieldArray),
 
-    /// A time.
+    /// A time, in seconds since 1970 began in UTC (section 4.2.5.4).
     Timestamp(Timestamp),
 
     /// A table.
@@ -148,7 +148,7 @@ impl Model for FieldTable {
 impl FieldArray {
     ghost use Rattle.amqp_values.specs.Views.{value_of};
 
-    /// No values.
+    /// An array of no values. No memory is taken.
     pub fn new(alloc: Global) -> FieldArray
         ensures { result ≡ [] }
     {
@@ -180,7 +180,7 @@ impl FieldArray {
         self.values.is_empty()
     }
 
-    /// The values.
+    /// The values, in their order.
     pub fn as_slice(&self) -> &[AMQPValue]
         ensures { map value_of result.now ≡ self.now }
     {
@@ -191,7 +191,7 @@ impl FieldArray {
 impl FieldTable {
     ghost use Rattle.amqp_values.specs.Views.{value_of, entry_of};
 
-    /// No entries.
+    /// A table of no entries. No memory is taken.
     pub fn new(alloc: Global) -> FieldTable
         ensures { result ≡ [] }
     {

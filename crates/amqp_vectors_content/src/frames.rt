@@ -20,13 +20,16 @@ pub enum Step {
     Heartbeat,
 }
 
-/// Outcomes by number: a fault has its own, from 1 to 7.
+/// The number of the outcome of a frame that is part of no message. (A fault has its own number, from 1 to 7.)
 pub const PASSED: u8 = 100;
 
+/// The number of the outcome of a frame that is held for its message.
 pub const HELD: u8 = 101;
 
+/// The number of the outcome of a frame that completes its message.
 pub const DONE: u8 = 102;
 
+/// The body `hello`, of which a step takes the first bytes.
 pub const HELLO: [u8; 5] = [104, 101, 108, 108, 111];
 
 /// The frame of a step.

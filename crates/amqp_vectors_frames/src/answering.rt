@@ -1,5 +1,7 @@
 //! A caller of `amqp_frame`: decodes a frame, and writes the answer to it.
 
+ghost use Rattle.std.specs.Prelude.{◌≡◌, ◌≤◌, length, IfOk, OnErr};
+
 use amqp_frame::generation::gen_frame;
 use amqp_frame::parsing::parse_frame;
 use amqp_frame::{AMQPFrame, GenError, ParserError};
@@ -18,7 +20,7 @@ enum AnswerError {
     Gen(GenError),
 }
 
-/// The answer that a frame wants: a heartbeat to a heartbeat, and `CloseOk` to `Close` of its channel.
+/// The answer that is due to a frame: a heartbeat to a heartbeat, and `CloseOk` to `Close` of its channel.
 fn answer_to(frame: &AMQPFrame) -> Option<AMQPFrame> {
     match frame {
         AMQPFrame::Heartbeat => Some(AMQPFrame::Heartbeat),
@@ -31,8 +33,11 @@ fn answer_to(frame: &AMQPFrame) -> Option<AMQPFrame> {
 }
 
 /// Decodes the frame at the front of the input, appends its answer to `out`, and returns how many bytes of the input it
-/// used.
-fn answer(alloc: Global, input: &[u8], out: &mut Vec<u8>) -> Result<usize, AnswerError> {
+/// used. Where there is an error nothing is appended.
+fn answer(alloc: Global, input: &[u8], out: &mut Vec<u8>) -> Result<usize, AnswerError>
+    ensures used { IfOk result (λ used. used ≤ length input.now) }
+    ensures kept { OnErr result (out.new.items ≡ out.old.items) }
+{
     let (used, frame) = match parse_frame(alloc, input) {
         Ok(found) => found,
         Err(error) => return Err(AnswerError::Parse(error)),

@@ -1,4 +1,4 @@
-//! Bytes that no frame stands in front of, and what is said of them.
+//! Bytes that begin with no frame, and the errors that they are refused with.
 
 use amqp_frame::{ParserError, parse_frame};
 use amqp_vectors::asking::same;

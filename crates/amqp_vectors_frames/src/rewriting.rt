@@ -23,7 +23,7 @@ const ROWS: [Row; 8] = [
         &[0, 85, 0, 10, 255],
         &[1, 0, 3, 0, 0, 0, 5, 0, 85, 0, 10, 1, 206],
     ),
-    // A table whose keys fall, with one of them twice.
+    // A table whose keys are not in ascending order, with one of them twice.
     (
         Method,
         1,

@@ -64,7 +64,7 @@ const METHODS: [Row; 12] = [
 ];
 
 /// Whether the frame that a short payload is on channel 1 is tidy.
-fn told(alloc: Global, frame_type: AMQPFrameType, payload: &[u8]) -> Result<bool, Fail> {
+fn decided(alloc: Global, frame_type: AMQPFrameType, payload: &[u8]) -> Result<bool, Fail> {
     if payload.len() > 64 {
         return Err(Fail::new("a row is long"));
     }
@@ -78,19 +78,19 @@ fn told(alloc: Global, frame_type: AMQPFrameType, payload: &[u8]) -> Result<bool
 }
 
 /// Fails unless each payload is tidy where its row says so.
-fn are_told(alloc: Global, rows: &[Row]) -> Result<(), Fail> {
+fn are_decided(alloc: Global, rows: &[Row]) -> Result<(), Fail> {
     for (frame_type, payload, tidy) in rows {
-        same(told(alloc, *frame_type, payload)?, *tidy)?;
+        same(decided(alloc, *frame_type, payload)?, *tidy)?;
     }
     Ok(())
 }
 
 #[test]
-fn tidy_frames_are_told(rt: HostRuntime) -> Result<(), Fail> {
-    are_told(rt.alloc(), &FRAMES)
+fn tidy_frames_are_decided(rt: HostRuntime) -> Result<(), Fail> {
+    are_decided(rt.alloc(), &FRAMES)
 }
 
 #[test]
-fn tidy_methods_are_told(rt: HostRuntime) -> Result<(), Fail> {
-    are_told(rt.alloc(), &METHODS)
+fn tidy_methods_are_decided(rt: HostRuntime) -> Result<(), Fail> {
+    are_decided(rt.alloc(), &METHODS)
 }

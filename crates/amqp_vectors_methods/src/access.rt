@@ -1,7 +1,7 @@
 //! Each method of the class access is written as these bytes, and read from them.
 
 use crate::made::text;
-use crate::rows::{self, agree, agrees, behind, is_appended};
+use crate::rows::{self, after_id, agree, agrees, is_appended};
 use amqp_protocol::AMQPClass;
 use amqp_protocol::access::*;
 use std::alloc::Global;
@@ -19,7 +19,7 @@ pub fn of_class(
     out: &mut Vec<u8>,
     payload: &[u8],
 ) -> Result<(), Fail> {
-    let written = behind(payload);
+    let written = after_id(payload);
     agree!(alloc, method, out, payload, written; gen_access, size_access, put_access, parse_access, method.copy(alloc))?;
     alone(alloc, method, out, written)
 }
@@ -31,12 +31,12 @@ fn alone(
     out: &mut Vec<u8>,
     written: &[u8],
 ) -> Result<(), Fail> {
-    let slots = behind(written);
+    let fields = after_id(written);
     match method {
         AMQPMethod::Request(m) =>
-            agree!(alloc, m, out, written, slots; gen_request, size_request, put_request, parse_request, m.copy(alloc)),
+            agree!(alloc, m, out, written, fields; gen_request, size_request, put_request, parse_request, m.copy(alloc)),
         AMQPMethod::RequestOk(m) =>
-            agree!(alloc, m, out, written, slots; gen_request_ok, size_request_ok, put_request_ok, parse_request_ok, m.clone()),
+            agree!(alloc, m, out, written, fields; gen_request_ok, size_request_ok, put_request_ok, parse_request_ok, m.clone()),
     }
 }
 

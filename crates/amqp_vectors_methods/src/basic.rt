@@ -1,7 +1,7 @@
 //! Each method of the class basic is written as these bytes, and read from them.
 
 use crate::made::{table, text};
-use crate::rows::{self, agree, agrees, behind, is_appended};
+use crate::rows::{self, after_id, agree, agrees, is_appended};
 use amqp_protocol::AMQPClass;
 use amqp_protocol::basic::*;
 use std::alloc::Global;
@@ -19,7 +19,7 @@ pub fn of_class(
     out: &mut Vec<u8>,
     payload: &[u8],
 ) -> Result<(), Fail> {
-    let written = behind(payload);
+    let written = after_id(payload);
     agree!(alloc, method, out, payload, written; gen_basic, size_basic, put_basic, parse_basic, method.copy(alloc))?;
     consuming(alloc, method, out, written)
 }
@@ -31,20 +31,20 @@ fn consuming(
     out: &mut Vec<u8>,
     written: &[u8],
 ) -> Result<(), Fail> {
-    let slots = behind(written);
+    let fields = after_id(written);
     match method {
         AMQPMethod::Qos(m) =>
-            agree!(alloc, m, out, written, slots; gen_qos, size_qos, put_qos, parse_qos, m.clone()),
+            agree!(alloc, m, out, written, fields; gen_qos, size_qos, put_qos, parse_qos, m.clone()),
         AMQPMethod::QosOk(m) =>
-            agree!(alloc, m, out, written, slots; gen_qos_ok, size_qos_ok, put_qos_ok, parse_qos_ok, m.clone()),
+            agree!(alloc, m, out, written, fields; gen_qos_ok, size_qos_ok, put_qos_ok, parse_qos_ok, m.clone()),
         AMQPMethod::Consume(m) =>
-            agree!(alloc, m, out, written, slots; gen_consume, size_consume, put_consume, parse_consume, m.copy(alloc)),
+            agree!(alloc, m, out, written, fields; gen_consume, size_consume, put_consume, parse_consume, m.copy(alloc)),
         AMQPMethod::ConsumeOk(m) =>
-            agree!(alloc, m, out, written, slots; gen_consume_ok, size_consume_ok, put_consume_ok, parse_consume_ok, m.copy(alloc)),
+            agree!(alloc, m, out, written, fields; gen_consume_ok, size_consume_ok, put_consume_ok, parse_consume_ok, m.copy(alloc)),
         AMQPMethod::Cancel(m) =>
-            agree!(alloc, m, out, written, slots; gen_cancel, size_cancel, put_cancel, parse_cancel, m.copy(alloc)),
+            agree!(alloc, m, out, written, fields; gen_cancel, size_cancel, put_cancel, parse_cancel, m.copy(alloc)),
         AMQPMethod::CancelOk(m) =>
-            agree!(alloc, m, out, written, slots; gen_cancel_ok, size_cancel_ok, put_cancel_ok, parse_cancel_ok, m.copy(alloc)),
+            agree!(alloc, m, out, written, fields; gen_cancel_ok, size_cancel_ok, put_cancel_ok, parse_cancel_ok, m.copy(alloc)),
         _ => publishing(alloc, method, out, written),
     }
 }
@@ -56,20 +56,20 @@ fn publishing(
     out: &mut Vec<u8>,
     written: &[u8],
 ) -> Result<(), Fail> {
-    let slots = behind(written);
+    let fields = after_id(written);
     match method {
         AMQPMethod::Publish(m) =>
-            agree!(alloc, m, out, written, slots; gen_publish, size_publish, put_publish, parse_publish, m.copy(alloc)),
+            agree!(alloc, m, out, written, fields; gen_publish, size_publish, put_publish, parse_publish, m.copy(alloc)),
         AMQPMethod::Return(m) =>
-            agree!(alloc, m, out, written, slots; gen_return, size_return, put_return, parse_return, m.copy(alloc)),
+            agree!(alloc, m, out, written, fields; gen_return, size_return, put_return, parse_return, m.copy(alloc)),
         AMQPMethod::Deliver(m) =>
-            agree!(alloc, m, out, written, slots; gen_deliver, size_deliver, put_deliver, parse_deliver, m.copy(alloc)),
+            agree!(alloc, m, out, written, fields; gen_deliver, size_deliver, put_deliver, parse_deliver, m.copy(alloc)),
         AMQPMethod::Get(m) =>
-            agree!(alloc, m, out, written, slots; gen_get, size_get, put_get, parse_get, m.copy(alloc)),
+            agree!(alloc, m, out, written, fields; gen_get, size_get, put_get, parse_get, m.copy(alloc)),
         AMQPMethod::GetOk(m) =>
-            agree!(alloc, m, out, written, slots; gen_get_ok, size_get_ok, put_get_ok, parse_get_ok, m.copy(alloc)),
+            agree!(alloc, m, out, written, fields; gen_get_ok, size_get_ok, put_get_ok, parse_get_ok, m.copy(alloc)),
         AMQPMethod::GetEmpty(m) =>
-            agree!(alloc, m, out, written, slots; gen_get_empty, size_get_empty, put_get_empty, parse_get_empty, m.clone()),
+            agree!(alloc, m, out, written, fields; gen_get_empty, size_get_empty, put_get_empty, parse_get_empty, m.clone()),
         _ => acknowledging(alloc, method, out, written),
     }
 }
@@ -81,20 +81,20 @@ fn acknowledging(
     out: &mut Vec<u8>,
     written: &[u8],
 ) -> Result<(), Fail> {
-    let slots = behind(written);
+    let fields = after_id(written);
     match method {
         AMQPMethod::Ack(m) =>
-            agree!(alloc, m, out, written, slots; gen_ack, size_ack, put_ack, parse_ack, m.clone()),
+            agree!(alloc, m, out, written, fields; gen_ack, size_ack, put_ack, parse_ack, m.clone()),
         AMQPMethod::Reject(m) =>
-            agree!(alloc, m, out, written, slots; gen_reject, size_reject, put_reject, parse_reject, m.clone()),
+            agree!(alloc, m, out, written, fields; gen_reject, size_reject, put_reject, parse_reject, m.clone()),
         AMQPMethod::RecoverAsync(m) =>
-            agree!(alloc, m, out, written, slots; gen_recover_async, size_recover_async, put_recover_async, parse_recover_async, m.clone()),
+            agree!(alloc, m, out, written, fields; gen_recover_async, size_recover_async, put_recover_async, parse_recover_async, m.clone()),
         AMQPMethod::Recover(m) =>
-            agree!(alloc, m, out, written, slots; gen_recover, size_recover, put_recover, parse_recover, m.clone()),
+            agree!(alloc, m, out, written, fields; gen_recover, size_recover, put_recover, parse_recover, m.clone()),
         AMQPMethod::RecoverOk(m) =>
-            agree!(alloc, m, out, written, slots; gen_recover_ok, size_recover_ok, put_recover_ok, parse_recover_ok, m.clone()),
+            agree!(alloc, m, out, written, fields; gen_recover_ok, size_recover_ok, put_recover_ok, parse_recover_ok, m.clone()),
         AMQPMethod::Nack(m) =>
-            agree!(alloc, m, out, written, slots; gen_nack, size_nack, put_nack, parse_nack, m.clone()),
+            agree!(alloc, m, out, written, fields; gen_nack, size_nack, put_nack, parse_nack, m.clone()),
         _ => Err(Fail::new("a method of no row")),
     }
 }

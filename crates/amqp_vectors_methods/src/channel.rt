@@ -1,7 +1,7 @@
 //! Each method of the class channel is written as these bytes, and read from them.
 
 use crate::made::text;
-use crate::rows::{self, agree, agrees, behind, is_appended};
+use crate::rows::{self, after_id, agree, agrees, is_appended};
 use amqp_protocol::AMQPClass;
 use amqp_protocol::channel::*;
 use std::alloc::Global;
@@ -19,7 +19,7 @@ pub fn of_class(
     out: &mut Vec<u8>,
     payload: &[u8],
 ) -> Result<(), Fail> {
-    let written = behind(payload);
+    let written = after_id(payload);
     agree!(alloc, method, out, payload, written; gen_channel, size_channel, put_channel, parse_channel, method.copy(alloc))?;
     alone(alloc, method, out, written)
 }
@@ -31,20 +31,20 @@ fn alone(
     out: &mut Vec<u8>,
     written: &[u8],
 ) -> Result<(), Fail> {
-    let slots = behind(written);
+    let fields = after_id(written);
     match method {
         AMQPMethod::Open(m) =>
-            agree!(alloc, m, out, written, slots; gen_open, size_open, put_open, parse_open, m.clone()),
+            agree!(alloc, m, out, written, fields; gen_open, size_open, put_open, parse_open, m.clone()),
         AMQPMethod::OpenOk(m) =>
-            agree!(alloc, m, out, written, slots; gen_open_ok, size_open_ok, put_open_ok, parse_open_ok, m.clone()),
+            agree!(alloc, m, out, written, fields; gen_open_ok, size_open_ok, put_open_ok, parse_open_ok, m.clone()),
         AMQPMethod::Flow(m) =>
-            agree!(alloc, m, out, written, slots; gen_flow, size_flow, put_flow, parse_flow, m.clone()),
+            agree!(alloc, m, out, written, fields; gen_flow, size_flow, put_flow, parse_flow, m.clone()),
         AMQPMethod::FlowOk(m) =>
-            agree!(alloc, m, out, written, slots; gen_flow_ok, size_flow_ok, put_flow_ok, parse_flow_ok, m.clone()),
+            agree!(alloc, m, out, written, fields; gen_flow_ok, size_flow_ok, put_flow_ok, parse_flow_ok, m.clone()),
         AMQPMethod::Close(m) =>
-            agree!(alloc, m, out, written, slots; gen_close, size_close, put_close, parse_close, m.copy(alloc)),
+            agree!(alloc, m, out, written, fields; gen_close, size_close, put_close, parse_close, m.copy(alloc)),
         AMQPMethod::CloseOk(m) =>
-            agree!(alloc, m, out, written, slots; gen_close_ok, size_close_ok, put_close_ok, parse_close_ok, m.clone()),
+            agree!(alloc, m, out, written, fields; gen_close_ok, size_close_ok, put_close_ok, parse_close_ok, m.clone()),
     }
 }
 

@@ -1,6 +1,6 @@
 //! Each method of the class confirm is written as these bytes, and read from them.
 
-use crate::rows::{self, agree, agrees, behind, is_appended};
+use crate::rows::{self, after_id, agree, agrees, is_appended};
 use amqp_protocol::AMQPClass;
 use amqp_protocol::confirm::*;
 use std::alloc::Global;
@@ -18,7 +18,7 @@ pub fn of_class(
     out: &mut Vec<u8>,
     payload: &[u8],
 ) -> Result<(), Fail> {
-    let written = behind(payload);
+    let written = after_id(payload);
     agree!(alloc, method, out, payload, written; gen_confirm, size_confirm, put_confirm, parse_confirm, method.copy(alloc))?;
     alone(alloc, method, out, written)
 }
@@ -30,12 +30,12 @@ fn alone(
     out: &mut Vec<u8>,
     written: &[u8],
 ) -> Result<(), Fail> {
-    let slots = behind(written);
+    let fields = after_id(written);
     match method {
         AMQPMethod::Select(m) =>
-            agree!(alloc, m, out, written, slots; gen_select, size_select, put_select, parse_select, m.clone()),
+            agree!(alloc, m, out, written, fields; gen_select, size_select, put_select, parse_select, m.clone()),
         AMQPMethod::SelectOk(m) =>
-            agree!(alloc, m, out, written, slots; gen_select_ok, size_select_ok, put_select_ok, parse_select_ok, m.clone()),
+            agree!(alloc, m, out, written, fields; gen_select_ok, size_select_ok, put_select_ok, parse_select_ok, m.clone()),
     }
 }
 

@@ -1,7 +1,7 @@
 //! Each method of the class connection is written as these bytes, and read from them.
 
 use crate::made::{bytes, table, text};
-use crate::rows::{self, agree, agrees, behind, is_appended};
+use crate::rows::{self, after_id, agree, agrees, is_appended};
 use amqp_protocol::AMQPClass;
 use amqp_protocol::connection::*;
 use std::alloc::Global;
@@ -19,7 +19,7 @@ pub fn of_class(
     out: &mut Vec<u8>,
     payload: &[u8],
 ) -> Result<(), Fail> {
-    let written = behind(payload);
+    let written = after_id(payload);
     agree!(alloc, method, out, payload, written; gen_connection, size_connection, put_connection, parse_connection, method.copy(alloc))?;
     negotiating(alloc, method, out, written)
 }
@@ -31,20 +31,20 @@ fn negotiating(
     out: &mut Vec<u8>,
     written: &[u8],
 ) -> Result<(), Fail> {
-    let slots = behind(written);
+    let fields = after_id(written);
     match method {
         AMQPMethod::Start(m) =>
-            agree!(alloc, m, out, written, slots; gen_start, size_start, put_start, parse_start, m.copy(alloc)),
+            agree!(alloc, m, out, written, fields; gen_start, size_start, put_start, parse_start, m.copy(alloc)),
         AMQPMethod::StartOk(m) =>
-            agree!(alloc, m, out, written, slots; gen_start_ok, size_start_ok, put_start_ok, parse_start_ok, m.copy(alloc)),
+            agree!(alloc, m, out, written, fields; gen_start_ok, size_start_ok, put_start_ok, parse_start_ok, m.copy(alloc)),
         AMQPMethod::Secure(m) =>
-            agree!(alloc, m, out, written, slots; gen_secure, size_secure, put_secure, parse_secure, m.copy(alloc)),
+            agree!(alloc, m, out, written, fields; gen_secure, size_secure, put_secure, parse_secure, m.copy(alloc)),
         AMQPMethod::SecureOk(m) =>
-            agree!(alloc, m, out, written, slots; gen_secure_ok, size_secure_ok, put_secure_ok, parse_secure_ok, m.copy(alloc)),
+            agree!(alloc, m, out, written, fields; gen_secure_ok, size_secure_ok, put_secure_ok, parse_secure_ok, m.copy(alloc)),
         AMQPMethod::Tune(m) =>
-            agree!(alloc, m, out, written, slots; gen_tune, size_tune, put_tune, parse_tune, m.clone()),
+            agree!(alloc, m, out, written, fields; gen_tune, size_tune, put_tune, parse_tune, m.clone()),
         AMQPMethod::TuneOk(m) =>
-            agree!(alloc, m, out, written, slots; gen_tune_ok, size_tune_ok, put_tune_ok, parse_tune_ok, m.clone()),
+            agree!(alloc, m, out, written, fields; gen_tune_ok, size_tune_ok, put_tune_ok, parse_tune_ok, m.clone()),
         _ => opening(alloc, method, out, written),
     }
 }
@@ -56,24 +56,24 @@ fn opening(
     out: &mut Vec<u8>,
     written: &[u8],
 ) -> Result<(), Fail> {
-    let slots = behind(written);
+    let fields = after_id(written);
     match method {
         AMQPMethod::Open(m) =>
-            agree!(alloc, m, out, written, slots; gen_open, size_open, put_open, parse_open, m.copy(alloc)),
+            agree!(alloc, m, out, written, fields; gen_open, size_open, put_open, parse_open, m.copy(alloc)),
         AMQPMethod::OpenOk(m) =>
-            agree!(alloc, m, out, written, slots; gen_open_ok, size_open_ok, put_open_ok, parse_open_ok, m.clone()),
+            agree!(alloc, m, out, written, fields; gen_open_ok, size_open_ok, put_open_ok, parse_open_ok, m.clone()),
         AMQPMethod::Close(m) =>
-            agree!(alloc, m, out, written, slots; gen_close, size_close, put_close, parse_close, m.copy(alloc)),
+            agree!(alloc, m, out, written, fields; gen_close, size_close, put_close, parse_close, m.copy(alloc)),
         AMQPMethod::CloseOk(m) =>
-            agree!(alloc, m, out, written, slots; gen_close_ok, size_close_ok, put_close_ok, parse_close_ok, m.clone()),
+            agree!(alloc, m, out, written, fields; gen_close_ok, size_close_ok, put_close_ok, parse_close_ok, m.clone()),
         AMQPMethod::Blocked(m) =>
-            agree!(alloc, m, out, written, slots; gen_blocked, size_blocked, put_blocked, parse_blocked, m.copy(alloc)),
+            agree!(alloc, m, out, written, fields; gen_blocked, size_blocked, put_blocked, parse_blocked, m.copy(alloc)),
         AMQPMethod::Unblocked(m) =>
-            agree!(alloc, m, out, written, slots; gen_unblocked, size_unblocked, put_unblocked, parse_unblocked, m.clone()),
+            agree!(alloc, m, out, written, fields; gen_unblocked, size_unblocked, put_unblocked, parse_unblocked, m.clone()),
         AMQPMethod::UpdateSecret(m) =>
-            agree!(alloc, m, out, written, slots; gen_update_secret, size_update_secret, put_update_secret, parse_update_secret, m.copy(alloc)),
+            agree!(alloc, m, out, written, fields; gen_update_secret, size_update_secret, put_update_secret, parse_update_secret, m.copy(alloc)),
         AMQPMethod::UpdateSecretOk(m) =>
-            agree!(alloc, m, out, written, slots; gen_update_secret_ok, size_update_secret_ok, put_update_secret_ok, parse_update_secret_ok, m.clone()),
+            agree!(alloc, m, out, written, fields; gen_update_secret_ok, size_update_secret_ok, put_update_secret_ok, parse_update_secret_ok, m.clone()),
         _ => Err(Fail::new("a method of no row")),
     }
 }

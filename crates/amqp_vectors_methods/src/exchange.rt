@@ -1,7 +1,7 @@
 //! Each method of the class exchange is written as these bytes, and read from them.
 
 use crate::made::{table, text};
-use crate::rows::{self, agree, agrees, behind, is_appended};
+use crate::rows::{self, after_id, agree, agrees, is_appended};
 use amqp_protocol::AMQPClass;
 use amqp_protocol::exchange::*;
 use std::alloc::Global;
@@ -19,7 +19,7 @@ pub fn of_class(
     out: &mut Vec<u8>,
     payload: &[u8],
 ) -> Result<(), Fail> {
-    let written = behind(payload);
+    let written = after_id(payload);
     agree!(alloc, method, out, payload, written; gen_exchange, size_exchange, put_exchange, parse_exchange, method.copy(alloc))?;
     declaring(alloc, method, out, written)
 }
@@ -31,16 +31,16 @@ fn declaring(
     out: &mut Vec<u8>,
     written: &[u8],
 ) -> Result<(), Fail> {
-    let slots = behind(written);
+    let fields = after_id(written);
     match method {
         AMQPMethod::Declare(m) =>
-            agree!(alloc, m, out, written, slots; gen_declare, size_declare, put_declare, parse_declare, m.copy(alloc)),
+            agree!(alloc, m, out, written, fields; gen_declare, size_declare, put_declare, parse_declare, m.copy(alloc)),
         AMQPMethod::DeclareOk(m) =>
-            agree!(alloc, m, out, written, slots; gen_declare_ok, size_declare_ok, put_declare_ok, parse_declare_ok, m.clone()),
+            agree!(alloc, m, out, written, fields; gen_declare_ok, size_declare_ok, put_declare_ok, parse_declare_ok, m.clone()),
         AMQPMethod::Delete(m) =>
-            agree!(alloc, m, out, written, slots; gen_delete, size_delete, put_delete, parse_delete, m.copy(alloc)),
+            agree!(alloc, m, out, written, fields; gen_delete, size_delete, put_delete, parse_delete, m.copy(alloc)),
         AMQPMethod::DeleteOk(m) =>
-            agree!(alloc, m, out, written, slots; gen_delete_ok, size_delete_ok, put_delete_ok, parse_delete_ok, m.clone()),
+            agree!(alloc, m, out, written, fields; gen_delete_ok, size_delete_ok, put_delete_ok, parse_delete_ok, m.clone()),
         _ => binding(alloc, method, out, written),
     }
 }
@@ -52,16 +52,16 @@ fn binding(
     out: &mut Vec<u8>,
     written: &[u8],
 ) -> Result<(), Fail> {
-    let slots = behind(written);
+    let fields = after_id(written);
     match method {
         AMQPMethod::Bind(m) =>
-            agree!(alloc, m, out, written, slots; gen_bind, size_bind, put_bind, parse_bind, m.copy(alloc)),
+            agree!(alloc, m, out, written, fields; gen_bind, size_bind, put_bind, parse_bind, m.copy(alloc)),
         AMQPMethod::BindOk(m) =>
-            agree!(alloc, m, out, written, slots; gen_bind_ok, size_bind_ok, put_bind_ok, parse_bind_ok, m.clone()),
+            agree!(alloc, m, out, written, fields; gen_bind_ok, size_bind_ok, put_bind_ok, parse_bind_ok, m.clone()),
         AMQPMethod::Unbind(m) =>
-            agree!(alloc, m, out, written, slots; gen_unbind, size_unbind, put_unbind, parse_unbind, m.copy(alloc)),
+            agree!(alloc, m, out, written, fields; gen_unbind, size_unbind, put_unbind, parse_unbind, m.copy(alloc)),
         AMQPMethod::UnbindOk(m) =>
-            agree!(alloc, m, out, written, slots; gen_unbind_ok, size_unbind_ok, put_unbind_ok, parse_unbind_ok, m.clone()),
+            agree!(alloc, m, out, written, fields; gen_unbind_ok, size_unbind_ok, put_unbind_ok, parse_unbind_ok, m.clone()),
         _ => Err(Fail::new("a method of no row")),
     }
 }

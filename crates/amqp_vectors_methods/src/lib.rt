@@ -1,5 +1,5 @@
-//! Tests that cross crates: each method of the eight classes, and the properties, with their bytes, and memory
-//! that is refused.
+//! Tests of methods: each method of the eight classes with its bytes, the properties of messages, ids of no class or
+//! method, and memory that is refused.
 #![tactic(auto)]
 
 #[cfg(test)]

@@ -1,7 +1,7 @@
 //! The properties of messages are written as these bytes, and read from them.
 
 use crate::made::{table, text, word};
-use crate::rows::{agree, agrees, is_appended, lend};
+use crate::rows::{agree, agrees, by_reference, is_appended};
 use amqp_protocol::basic::{
     AMQPProperties, gen_properties, parse_properties, put_properties, size_properties,
 };
@@ -15,7 +15,7 @@ fn comes_back(
     written: &[u8],
     bytes: &[u8],
 ) -> Result<(), Fail> {
-    lend(alloc, properties, |properties, out| {
+    by_reference(alloc, properties, |properties, out| {
         agrees_with(alloc, properties, out, written, bytes)
     })
 }

@@ -9,7 +9,7 @@ use std::alloc::Global;
 use std::test::Fail;
 
 /// The bytes after an id.
-pub fn behind(bytes: &[u8]) -> &[u8] {
+pub fn after_id(bytes: &[u8]) -> &[u8] {
     bytes.get(2..).unwrap_or_default()
 }
 
@@ -49,8 +49,8 @@ pub fn refuses<M: Drop>(
 ) -> Result<(), Fail> {
     match read {
         Ok(_) => Err(Fail::new("the bytes are read")),
-        Err(told) if told == error => Ok(()),
-        Err(told) => Err(Fail::new(format_args!("{told:?} is told"))),
+        Err(other) if other == error => Ok(()),
+        Err(other) => Err(Fail::new(format_args!("{other:?} is returned"))),
     }
 }
 
@@ -95,7 +95,7 @@ pub(crate) use agree;
 
 /// Passes a value by reference to its calls. Whoever owns one of many variants in place pays for each of them in the
 /// proof, and here the type is none of them.
-pub fn lend<M: Drop, F: FnOnce(&M, &mut Vec<u8>) -> Result<(), Fail>>(
+pub fn by_reference<M: Drop, F: FnOnce(&M, &mut Vec<u8>) -> Result<(), Fail>>(
     alloc: Global,
     value: M,
     calls: F,
@@ -108,7 +108,7 @@ pub fn lend<M: Drop, F: FnOnce(&M, &mut Vec<u8>) -> Result<(), Fail>>(
 /// Fails unless the method comes back from its payload through the calls of all classes, those of its
 /// class, and its own.
 pub fn comes_back(alloc: Global, class: AMQPClass, payload: &[u8]) -> Result<(), Fail> {
-    lend(alloc, class, |class, out| {
+    by_reference(alloc, class, |class, out| {
         of_any_class(alloc, class, out, payload)
     })
 }

@@ -1,5 +1,5 @@
-//! Made streams: what came on each channel is the same after recutting, and each body has the size that is asked, or is its
-//! message's last.
+//! Made streams: what came on each channel is the same after recutting, and each body has the size that is asked, or is
+//! its message's last.
 
 ghost use Rattle.std.specs.Prelude.{◌≤◌};
 
@@ -132,8 +132,8 @@ fn content_on(alloc: Global, bytes: &[u8], channel: u16) -> Result<Vec<u8>, Fail
     Err(Fail::new(format_args!("too many frames")))
 }
 
-/// Takes a frame into account: the size that a content header announces is left of a message, and a body takes from it. False
-/// where a body is empty, or has neither the asked size nor all that is left.
+/// Takes a frame into account: the size that a content header announces is left of a message, and a body takes from it.
+/// False where a body is empty, or has neither the asked size nor all that is left.
 fn takes(frame_type: AMQPFrameType, payload: &[u8], size: u64, left: &mut u64) -> bool {
     match frame_type {
         AMQPFrameType::Header => {

@@ -292,8 +292,8 @@ fn ends_fail(rt: HostRuntime) -> Result<(), Fail> {
     ends(alloc, (&[], &[]), 2, spent, &BY_TWO)
 }
 
-/// Memory that runs out ends a stream at a method, a content header or a body, and what stands then is a front of what is
-/// to be written: `rt try --test --fail-alloc N` lets the Nth allocation of each test fail.
+/// Memory that runs out ends a stream at a method, a content header or a body, and what stands then is a front of what
+/// is to be written: `rt try --test --fail-alloc N` lets the Nth allocation of each test fail.
 #[test]
 fn refused_memory_leaves_a_front(rt: HostRuntime) -> Result<(), Fail> {
     let alloc = rt.alloc();

@@ -8,13 +8,13 @@ use Rattle.amqp_types.specs.Levels.{plain}
 use Rattle.amqp_types.specs.Judging.{IsBytes}
 use Rattle.amqp_types.proofs.Bytes.{IsBytes-take}
 use Rattle.amqp_frame.specs.Frames.{Frame, Raw, raw_of}
-use Rattle.amqp_frame.specs.Canonical.{canon, canon_row}
+use Rattle.amqp_frame.specs.Canonical.{canon, canon_frames}
 use Rattle.amqp_frame.specs.Spelling.{SpellsFrames}
-use Rattle.amqp_frame.specs.Fronts.{front, place, Precedes}
+use Rattle.amqp_frame.specs.Fronts.{front, place, ComesBefore}
 use Rattle.amqp_frame.specs.declared.raw_frame.AMQPRawFrame.{AMQPRawFrame}
 use Rattle.amqp_frame.proofs.OuterLook.{outer-in_bounds}
-use Rattle.amqp_frame.proofs.Cuts.{Precedes-none, Precedes-more, verdict-whole, front-none, place-none}
-use Rattle.amqp_frame.proofs.Rows.{row_of_all}
+use Rattle.amqp_frame.proofs.Cuts.{ComesBefore-none, ComesBefore-more, verdict-whole, front-none, place-none}
+use Rattle.amqp_frame.proofs.Sequences.{sequence_of_all}
 use Rattle.amqp_stream.specs.declared.errors.ReadError.{ReadError}
 use Rattle.amqp_stream.specs.declared.errors.ReadError.TheVariants as reads
 use Rattle.amqp_stream.specs.declared.errors.StreamError.{StreamError}
@@ -64,8 +64,8 @@ pub record Forwarded (m : ℕ) (before : List ℕ) (turns_old turns : ℕ) (a b 
   pub front : List ℕ
   pub front_fits : IsBytes front
   pub all : before ++ taken ≡ front ++ rest
-  pub precedes : Precedes plain (Some m) front frames
-  pub gains : Gains k l (canon_row frames)
+  pub precedes : ComesBefore plain (Some m) front frames
+  pub gains : Gains k l (canon_frames frames)
 
 pub Forwarded-none : (m : ℕ) (before : List ℕ) (turns : ℕ) (a : Supply) (k : Store) → Forwarded m before turns turns a a k k before 0
 Forwarded-none m before turns a k = record {
@@ -78,7 +78,7 @@ Forwarded-none m before turns a k = record {
   front = [];
   front_fits = IsBytes-nil;
   all = append-nil before;
-  precedes = Precedes-none plain (Some m);
+  precedes = ComesBefore-none plain (Some m);
   gains = Gains-none k;
 }
 
@@ -100,8 +100,8 @@ Forwarded-pulled {before = before} {turns_old = turns_old} {turns = turns} {turn
       gains = f.gains;
     }
 
-canon_row-more : (frames : List Frame) (f : Frame) → canon_row (frames ++ f ∷ []) ≡ canon_row frames ++ canon f
-canon_row-more frames f = flat_map-append canon frames (f ∷ []) ∙ ap (λ (xs : List ℕ). canon_row frames ++ xs) (append-nil (canon f))
+canon_frames-more : (frames : List Frame) (f : Frame) → canon_frames (frames ++ f ∷ []) ≡ canon_frames frames ++ canon f
+canon_frames-more frames f = flat_map-append canon frames (f ∷ []) ∙ ap (λ (xs : List ℕ). canon_frames frames ++ xs) (append-nil (canon f))
 
 -- the frame at the front of the rest was written
 Forwarded-frame : {m : ℕ} {before : List ℕ} {turns_old turns : ℕ} {a b : Supply} {k l l' : Store} {rest after : List ℕ} {raw : Raw} {done : Unit {0}} → Forwarded m before turns_old turns a b k l rest 0 → IsBytes rest → IsPassed m rest after raw → WritesFrame raw l l' [] [] (Ok done) → Forwarded m before turns_old turns a b k l' after 0
@@ -121,8 +121,8 @@ Forwarded-frame {m = m} {k = k} {l = l} {l' = l'} {rest = rest} {raw = raw} f fi
       front = f.front ++ first;
       front_fits = IsBytes-append f.front first f.front_fits (IsBytes-take n rest fits);
       all = f.all ∙ ap (λ (xs : List ℕ). f.front ++ xs) (sym (take-append-drop n rest)) ∙ sym (append_assoc f.front first (drop n rest)) ∙ ap (λ (xs : List ℕ). (f.front ++ first) ++ xs) (sym passed.held);
-      precedes = Precedes-more plain (Some m) f.front rest f.frames frame n f.precedes (verdict-whole plain (Some m) rest raw n frame passed.found refl writes.1);
-      gains = subst (Gains k l') (ap (λ (xs : List ℕ). canon_row f.frames ++ xs) bytes ∙ sym (canon_row-more f.frames frame)) (Gains-then k l l' (canon_row f.frames) g.written f.gains g.gains);
+      precedes = ComesBefore-more plain (Some m) f.front rest f.frames frame n f.precedes (verdict-whole plain (Some m) rest raw n frame passed.found refl writes.1);
+      gains = subst (Gains k l') (ap (λ (xs : List ℕ). canon_frames f.frames ++ xs) bytes ∙ sym (canon_frames-more f.frames frame)) (Gains-then k l l' (canon_frames f.frames) g.written f.gains g.gains);
     }
 
 -- a borrowed frame is passed
@@ -163,11 +163,11 @@ Forwarded-more {m = m} {after = after} {raw = raw} f p writes = Forwarded-frame 
 -- ---- how it ends
 
 -- the front is a sequence of frames
-row_of : (m : ℕ) (front_is : List ℕ) (frames : List Frame) → IsBytes front_is → Precedes plain (Some m) front_is frames → SpellsFrames plain (Some m) front_is frames
-row_of m front_is frames fits p =
-    let fronts : front plain (Some m) front_is ≡ frames = ap (front plain (Some m)) (sym (append-nil front_is)) ∙ p.row [] ∙ ap (λ (fs : List Frame). frames ++ fs) (front-none plain (Some m)) ∙ append-nil frames in
+sequence_of : (m : ℕ) (front_is : List ℕ) (frames : List Frame) → IsBytes front_is → ComesBefore plain (Some m) front_is frames → SpellsFrames plain (Some m) front_is frames
+sequence_of m front_is frames fits p =
+    let fronts : front plain (Some m) front_is ≡ frames = ap (front plain (Some m)) (sym (append-nil front_is)) ∙ p.sequence [] ∙ ap (λ (fs : List Frame). frames ++ fs) (front-none plain (Some m)) ∙ append-nil frames in
     let none : place plain (Some m) front_is ≡ [] = ap (place plain (Some m)) (sym (append-nil front_is)) ∙ p.after [] ∙ place-none plain (Some m) in
-    subst (λ (fs : List Frame). SpellsFrames plain (Some m) front_is fs) fronts (row_of_all plain (Some m) front_is fits none)
+    subst (λ (fs : List Frame). SpellsFrames plain (Some m) front_is fs) fronts (sequence_of_all plain (Some m) front_is fits none)
 
 forwards : {m : ℕ} {before : List ℕ} {turns_old turns : ℕ} {a b : Supply} {k l l' : Store} {rest after written : List ℕ} {r : Result (Unit {0}) StreamError} (f : Forwarded m before turns_old turns a b k l rest 1) → Gains k l' written → HasForwarded m f.frames written rest after r → HasEnded m turns a b k l' rest after r → Forwards m before turns_old turns a b k l' after r
 forwards {m = m} {before = before} {rest = rest} {written = written} f gains wrote ended = record {
@@ -180,7 +180,7 @@ forwards {m = m} {before = before} {rest = rest} {written = written} f gains wro
   front = f.front;
   rest = rest;
   all = f.all;
-  row = row_of m f.front f.frames f.front_fits f.precedes;
+  sequence = sequence_of m f.front f.frames f.front_fits f.precedes;
   precedes = f.precedes;
   written = written;
   gains = gains;
@@ -194,7 +194,7 @@ unfolding Forwarded-pulled
 forwards_all f p = forwards (Forwarded-pulled 1 f p p.few) f.gains refl p.ends
 
 -- an error of reading
-unread_wrote : (m : ℕ) (frames : List Frame) (rest after : List ℕ) (error : ReadError) → HasForwarded m frames (canon_row frames) rest after (Err (stream_error error))
+unread_wrote : (m : ℕ) (frames : List Frame) (rest after : List ℕ) (error : ReadError) → HasForwarded m frames (canon_frames frames) rest after (Err (stream_error error))
 unread_wrote m frames rest after reads.UnknownFrameType = refl
 unread_wrote m frames rest after reads.BadProtocolHeader = refl
 unread_wrote m frames rest after reads.TooLarge = refl
@@ -229,21 +229,21 @@ record Stops (m turns : ℕ) (a b : Supply) (k l : Store) (frames : List Frame) 
   wrote : IsForwardedUpTo m frames written rest after cause
   ended : IsEndedBy m turns a b k l rest after cause
 
-stops : (m turns : ℕ) (a b : Supply) (k l l' : Store) (frames : List Frame) (rest after : List ℕ) (raw : Raw) (cause : Cause) → Gains k l (canon_row frames) → IsPassed m rest after raw → IsUnwritten raw l l' [] [] cause → Stops m turns a b k l' frames rest after cause
+stops : (m turns : ℕ) (a b : Supply) (k l l' : Store) (frames : List Frame) (rest after : List ℕ) (raw : Raw) (cause : Cause) → Gains k l (canon_frames frames) → IsPassed m rest after raw → IsUnwritten raw l l' [] [] cause → Stops m turns a b k l' frames rest after cause
 stops m turns a b k l l' frames rest after raw (faulty bad) gains passed unwritten =
     let kept = unwritten.2 in
     let none : kept.written ≡ [] = sym (append-nil kept.written) ∙ kept.parts in
     record {
-      written = canon_row frames;
-      gains = subst (Gains k l') (ap (λ (xs : List ℕ). canon_row frames ++ xs) none ∙ append-nil (canon_row frames)) (Gains-then k l l' (canon_row frames) kept.written gains kept.gains);
+      written = canon_frames frames;
+      gains = subst (Gains k l') (ap (λ (xs : List ℕ). canon_frames frames ++ xs) none ∙ append-nil (canon_frames frames)) (Gains-then k l l' (canon_frames frames) kept.written gains kept.gains);
       wrote = refl;
       ended = inr (raw, passed, unwritten.0);
     }
 stops m turns a b k l l' frames rest after raw write_failed gains passed unwritten =
     let fails = unwritten.2 in
     record {
-      written = canon_row frames ++ fails.piece;
-      gains = Gains-then k l l' (canon_row frames) fails.piece gains fails.gains;
+      written = canon_frames frames ++ fails.piece;
+      gains = Gains-then k l l' (canon_frames frames) fails.piece gains fails.gains;
       wrote = record {
         raw = raw;
         passed = passed;

@@ -6,9 +6,9 @@ use Rattle.amqp_types.specs.Judging.{Fault, past, fault, took, IsBytes}
 use Rattle.amqp_frame.specs.Frames.{Frame, Raw}
 use Rattle.amqp_frame.specs.Outer.{outer}
 use Rattle.amqp_frame.specs.Verdicts.{whole}
-use Rattle.amqp_frame.specs.Canonical.{canon, canon_row}
+use Rattle.amqp_frame.specs.Canonical.{canon, canon_frames}
 use Rattle.amqp_frame.specs.Spelling.{SpellsFrames}
-use Rattle.amqp_frame.specs.Fronts.{Precedes}
+use Rattle.amqp_frame.specs.Fronts.{ComesBefore}
 use Rattle.amqp_stream.specs.declared.errors.StreamError.{StreamError}
 use Rattle.amqp_stream.specs.Ends.{Supply, Store, Takes, Gains, Rises, IsEmpty}
 use Rattle.amqp_stream.specs.Errors.{Cause, faulty, cut_short, turns_spent, read_failed, write_failed, out_of_memory, cause_of}
@@ -54,16 +54,16 @@ pub record IsBrokenOff (limit : ℕ) (frames : List Frame) (written rest after :
   pub is_whole : whole raw ≡ Ok next
   pub part : List ℕ
   pub begins : IsPrefix part (canon next)
-  pub parts : written ≡ canon_row frames ++ part
+  pub parts : written ≡ canon_frames frames ++ part
 
 -- what was written by a call that ended early
 abbrev pub IsForwardedUpTo : ℕ → List Frame → List ℕ → List ℕ → List ℕ → Cause → Type 0
 IsForwardedUpTo limit frames written rest after write_failed = IsBrokenOff limit frames written rest after
-IsForwardedUpTo limit frames written rest after cause = written ≡ canon_row frames
+IsForwardedUpTo limit frames written rest after cause = written ≡ canon_frames frames
 
 -- what was written: the canonical bytes of the frames, and no others unless a write failed
 abbrev pub HasForwarded : ℕ → List Frame → List ℕ → List ℕ → List ℕ → Result (Unit {0}) StreamError → Type 0
-HasForwarded limit frames written rest after (Ok done) = written ≡ canon_row frames
+HasForwarded limit frames written rest after (Ok done) = written ≡ canon_frames frames
 HasForwarded limit frames written rest after (Err error) = IsForwardedUpTo limit frames written rest after (cause_of error)
 
 -- A whole call: the reader held some bytes before it and holds others after it, a is the source before it and b after it, k and l the sink.
@@ -79,8 +79,8 @@ pub record Forwards (limit : ℕ) (held : List ℕ) (turns_old turns_new : ℕ) 
   pub front : List ℕ
   pub rest : List ℕ
   pub all : held ++ taken ≡ front ++ rest
-  pub row : SpellsFrames plain (Some limit) front frames
-  pub precedes : Precedes plain (Some limit) front frames
+  pub sequence : SpellsFrames plain (Some limit) front frames
+  pub precedes : ComesBefore plain (Some limit) front frames
   -- what was written for them, and why the call ended
   pub written : List ℕ
   pub gains : Gains k l written

@@ -7,6 +7,7 @@ use std::convert::Infallible;
 /// Writes the canonical bytes of each frame, and counts them.
 #[derive(Drop)]
 pub struct Counting {
+    /// How many frames were written, at most 2^64 - 1.
     pub frames: u64,
 }
 

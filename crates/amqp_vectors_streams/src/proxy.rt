@@ -20,7 +20,10 @@ pub fn limit_within(budget: u32) -> ChunkSize
 /// A connection, with a codec for each direction. All its memory is taken when it is opened.
 #[derive(Drop)]
 pub struct Connection {
+    /// The codec of what the client sends.
     pub to_server: Codec,
+
+    /// The codec of what the server sends.
     pub to_client: Codec,
 }
 

@@ -179,7 +179,7 @@ fn refused_memory_leaves_a_table_of_each_kind(rt: HostRuntime) {
 }
 
 #[test]
-fn refused_memory_is_told_by_parsing(rt: HostRuntime) {
+fn parsing_reports_refused_memory(rt: HostRuntime) {
     let bytes = [0, 0, 0, 14, 1, 97, 70, 0, 0, 0, 7, 1, 97, 86, 1, 98, 116, 1];
     match parse_field_table(rt.alloc(), &bytes) {
         Ok((used, table)) => {

@@ -1,9 +1,10 @@
 //! Methods of the class basic that acknowledge messages, or ask for them again.
 
-ghost use Rattle.std.specs.Prelude.{◌≡◌};
+ghost use Rattle.std.specs.Prelude.{◌≡◌, ◌∷◌, [], false};
+ghost use Rattle.amqp_types.specs.Slots.{number_item, flag_item};
 ghost use Rattle.amqp_types.specs.Calls.{Parses, NeedsNoMemory, Measures, HasRoom};
 ghost use Rattle.amqp_types.specs.Writing.{Puts, Appends};
-ghost use Rattle.amqp_types.specs.Methods.{judge_method, method_bytes, method_size};
+ghost use Rattle.amqp_types.specs.Methods.{judge_method, method_bytes, method_size, method};
 ghost use Rattle.amqp_values.specs.MethodFields.{ListsMethod};
 ghost use Rattle.amqp_basic.specs.Basic.{ack_method, reject_method, recover_async_method, recover_method, recover_ok_method, nack_method};
 
@@ -14,10 +15,25 @@ use amqp_values::{
 use std::alloc::Global;
 
 /// A peer acknowledges messages.
-#[derive(Clone, Default, Debug, Drop, PartialEq)]
+#[derive(Clone, Debug, Drop, PartialEq)]
 pub struct Ack {
+    /// The tag of a delivery on this channel; from a server, the number of a published message on it, from 1.
     pub delivery_tag: LongLongUInt,
+
+    /// True: all outstanding messages up to this tag, and with a tag of 0 all; false: this message alone.
     pub multiple: Boolean,
+}
+
+impl Default for Ack {
+    /// The method whose numbers are 0 and whose flags are false.
+    fn default() -> Ack
+        ensures { ack_method result ≡ method 60 80 (number_item 0 ∷ flag_item false ∷ []) }
+    {
+        Ack {
+            delivery_tag: 0,
+            multiple: false,
+        }
+    }
 }
 
 impl Ack {
@@ -63,7 +79,7 @@ pub(super) fn ack_fields(method: &Ack) -> [Field<'_>; 4]
     ]
 }
 
-/// The size of the method id and the fields of `Ack`.
+/// The size in bytes of the method id and the fields of `Ack`.
 #[tactic(auto)]
 pub fn size_ack(method: &Ack) -> Result<u64, GenError>
     ensures { Measures result (method_size (ack_method method.now)) }
@@ -89,10 +105,25 @@ pub fn gen_ack(_alloc: Global, out: &mut Vec<u8>, method: &Ack) -> Result<(), Ge
 }
 
 /// The client rejects a message.
-#[derive(Clone, Default, Debug, Drop, PartialEq)]
+#[derive(Clone, Debug, Drop, PartialEq)]
 pub struct Reject {
+    /// The tag of a delivery on this channel.
     pub delivery_tag: LongLongUInt,
+
+    /// True: the server tries to put the message back into its queue; false: it discards or dead-letters it.
     pub requeue: Boolean,
+}
+
+impl Default for Reject {
+    /// The method whose numbers are 0 and whose flags are false.
+    fn default() -> Reject
+        ensures { reject_method result ≡ method 60 90 (number_item 0 ∷ flag_item false ∷ []) }
+    {
+        Reject {
+            delivery_tag: 0,
+            requeue: false,
+        }
+    }
 }
 
 impl Reject {
@@ -138,7 +169,7 @@ pub(super) fn reject_fields(method: &Reject) -> [Field<'_>; 4]
     ]
 }
 
-/// The size of the method id and the fields of `Reject`.
+/// The size in bytes of the method id and the fields of `Reject`.
 #[tactic(auto)]
 pub fn size_reject(method: &Reject) -> Result<u64, GenError>
     ensures { Measures result (method_size (reject_method method.now)) }
@@ -163,10 +194,20 @@ pub fn gen_reject(_alloc: Global, out: &mut Vec<u8>, method: &Reject) -> Result<
     gen_fields(out, &reject_fields(method)[1..])
 }
 
-/// The client asks for all messages again that it has not acknowledged, and waits for no answer.
-#[derive(Clone, Default, Debug, Drop, PartialEq)]
+/// The client asks for all messages again that it has not acknowledged, and expects no reply.
+#[derive(Clone, Debug, Drop, PartialEq)]
 pub struct RecoverAsync {
+    /// True: the messages are put back, and may go to another consumer; false: they go to the same one.
     pub requeue: Boolean,
+}
+
+impl Default for RecoverAsync {
+    /// The method whose numbers are 0 and whose flags are false.
+    fn default() -> RecoverAsync
+        ensures { recover_async_method result ≡ method 60 100 (flag_item false ∷ []) }
+    {
+        RecoverAsync { requeue: false }
+    }
 }
 
 impl RecoverAsync {
@@ -209,7 +250,7 @@ pub(super) fn recover_async_fields(method: &RecoverAsync) -> [Field<'_>; 3]
     ]
 }
 
-/// The size of the method id and the fields of `RecoverAsync`.
+/// The size in bytes of the method id and the fields of `RecoverAsync`.
 #[tactic(auto)]
 pub fn size_recover_async(method: &RecoverAsync) -> Result<u64, GenError>
     ensures { Measures result (method_size (recover_async_method method.now)) }
@@ -239,9 +280,19 @@ pub fn gen_recover_async(
 }
 
 /// The client asks for all messages again that it has not acknowledged.
-#[derive(Clone, Default, Debug, Drop, PartialEq)]
+#[derive(Clone, Debug, Drop, PartialEq)]
 pub struct Recover {
+    /// True: the messages are put back, and may go to another consumer; false: they go to the same one.
     pub requeue: Boolean,
+}
+
+impl Default for Recover {
+    /// The method whose numbers are 0 and whose flags are false.
+    fn default() -> Recover
+        ensures { recover_method result ≡ method 60 110 (flag_item false ∷ []) }
+    {
+        Recover { requeue: false }
+    }
 }
 
 impl Recover {
@@ -284,7 +335,7 @@ pub(super) fn recover_fields(method: &Recover) -> [Field<'_>; 3]
     ]
 }
 
-/// The size of the method id and the fields of `Recover`.
+/// The size in bytes of the method id and the fields of `Recover`.
 #[tactic(auto)]
 pub fn size_recover(method: &Recover) -> Result<u64, GenError>
     ensures { Measures result (method_size (recover_method method.now)) }
@@ -345,7 +396,7 @@ pub(super) fn recover_ok_fields(_method: &RecoverOk) -> [Field<'_>; 2]
     [Field::ShortUInt(60), Field::ShortUInt(111)]
 }
 
-/// The size of the method id and the fields of `RecoverOk`.
+/// The size in bytes of the method id and the fields of `RecoverOk`.
 #[tactic(auto)]
 pub fn size_recover_ok(method: &RecoverOk) -> Result<u64, GenError>
     ensures { Measures result (method_size (recover_ok_method method.now)) }
@@ -371,11 +422,29 @@ pub fn gen_recover_ok(_alloc: Global, out: &mut Vec<u8>, method: &RecoverOk) -> 
 }
 
 /// A peer rejects messages.
-#[derive(Clone, Default, Debug, Drop, PartialEq)]
+#[derive(Clone, Debug, Drop, PartialEq)]
 pub struct Nack {
+    /// The tag of a delivery on this channel; from a server, the number of a published message on it, from 1.
     pub delivery_tag: LongLongUInt,
+
+    /// True: all outstanding messages up to this tag, and with a tag of 0 all; false: this message alone.
     pub multiple: Boolean,
+
+    /// True: the server tries to put the messages back; false: it discards or dead-letters them. A client ignores it.
     pub requeue: Boolean,
+}
+
+impl Default for Nack {
+    /// The method whose numbers are 0 and whose flags are false.
+    fn default() -> Nack
+        ensures { nack_method result ≡ method 60 120 (number_item 0 ∷ flag_item false ∷ flag_item false ∷ []) }
+    {
+        Nack {
+            delivery_tag: 0,
+            multiple: false,
+            requeue: false,
+        }
+    }
 }
 
 impl Nack {
@@ -422,7 +491,7 @@ pub(super) fn nack_fields(method: &Nack) -> [Field<'_>; 4]
     ]
 }
 
-/// The size of the method id and the fields of `Nack`.
+/// The size in bytes of the method id and the fields of `Nack`.
 #[tactic(auto)]
 pub fn size_nack(method: &Nack) -> Result<u64, GenError>
     ensures { Measures result (method_size (nack_method method.now)) }

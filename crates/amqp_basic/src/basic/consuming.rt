@@ -1,7 +1,7 @@
 //! Methods of the class basic to receive messages.
 
 ghost use Rattle.std.specs.Prelude.{◌≡◌, ◌∷◌, [], false, IfOk};
-ghost use Rattle.amqp_types.specs.Slots.{flag_item, text_item, entries_item};
+ghost use Rattle.amqp_types.specs.Slots.{flag_item, text_item, entries_item, number_item};
 ghost use Rattle.amqp_types.specs.Calls.{Parses, NeedsNoMemory, Measures, HasRoom};
 ghost use Rattle.amqp_types.specs.Writing.{Puts, Appends};
 ghost use Rattle.amqp_types.specs.Methods.{method, judge_method, method_bytes, method_size};
@@ -15,10 +15,26 @@ use amqp_values::{
 use std::alloc::Global;
 
 /// The client limits how many messages it is sent ahead.
-#[derive(Clone, Default, Debug, Drop, PartialEq)]
+#[derive(Clone, Debug, Drop, PartialEq)]
 pub struct Qos {
+    /// The number of unacknowledged messages that may be outstanding; 0 is no limit.
     pub prefetch_count: ShortUInt,
+
+    /// False: the limit is the channel's; true: the connection's. RabbitMQ has false for each new consumer on the
+    /// channel by itself, and true for all consumers on the channel together.
     pub global: Boolean,
+}
+
+impl Default for Qos {
+    /// The method whose numbers are 0 and whose flags are false.
+    fn default() -> Qos
+        ensures { qos_method result ≡ method 60 10 (number_item 0 ∷ flag_item false ∷ []) }
+    {
+        Qos {
+            prefetch_count: 0,
+            global: false,
+        }
+    }
 }
 
 impl Qos {
@@ -66,7 +82,7 @@ pub(super) fn qos_fields(method: &Qos) -> [Field<'_>; 5]
     ]
 }
 
-/// The size of the method id and the fields of `Qos`.
+/// The size in bytes of the method id and the fields of `Qos`.
 #[tactic(auto)]
 pub fn size_qos(method: &Qos) -> Result<u64, GenError>
     ensures { Measures result (method_size (qos_method method.now)) }
@@ -127,7 +143,7 @@ pub(super) fn qos_ok_fields(_method: &QosOk) -> [Field<'_>; 2]
     [Field::ShortUInt(60), Field::ShortUInt(11)]
 }
 
-/// The size of the method id and the fields of `QosOk`.
+/// The size in bytes of the method id and the fields of `QosOk`.
 #[tactic(auto)]
 pub fn size_qos_ok(method: &QosOk) -> Result<u64, GenError>
     ensures { Measures result (method_size (qos_ok_method method.now)) }
@@ -155,12 +171,25 @@ pub fn gen_qos_ok(_alloc: Global, out: &mut Vec<u8>, method: &QosOk) -> Result<(
 /// The client starts to consume from a queue.
 #[derive(Debug, Drop, PartialEq)]
 pub struct Consume {
+    /// The name of the queue; empty is the queue that the client declared last on the channel.
     pub queue: ShortString,
+
+    /// The tag of the consumer, unique on its channel; the server makes one where it is empty.
     pub consumer_tag: ShortString,
+
+    /// The server sends the consumer no messages that its own connection has published.
     pub no_local: Boolean,
+
+    /// The server expects no acknowledgements: a message counts as acknowledged once it is sent.
     pub no_ack: Boolean,
+
+    /// Only this consumer may access the queue.
     pub exclusive: Boolean,
+
+    /// The server sends no `ConsumeOk`.
     pub nowait: Boolean,
+
+    /// Further arguments; their names and meaning are the server's.
     pub arguments: FieldTable,
 }
 
@@ -181,7 +210,8 @@ impl Consume {
 
     /// The method whose fields are empty, zero and false.
     pub fn empty(alloc: Global) -> Consume
-        ensures { consume_method result ≡ method 60 20 (text_item [] ∷ text_item [] ∷ flag_item false ∷ flag_item false ∷ flag_item false ∷ flag_item false ∷ entries_item [] ∷ []) }
+        ensures { consume_method result ≡ method 60 20
+            (text_item [] ∷ text_item [] ∷ flag_item false ∷ flag_item false ∷ flag_item false ∷ flag_item false ∷ entries_item [] ∷ []) }
     {
         Consume {
             queue: ShortString::empty(alloc),
@@ -252,7 +282,7 @@ pub(super) fn consume_fields(method: &Consume) -> [Field<'_>; 7]
     ]
 }
 
-/// The size of the method id and the fields of `Consume`.
+/// The size in bytes of the method id and the fields of `Consume`.
 #[tactic(auto)]
 pub fn size_consume(method: &Consume) -> Result<u64, GenError>
     ensures { Measures result (method_size (consume_method method.now)) }
@@ -280,6 +310,7 @@ pub fn gen_consume(_alloc: Global, out: &mut Vec<u8>, method: &Consume) -> Resul
 /// The consumer is known by this tag.
 #[derive(Debug, Drop, PartialEq)]
 pub struct ConsumeOk {
+    /// The tag of the consumer, which the client or the server has chosen.
     pub consumer_tag: ShortString,
 }
 
@@ -338,7 +369,7 @@ pub(super) fn consume_ok_fields(method: &ConsumeOk) -> [Field<'_>; 3]
     ]
 }
 
-/// The size of the method id and the fields of `ConsumeOk`.
+/// The size in bytes of the method id and the fields of `ConsumeOk`.
 #[tactic(auto)]
 pub fn size_consume_ok(method: &ConsumeOk) -> Result<u64, GenError>
     ensures { Measures result (method_size (consume_ok_method method.now)) }
@@ -366,7 +397,10 @@ pub fn gen_consume_ok(_alloc: Global, out: &mut Vec<u8>, method: &ConsumeOk) -> 
 /// A peer ends a consumer.
 #[derive(Debug, Drop, PartialEq)]
 pub struct Cancel {
+    /// The tag of the consumer.
     pub consumer_tag: ShortString,
+
+    /// The receiver sends no `CancelOk`.
     pub nowait: Boolean,
 }
 
@@ -432,7 +466,7 @@ pub(super) fn cancel_fields(method: &Cancel) -> [Field<'_>; 4]
     ]
 }
 
-/// The size of the method id and the fields of `Cancel`.
+/// The size in bytes of the method id and the fields of `Cancel`.
 #[tactic(auto)]
 pub fn size_cancel(method: &Cancel) -> Result<u64, GenError>
     ensures { Measures result (method_size (cancel_method method.now)) }
@@ -460,6 +494,7 @@ pub fn gen_cancel(_alloc: Global, out: &mut Vec<u8>, method: &Cancel) -> Result<
 /// The consumer has ended.
 #[derive(Debug, Drop, PartialEq)]
 pub struct CancelOk {
+    /// The tag of the consumer.
     pub consumer_tag: ShortString,
 }
 
@@ -518,7 +553,7 @@ pub(super) fn cancel_ok_fields(method: &CancelOk) -> [Field<'_>; 3]
     ]
 }
 
-/// The size of the method id and the fields of `CancelOk`.
+/// The size in bytes of the method id and the fields of `CancelOk`.
 #[tactic(auto)]
 pub fn size_cancel_ok(method: &CancelOk) -> Result<u64, GenError>
     ensures { Measures result (method_size (cancel_ok_method method.now)) }

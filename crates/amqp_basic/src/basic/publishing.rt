@@ -18,9 +18,16 @@ use std::alloc::Global;
 /// The client publishes the message that follows.
 #[derive(Debug, Drop, PartialEq)]
 pub struct Publish {
+    /// The name of the exchange; empty is the default exchange.
     pub exchange: ShortString,
+
+    /// The key that the exchange routes the message by; for the default exchange, the name of a queue.
     pub routing_key: ShortString,
+
+    /// True: a message that no queue receives is returned; false: it is dropped.
     pub mandatory: Boolean,
+
+    /// True: a message that no consumer receives at once is returned; false: it is queued.
     pub immediate: Boolean,
 }
 
@@ -96,7 +103,7 @@ pub(super) fn publish_fields(method: &Publish) -> [Field<'_>; 6]
     ]
 }
 
-/// The size of the method id and the fields of `Publish`.
+/// The size in bytes of the method id and the fields of `Publish`.
 #[tactic(auto)]
 pub fn size_publish(method: &Publish) -> Result<u64, GenError>
     ensures { Measures result (method_size (publish_method method.now)) }
@@ -124,9 +131,16 @@ pub fn gen_publish(_alloc: Global, out: &mut Vec<u8>, method: &Publish) -> Resul
 /// The server hands back the message that follows, which it could not deliver.
 #[derive(Debug, Drop, PartialEq)]
 pub struct Return {
+    /// The reason as a reply code, such as 312 (no route) and 313 (no consumers).
     pub reply_code: ShortUInt,
+
+    /// The reason in words.
     pub reply_text: ShortString,
+
+    /// The exchange that the message was published to; empty is the default exchange.
     pub exchange: ShortString,
+
+    /// The routing key that the message was published with.
     pub routing_key: ShortString,
 }
 
@@ -202,7 +216,7 @@ pub(super) fn return_fields(method: &Return) -> [Field<'_>; 6]
     ]
 }
 
-/// The size of the method id and the fields of `Return`.
+/// The size in bytes of the method id and the fields of `Return`.
 #[tactic(auto)]
 pub fn size_return(method: &Return) -> Result<u64, GenError>
     ensures { Measures result (method_size (return_method method.now)) }
@@ -230,10 +244,19 @@ pub fn gen_return(_alloc: Global, out: &mut Vec<u8>, method: &Return) -> Result<
 /// The server sends the message that follows to a consumer.
 #[derive(Debug, Drop, PartialEq)]
 pub struct Deliver {
+    /// The tag of the consumer that the message is sent to.
     pub consumer_tag: ShortString,
+
+    /// The tag that the message is acknowledged by, valid on this channel only; servers do not use 0.
     pub delivery_tag: LongLongUInt,
+
+    /// The message has been delivered before, to this client or to another.
     pub redelivered: Boolean,
+
+    /// The exchange that the message was published to; empty is the default exchange.
     pub exchange: ShortString,
+
+    /// The routing key that the message was published with.
     pub routing_key: ShortString,
 }
 
@@ -314,7 +337,7 @@ pub(super) fn deliver_fields(method: &Deliver) -> [Field<'_>; 7]
     ]
 }
 
-/// The size of the method id and the fields of `Deliver`.
+/// The size in bytes of the method id and the fields of `Deliver`.
 #[tactic(auto)]
 pub fn size_deliver(method: &Deliver) -> Result<u64, GenError>
     ensures { Measures result (method_size (deliver_method method.now)) }
@@ -342,7 +365,10 @@ pub fn gen_deliver(_alloc: Global, out: &mut Vec<u8>, method: &Deliver) -> Resul
 /// The client asks a queue for one message.
 #[derive(Debug, Drop, PartialEq)]
 pub struct Get {
+    /// The name of the queue; empty is the queue that the client declared last on the channel.
     pub queue: ShortString,
+
+    /// The server expects no acknowledgement: the message counts as acknowledged once it is sent.
     pub no_ack: Boolean,
 }
 
@@ -410,7 +436,7 @@ pub(super) fn get_fields(method: &Get) -> [Field<'_>; 5]
     ]
 }
 
-/// The size of the method id and the fields of `Get`.
+/// The size in bytes of the method id and the fields of `Get`.
 #[tactic(auto)]
 pub fn size_get(method: &Get) -> Result<u64, GenError>
     ensures { Measures result (method_size (get_method method.now)) }
@@ -438,10 +464,19 @@ pub fn gen_get(_alloc: Global, out: &mut Vec<u8>, method: &Get) -> Result<(), Ge
 /// The server sends the message that follows, which was asked for.
 #[derive(Debug, Drop, PartialEq)]
 pub struct GetOk {
+    /// The tag that the message is acknowledged by, valid on this channel only; servers do not use 0.
     pub delivery_tag: LongLongUInt,
+
+    /// The message has been delivered before, to this client or to another.
     pub redelivered: Boolean,
+
+    /// The exchange that the message was published to; empty is the default exchange.
     pub exchange: ShortString,
+
+    /// The routing key that the message was published with.
     pub routing_key: ShortString,
+
+    /// The number of messages in the queue, without those that wait for an acknowledgement.
     pub message_count: LongUInt,
 }
 
@@ -522,7 +557,7 @@ pub(super) fn get_ok_fields(method: &GetOk) -> [Field<'_>; 7]
     ]
 }
 
-/// The size of the method id and the fields of `GetOk`.
+/// The size in bytes of the method id and the fields of `GetOk`.
 #[tactic(auto)]
 pub fn size_get_ok(method: &GetOk) -> Result<u64, GenError>
     ensures { Measures result (method_size (get_ok_method method.now)) }
@@ -588,7 +623,7 @@ pub(super) fn get_empty_fields(_method: &GetEmpty) -> [Field<'_>; 3]
     ]
 }
 
-/// The size of the method id and the fields of `GetEmpty`.
+/// The size in bytes of the method id and the fields of `GetEmpty`.
 #[tactic(auto)]
 pub fn size_get_empty(method: &GetEmpty) -> Result<u64, GenError>
     ensures { Measures result (method_size (get_empty_method method.now)) }

@@ -2,7 +2,7 @@
 
 use super::*;
 
-fn told(used: usize, canonical: bool, tidy: bool) -> Result<Judgement, ParserError> {
+fn judged(used: usize, canonical: bool, tidy: bool) -> Result<Judgement, ParserError> {
     Ok(Judgement {
         used,
         canonical,
@@ -49,7 +49,7 @@ const TAKEN: [(usize, u8, usize, bool, bool); 11] = [
     (1, 61, 55, true, true),
     // a mask without the last property
     (13, 248, 53, true, true),
-    // a truth byte that is not written, a key that comes twice, and keys that fall
+    // a truth byte that is not written, a duplicate key, and keys in descending order
     (28, 2, 55, false, true),
     (26, 99, 55, false, true),
     (26, 98, 55, false, true),
@@ -62,16 +62,16 @@ const TAKEN: [(usize, u8, usize, bool, bool); 11] = [
 ];
 
 #[test]
-fn headers_are_told(rt: HostRuntime) {
+fn headers_are_judged(rt: HostRuntime) {
     for (at, byte, used, canonical, tidy) in &TAKEN {
         assert_eq!(rt;
             judged_with(*at, *byte),
-            told(*used, *canonical, *tidy),
+            judged(*used, *canonical, *tidy),
             "{byte} at {at}"
         );
     }
     let none = [0, 60, 0, 0, 0, 0, 0, 0, 0, 0, 0, 5, 0, 0, 1, 97];
-    assert_eq!(rt; judge_content_header(&none), told(14, true, true));
+    assert_eq!(rt; judge_content_header(&none), judged(14, true, true));
 }
 
 /// Places and bytes that leave no header, and the fault.
@@ -84,7 +84,7 @@ const REFUSED: [(usize, u8, ParserError); 5] = [
 ];
 
 #[test]
-fn faults_are_told(rt: HostRuntime) {
+fn faults_are_judged(rt: HostRuntime) {
     for (at, byte, fault) in &REFUSED {
         assert_eq!(rt; judged_with(*at, *byte), Err(*fault), "{byte} at {at}");
     }

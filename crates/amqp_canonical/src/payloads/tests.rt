@@ -2,7 +2,7 @@
 
 use super::*;
 
-fn told(used: usize, canonical: bool, tidy: bool) -> Result<Judgement, ParserError> {
+fn judged(used: usize, canonical: bool, tidy: bool) -> Result<Judgement, ParserError> {
     Ok(Judgement {
         used,
         canonical,
@@ -12,25 +12,25 @@ fn told(used: usize, canonical: bool, tidy: bool) -> Result<Judgement, ParserErr
 
 /// Payloads of basic.publish and of queue.declare.
 #[test]
-fn methods_are_told(rt: HostRuntime) {
+fn methods_are_judged(rt: HostRuntime) {
     let publish = [0, 60, 0, 40, 0, 0, 1, 101, 1, 107, 3];
-    assert_eq!(rt; judge_payload(&publish), told(11, true, true));
+    assert_eq!(rt; judge_payload(&publish), judged(11, true, true));
     let unused_bit = [0, 60, 0, 40, 0, 0, 1, 101, 1, 107, 4];
-    assert_eq!(rt; judge_payload(&unused_bit), told(11, false, false));
+    assert_eq!(rt; judge_payload(&unused_bit), judged(11, false, false));
     let reserved = [0, 60, 0, 40, 0, 1, 1, 101, 1, 107, 3];
-    assert_eq!(rt; judge_payload(&reserved), told(11, false, false));
+    assert_eq!(rt; judge_payload(&reserved), judged(11, false, false));
     let followed = [0, 60, 0, 40, 0, 0, 1, 101, 1, 107, 3, 7];
-    assert_eq!(rt; judge_payload(&followed), told(11, true, true));
+    assert_eq!(rt; judge_payload(&followed), judged(11, true, true));
     let falling = [
         0, 50, 0, 10, 0, 0, 1, 113, 31, 0, 0, 0, 8, 1, 98, 116, 1, 1, 97, 116, 0,
     ];
-    assert_eq!(rt; judge_payload(&falling), told(21, false, true));
-    assert_eq!(rt; judge_payload(&[0, 90, 0, 10]), told(4, true, true));
+    assert_eq!(rt; judge_payload(&falling), judged(21, false, true));
+    assert_eq!(rt; judge_payload(&[0, 90, 0, 10]), judged(4, true, true));
 }
 
 /// The class is reported before the method id, the method before its fields.
 #[test]
-fn faults_are_told(rt: HostRuntime) {
+fn faults_are_judged(rt: HostRuntime) {
     assert_eq!(rt; judge_payload(&[]), Err(ParserError::Incomplete));
     assert_eq!(rt; judge_payload(&[0]), Err(ParserError::Incomplete));
     assert_eq!(rt; judge_payload(&[0, 61]), Err(ParserError::UnknownClass));

@@ -71,7 +71,7 @@ const TAKEN: [(usize, u8, bool, bool); 12] = [
 ];
 
 #[test]
-fn slots_are_told(rt: HostRuntime) {
+fn slots_are_judged(rt: HostRuntime) {
     for (at, byte, canonical, tidy) in &TAKEN {
         let wanted = Judgement {
             used: 43,
@@ -89,7 +89,7 @@ const REFUSED: [(usize, u8, ParserError); 9] = [
     (18, 1, ParserError::Incomplete),
     (23, 1, ParserError::Incomplete),
     (26, 3, ParserError::ShortPayload),
-    // of reserved strings, which are read over
+    // of reserved strings, which are skipped
     (38, 6, ParserError::Incomplete),
     (39, 1, ParserError::Incomplete),
     // strings and keys that are not UTF-8
@@ -99,7 +99,7 @@ const REFUSED: [(usize, u8, ParserError); 9] = [
 ];
 
 #[test]
-fn faults_are_told(rt: HostRuntime) {
+fn faults_are_judged(rt: HostRuntime) {
     for (at, byte, fault) in &REFUSED {
         assert_eq!(rt; judged_with(*at, *byte), Err(*fault), "{byte} at {at}");
     }
@@ -130,7 +130,7 @@ fn reserved_strings_are_read_over(rt: HostRuntime) {
 
 /// All bits of a byte are flags where there are eight flags or more, and none where there are no flags.
 #[test]
-fn flags_of_any_count_are_told(rt: HostRuntime) {
+fn flags_of_any_count_are_judged(rt: HostRuntime) {
     for (count, byte, written) in &[(0, 0, true), (0, 1, false), (8, 255, true), (9, 255, true)] {
         let wanted = Judgement {
             used: 1,

@@ -61,7 +61,7 @@ const TAKEN: [(usize, u8, bool); 12] = [
 ];
 
 #[test]
-fn tables_are_told(rt: HostRuntime) {
+fn tables_are_judged(rt: HostRuntime) {
     for (at, byte, canonical) in &TAKEN {
         assert_eq!(rt; judged_with(*at, *byte), is(*canonical), "{byte} at {at}");
     }
@@ -84,7 +84,7 @@ const REFUSED: [(usize, u8, ParserError); 9] = [
 ];
 
 #[test]
-fn faults_are_told(rt: HostRuntime) {
+fn faults_are_judged(rt: HostRuntime) {
     for (at, byte, fault) in &REFUSED {
         assert_eq!(rt; judged_with(*at, *byte), Err(*fault), "{byte} at {at}");
     }
@@ -92,7 +92,7 @@ fn faults_are_told(rt: HostRuntime) {
 
 /// After what is not canonical the rest is decoded alone, up to its first fault.
 #[test]
-fn faults_behind_falling_keys_are_told(rt: HostRuntime) {
+fn faults_behind_falling_keys_are_judged(rt: HostRuntime) {
     let fault = [0, 0, 0, 9, 1, 98, 116, 1, 1, 97, 116, 0, 1];
     assert_eq!(rt; judge_table(&fault, 63), Err(ParserError::ShortPayload));
     let deep = [0, 0, 0, 7, 1, 97, 70, 0, 0, 0, 0];
@@ -108,7 +108,7 @@ fn faults_behind_falling_keys_are_told(rt: HostRuntime) {
 
 /// A length is reported before what stands inside it, a key before its tag, and a tag before the room.
 #[test]
-fn faults_are_told_in_order(rt: HostRuntime) {
+fn faults_are_judged_in_order(rt: HostRuntime) {
     assert_eq!(rt;
         judge_table(&[0, 0, 0, 5, 1, 255, 90, 1], 63),
         Err(ParserError::Incomplete)
@@ -133,7 +133,7 @@ fn faults_are_told_in_order(rt: HostRuntime) {
 }
 
 #[test]
-fn values_and_arrays_are_told(rt: HostRuntime) {
+fn values_and_arrays_are_judged(rt: HostRuntime) {
     assert_eq!(rt;
         judge_value(&[116, 9, 7], 64),
         Ok(ValueJudgement {

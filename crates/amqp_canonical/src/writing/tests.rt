@@ -33,7 +33,8 @@ fn writes(alloc: Global, i: &[u8], wanted: &[u8]) -> bool {
     true
 }
 
-/// A table of one entry of each kind in falling order, whose keys are the tags, with truth bytes 2 and tag bytes 85 and 76.
+/// A table of one entry of each kind in descending key order, whose keys are the tags, with truth bytes 2 and 255 and
+/// tag bytes 85 and 76.
 const FALLING: [u8; 126] = [
     0, 0, 0, 122, // the length of the entries
     1, 120, 120, 0, 0, 0, 1, 98, // a byte array
@@ -148,7 +149,7 @@ fn tables_nest_64_deep(rt: HostRuntime) {
     assert!(rt; !nests(rt.alloc(), 65));
 }
 
-/// A table of 16384 keys of two bytes in falling order, or of one such key again and again.
+/// A table of 16384 keys of two bytes in descending order, or of one such key again and again.
 fn wide(alloc: Global, falling: bool) -> Option<Vec<u8>> {
     let mut bytes = Vec::new(alloc);
     bytes.extend_from_slice(&[0, 1, 0, 0]).ok()?;

@@ -1,7 +1,7 @@
 //! The methods of the class channel, 20.
 
-ghost use Rattle.std.specs.Prelude.{◌≡◌, ◌∷◌, [], IfOk};
-ghost use Rattle.amqp_types.specs.Slots.{number_item, text_item};
+ghost use Rattle.std.specs.Prelude.{◌≡◌, ◌∷◌, [], IfOk, false};
+ghost use Rattle.amqp_types.specs.Slots.{number_item, text_item, flag_item};
 ghost use Rattle.amqp_types.specs.Calls.{Parses, NeedsNoMemory, Measures, HasRoom};
 ghost use Rattle.amqp_types.specs.Writing.{Puts, Appends};
 ghost use Rattle.amqp_types.specs.Methods.{method, judge_method, judge_in_class, method_bytes, method_size, payload_bytes, payload_size};
@@ -55,7 +55,7 @@ fn open_fields(_method: &Open) -> [Field<'_>; 3]
     ]
 }
 
-/// The size of the method id and the fields of `Open`.
+/// The size in bytes of the method id and the fields of `Open`.
 #[tactic(auto)]
 pub fn size_open(method: &Open) -> Result<u64, GenError>
     ensures { Measures result (method_size (open_method method.now)) }
@@ -121,7 +121,7 @@ fn open_ok_fields(_method: &OpenOk) -> [Field<'_>; 3]
     ]
 }
 
-/// The size of the method id and the fields of `OpenOk`.
+/// The size in bytes of the method id and the fields of `OpenOk`.
 #[tactic(auto)]
 pub fn size_open_ok(method: &OpenOk) -> Result<u64, GenError>
     ensures { Measures result (method_size (open_ok_method method.now)) }
@@ -147,9 +147,19 @@ pub fn gen_open_ok(_alloc: Global, out: &mut Vec<u8>, method: &OpenOk) -> Result
 }
 
 /// A peer asks the other to stop sending content, or to go on.
-#[derive(Clone, Default, Debug, Drop, PartialEq)]
+#[derive(Clone, Debug, Drop, PartialEq)]
 pub struct Flow {
+    /// True: the receiver may send content frames; false: it stops.
     pub active: Boolean,
+}
+
+impl Default for Flow {
+    /// The method whose numbers are 0 and whose flags are false.
+    fn default() -> Flow
+        ensures { flow_method result ≡ method 20 20 (flag_item false ∷ []) }
+    {
+        Flow { active: false }
+    }
 }
 
 impl Flow {
@@ -192,7 +202,7 @@ fn flow_fields(method: &Flow) -> [Field<'_>; 3]
     ]
 }
 
-/// The size of the method id and the fields of `Flow`.
+/// The size in bytes of the method id and the fields of `Flow`.
 #[tactic(auto)]
 pub fn size_flow(method: &Flow) -> Result<u64, GenError>
     ensures { Measures result (method_size (flow_method method.now)) }
@@ -218,9 +228,19 @@ pub fn gen_flow(_alloc: Global, out: &mut Vec<u8>, method: &Flow) -> Result<(), 
 }
 
 /// The other peer says whether it sends content.
-#[derive(Clone, Default, Debug, Drop, PartialEq)]
+#[derive(Clone, Debug, Drop, PartialEq)]
 pub struct FlowOk {
+    /// True: the sender of this method goes on with content frames; false: it sends none.
     pub active: Boolean,
+}
+
+impl Default for FlowOk {
+    /// The method whose numbers are 0 and whose flags are false.
+    fn default() -> FlowOk
+        ensures { flow_ok_method result ≡ method 20 21 (flag_item false ∷ []) }
+    {
+        FlowOk { active: false }
+    }
 }
 
 impl FlowOk {
@@ -263,7 +283,7 @@ fn flow_ok_fields(method: &FlowOk) -> [Field<'_>; 3]
     ]
 }
 
-/// The size of the method id and the fields of `FlowOk`.
+/// The size in bytes of the method id and the fields of `FlowOk`.
 #[tactic(auto)]
 pub fn size_flow_ok(method: &FlowOk) -> Result<u64, GenError>
     ensures { Measures result (method_size (flow_ok_method method.now)) }
@@ -291,9 +311,16 @@ pub fn gen_flow_ok(_alloc: Global, out: &mut Vec<u8>, method: &FlowOk) -> Result
 /// A peer closes the channel, and says why.
 #[derive(Debug, Drop, PartialEq)]
 pub struct Close {
+    /// The reason as a reply code (AMQP 0-9-1, section 1.2); 200 is success.
     pub reply_code: ShortUInt,
+
+    /// The reason in words.
     pub reply_text: ShortString,
+
+    /// The class id of the method that caused the close; 0 where none did.
     pub class_id: ShortUInt,
+
+    /// The id of that method in its class; 0 where none did.
     pub method_id: ShortUInt,
 }
 
@@ -369,7 +396,7 @@ fn close_fields(method: &Close) -> [Field<'_>; 6]
     ]
 }
 
-/// The size of the method id and the fields of `Close`.
+/// The size in bytes of the method id and the fields of `Close`.
 #[tactic(auto)]
 pub fn size_close(method: &Close) -> Result<u64, GenError>
     ensures { Measures result (method_size (close_method method.now)) }
@@ -430,7 +457,7 @@ fn close_ok_fields(_method: &CloseOk) -> [Field<'_>; 2]
     [Field::ShortUInt(20), Field::ShortUInt(41)]
 }
 
-/// The size of the method id and the fields of `CloseOk`.
+/// The size in bytes of the method id and the fields of `CloseOk`.
 #[tactic(auto)]
 pub fn size_close_ok(method: &CloseOk) -> Result<u64, GenError>
     ensures { Measures result (method_size (close_ok_method method.now)) }
@@ -572,7 +599,7 @@ macro_rules! with_fields {
     };
 }
 
-/// The size of the class id, the method id and the fields.
+/// The size in bytes of the class id, the method id and the fields.
 #[tactic(auto)]
 pub fn size_channel(method: &AMQPMethod) -> Result<u64, GenError>
     ensures { Measures result (payload_size (method_of method.now)) }

@@ -1,9 +1,10 @@
 //! The methods of the class confirm, 85.
 
-ghost use Rattle.std.specs.Prelude.{◌≡◌, IfOk};
+ghost use Rattle.std.specs.Prelude.{◌≡◌, IfOk, ◌∷◌, [], false};
+ghost use Rattle.amqp_types.specs.Slots.{flag_item};
 ghost use Rattle.amqp_types.specs.Calls.{Parses, NeedsNoMemory, Measures, HasRoom};
 ghost use Rattle.amqp_types.specs.Writing.{Puts, Appends};
-ghost use Rattle.amqp_types.specs.Methods.{judge_method, judge_in_class, method_bytes, method_size, payload_bytes, payload_size};
+ghost use Rattle.amqp_types.specs.Methods.{judge_method, judge_in_class, method_bytes, method_size, payload_bytes, payload_size, method};
 ghost use Rattle.amqp_values.specs.MethodFields.{ListsMethod};
 ghost use Rattle.amqp_channel.specs.Confirm.{select_method, select_ok_method, method_of};
 
@@ -14,9 +15,19 @@ use amqp_values::{
 use std::alloc::Global;
 
 /// The client asks for confirms of what it publishes on the channel.
-#[derive(Clone, Default, Debug, Drop, PartialEq)]
+#[derive(Clone, Debug, Drop, PartialEq)]
 pub struct Select {
+    /// The server sends no `SelectOk`.
     pub nowait: Boolean,
+}
+
+impl Default for Select {
+    /// The method whose numbers are 0 and whose flags are false.
+    fn default() -> Select
+        ensures { select_method result ≡ method 85 10 (flag_item false ∷ []) }
+    {
+        Select { nowait: false }
+    }
 }
 
 impl Select {
@@ -59,7 +70,7 @@ fn select_fields(method: &Select) -> [Field<'_>; 3]
     ]
 }
 
-/// The size of the method id and the fields of `Select`.
+/// The size in bytes of the method id and the fields of `Select`.
 #[tactic(auto)]
 pub fn size_select(method: &Select) -> Result<u64, GenError>
     ensures { Measures result (method_size (select_method method.now)) }
@@ -120,7 +131,7 @@ fn select_ok_fields(_method: &SelectOk) -> [Field<'_>; 2]
     [Field::ShortUInt(85), Field::ShortUInt(11)]
 }
 
-/// The size of the method id and the fields of `SelectOk`.
+/// The size in bytes of the method id and the fields of `SelectOk`.
 #[tactic(auto)]
 pub fn size_select_ok(method: &SelectOk) -> Result<u64, GenError>
     ensures { Measures result (method_size (select_ok_method method.now)) }
@@ -224,7 +235,7 @@ macro_rules! with_fields {
     };
 }
 
-/// The size of the class id, the method id and the fields.
+/// The size in bytes of the class id, the method id and the fields.
 #[tactic(auto)]
 pub fn size_confirm(method: &AMQPMethod) -> Result<u64, GenError>
     ensures { Measures result (payload_size (method_of method.now)) }

@@ -49,7 +49,7 @@ fn select_fields(_method: &Select) -> [Field<'_>; 2]
     [Field::ShortUInt(90), Field::ShortUInt(10)]
 }
 
-/// The size of the method id and the fields of `Select`.
+/// The size in bytes of the method id and the fields of `Select`.
 #[tactic(auto)]
 pub fn size_select(method: &Select) -> Result<u64, GenError>
     ensures { Measures result (method_size (select_method method.now)) }
@@ -110,7 +110,7 @@ fn select_ok_fields(_method: &SelectOk) -> [Field<'_>; 2]
     [Field::ShortUInt(90), Field::ShortUInt(11)]
 }
 
-/// The size of the method id and the fields of `SelectOk`.
+/// The size in bytes of the method id and the fields of `SelectOk`.
 #[tactic(auto)]
 pub fn size_select_ok(method: &SelectOk) -> Result<u64, GenError>
     ensures { Measures result (method_size (select_ok_method method.now)) }
@@ -171,7 +171,7 @@ fn commit_fields(_method: &Commit) -> [Field<'_>; 2]
     [Field::ShortUInt(90), Field::ShortUInt(20)]
 }
 
-/// The size of the method id and the fields of `Commit`.
+/// The size in bytes of the method id and the fields of `Commit`.
 #[tactic(auto)]
 pub fn size_commit(method: &Commit) -> Result<u64, GenError>
     ensures { Measures result (method_size (commit_method method.now)) }
@@ -232,7 +232,7 @@ fn commit_ok_fields(_method: &CommitOk) -> [Field<'_>; 2]
     [Field::ShortUInt(90), Field::ShortUInt(21)]
 }
 
-/// The size of the method id and the fields of `CommitOk`.
+/// The size in bytes of the method id and the fields of `CommitOk`.
 #[tactic(auto)]
 pub fn size_commit_ok(method: &CommitOk) -> Result<u64, GenError>
     ensures { Measures result (method_size (commit_ok_method method.now)) }
@@ -293,7 +293,7 @@ fn rollback_fields(_method: &Rollback) -> [Field<'_>; 2]
     [Field::ShortUInt(90), Field::ShortUInt(30)]
 }
 
-/// The size of the method id and the fields of `Rollback`.
+/// The size in bytes of the method id and the fields of `Rollback`.
 #[tactic(auto)]
 pub fn size_rollback(method: &Rollback) -> Result<u64, GenError>
     ensures { Measures result (method_size (rollback_method method.now)) }
@@ -354,7 +354,7 @@ fn rollback_ok_fields(_method: &RollbackOk) -> [Field<'_>; 2]
     [Field::ShortUInt(90), Field::ShortUInt(31)]
 }
 
-/// The size of the method id and the fields of `RollbackOk`.
+/// The size in bytes of the method id and the fields of `RollbackOk`.
 #[tactic(auto)]
 pub fn size_rollback_ok(method: &RollbackOk) -> Result<u64, GenError>
     ensures { Measures result (method_size (rollback_ok_method method.now)) }
@@ -502,7 +502,7 @@ macro_rules! with_fields {
     };
 }
 
-/// The size of the class id, the method id and the fields.
+/// The size in bytes of the class id, the method id and the fields.
 #[tactic(auto)]
 pub fn size_tx(method: &AMQPMethod) -> Result<u64, GenError>
     ensures { Measures result (payload_size (method_of method.now)) }

@@ -17,11 +17,22 @@ use std::alloc::Global;
 /// The client asks for access to a realm.
 #[derive(Debug, Drop, PartialEq)]
 pub struct Request {
+    /// The name of the realm.
     pub realm: ShortString,
+
+    /// No other client may have access to the realm.
     pub exclusive: Boolean,
+
+    /// The client asks to read about the resources of the realm, and to change none.
     pub passive: Boolean,
+
+    /// The client asks to create and delete resources of the realm.
     pub active: Boolean,
+
+    /// The client asks to publish to the exchanges of the realm.
     pub write: Boolean,
+
+    /// The client asks to consume from the queues of the realm.
     pub read: Boolean,
 }
 
@@ -42,7 +53,8 @@ impl Request {
 
     /// The method whose fields are empty, zero and false.
     pub fn empty(alloc: Global) -> Request
-        ensures { request_method result ≡ method 30 10 (text_item [] ∷ flag_item false ∷ flag_item false ∷ flag_item false ∷ flag_item false ∷ flag_item false ∷ []) }
+        ensures { request_method result ≡ method 30 10
+            (text_item [] ∷ flag_item false ∷ flag_item false ∷ flag_item false ∷ flag_item false ∷ flag_item false ∷ []) }
     {
         Request {
             realm: ShortString::empty(alloc),
@@ -105,7 +117,7 @@ fn request_fields(method: &Request) -> [Field<'_>; 4]
     ]
 }
 
-/// The size of the method id and the fields of `Request`.
+/// The size in bytes of the method id and the fields of `Request`.
 #[tactic(auto)]
 pub fn size_request(method: &Request) -> Result<u64, GenError>
     ensures { Measures result (method_size (request_method method.now)) }
@@ -171,7 +183,7 @@ fn request_ok_fields(_method: &RequestOk) -> [Field<'_>; 3]
     ]
 }
 
-/// The size of the method id and the fields of `RequestOk`.
+/// The size in bytes of the method id and the fields of `RequestOk`.
 #[tactic(auto)]
 pub fn size_request_ok(method: &RequestOk) -> Result<u64, GenError>
     ensures { Measures result (method_size (request_ok_method method.now)) }
@@ -273,7 +285,7 @@ macro_rules! with_fields {
     };
 }
 
-/// The size of the class id, the method id and the fields.
+/// The size in bytes of the class id, the method id and the fields.
 #[tactic(auto)]
 pub fn size_access(method: &AMQPMethod) -> Result<u64, GenError>
     ensures { Measures result (payload_size (method_of method.now)) }

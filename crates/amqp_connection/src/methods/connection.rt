@@ -42,7 +42,7 @@ pub enum AMQPMethod {
     /// The server asks the client for more proof of who it is.
     Secure(Secure),
 
-    /// The client answers what the server asked.
+    /// The client responds to the challenge of the server.
     SecureOk(SecureOk),
 
     /// The server proposes limits for the connection.
@@ -227,7 +227,7 @@ macro_rules! with_fields {
     };
 }
 
-/// The size of the class id, the method id and the fields.
+/// The size in bytes of the class id, the method id and the fields.
 #[tactic(auto)]
 pub fn size_connection(method: &AMQPMethod) -> Result<u64, GenError>
     ensures { Measures result (payload_size (method_of method.now)) }

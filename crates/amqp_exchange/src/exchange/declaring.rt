@@ -17,13 +17,28 @@ use std::alloc::Global;
 /// The client declares an exchange.
 #[derive(Debug, Drop, PartialEq)]
 pub struct Declare {
+    /// The name of the exchange; names that begin with `amq.` are reserved.
     pub exchange: ShortString,
+
+    /// The type of the exchange, such as `direct`, `fanout`, `topic` and `headers`.
     pub kind: ShortString,
+
+    /// The server creates nothing, and raises an error where the exchange does not exist.
     pub passive: Boolean,
+
+    /// The exchange remains when the server restarts.
     pub durable: Boolean,
+
+    /// The server deletes the exchange when nothing is bound to it any more.
     pub auto_delete: Boolean,
+
+    /// Clients may not publish to the exchange: only other exchanges route to it.
     pub internal: Boolean,
+
+    /// The server sends no `DeclareOk`.
     pub nowait: Boolean,
+
+    /// Further arguments; their names and meaning are the server's.
     pub arguments: FieldTable,
 }
 
@@ -44,7 +59,8 @@ impl Declare {
 
     /// The method whose fields are empty, zero and false.
     pub fn empty(alloc: Global) -> Declare
-        ensures { declare_method result ≡ method 40 10 (text_item [] ∷ text_item [] ∷ flag_item false ∷ flag_item false ∷ flag_item false ∷ flag_item false ∷ flag_item false ∷ entries_item [] ∷ []) }
+        ensures { declare_method result ≡ method 40 10
+            (text_item [] ∷ text_item [] ∷ flag_item false ∷ flag_item false ∷ flag_item false ∷ flag_item false ∷ flag_item false ∷ entries_item [] ∷ []) }
     {
         Declare {
             exchange: ShortString::empty(alloc),
@@ -119,7 +135,7 @@ pub(super) fn declare_fields(method: &Declare) -> [Field<'_>; 7]
     ]
 }
 
-/// The size of the method id and the fields of `Declare`.
+/// The size in bytes of the method id and the fields of `Declare`.
 #[tactic(auto)]
 pub fn size_declare(method: &Declare) -> Result<u64, GenError>
     ensures { Measures result (method_size (declare_method method.now)) }
@@ -180,7 +196,7 @@ pub(super) fn declare_ok_fields(_method: &DeclareOk) -> [Field<'_>; 2]
     [Field::ShortUInt(40), Field::ShortUInt(11)]
 }
 
-/// The size of the method id and the fields of `DeclareOk`.
+/// The size in bytes of the method id and the fields of `DeclareOk`.
 #[tactic(auto)]
 pub fn size_declare_ok(method: &DeclareOk) -> Result<u64, GenError>
     ensures { Measures result (method_size (declare_ok_method method.now)) }
@@ -208,8 +224,13 @@ pub fn gen_declare_ok(_alloc: Global, out: &mut Vec<u8>, method: &DeclareOk) -> 
 /// The client deletes an exchange.
 #[derive(Debug, Drop, PartialEq)]
 pub struct Delete {
+    /// The name of the exchange.
     pub exchange: ShortString,
+
+    /// The server deletes the exchange only if nothing is bound to it, and raises an error otherwise.
     pub if_unused: Boolean,
+
+    /// The server sends no `DeleteOk`.
     pub nowait: Boolean,
 }
 
@@ -280,7 +301,7 @@ pub(super) fn delete_fields(method: &Delete) -> [Field<'_>; 5]
     ]
 }
 
-/// The size of the method id and the fields of `Delete`.
+/// The size in bytes of the method id and the fields of `Delete`.
 #[tactic(auto)]
 pub fn size_delete(method: &Delete) -> Result<u64, GenError>
     ensures { Measures result (method_size (delete_method method.now)) }
@@ -341,7 +362,7 @@ pub(super) fn delete_ok_fields(_method: &DeleteOk) -> [Field<'_>; 2]
     [Field::ShortUInt(40), Field::ShortUInt(21)]
 }
 
-/// The size of the method id and the fields of `DeleteOk`.
+/// The size in bytes of the method id and the fields of `DeleteOk`.
 #[tactic(auto)]
 pub fn size_delete_ok(method: &DeleteOk) -> Result<u64, GenError>
     ensures { Measures result (method_size (delete_ok_method method.now)) }

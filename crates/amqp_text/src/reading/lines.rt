@@ -5,8 +5,8 @@ ghost use Rattle.std.specs.Prelude.{Some, ℕ, List, [], drop};
 ghost use Rattle.amqp_types.specs.Numbers.{bytes2, number_bytes};
 ghost use Rattle.amqp_types.specs.Rows.{slots_at};
 ghost use Rattle.amqp_frame.specs.declared.frame_type.AMQPFrameType.TheVariants as kinds;
-ghost use Rattle.amqp_text.specs.Telling.{Writes};
-ghost use Rattle.amqp_text.specs.Reading.{Finds, Reads, read_hex};
+ghost use Rattle.amqp_text.specs.Rendering.{AppendsText};
+ghost use Rattle.amqp_text.specs.Reading.{FindsWord, ReadsWord, read_hex};
 ghost use Rattle.amqp_text.specs.ReadingLines.{ReadsWords, of_kind, on_channel, read_beat, read_fields, read_header, read_id, read_later, read_method, read_method_of, read_version, read_words};
 
 use crate::errors::TextError;
@@ -19,7 +19,7 @@ use amqp_types::{ChannelId, Identifier, NoMemory};
 
 /// A number of two bytes after a character.
 fn read_id(i: &[u8]) -> Option<(u16, &[u8])>
-    ensures { Finds (λ n. n) (λ rest. rest.now) (read_id i.now) result }
+    ensures { FindsWord (λ n. n) (λ rest. rest.now) (read_id i.now) result }
 {
     match read_bits(bytes_from(i, 1), u16::MAX as u64) {
         Some((number, rest)) => Some((number as u16, rest)),
@@ -29,7 +29,7 @@ fn read_id(i: &[u8]) -> Option<(u16, &[u8])>
 
 /// Two numbers of a byte, with a character between them.
 fn read_later<'a>(out: &mut Vec<u8>, i: &'a [u8]) -> Result<&'a [u8], TextError>
-    ensures { Reads (λ rest. rest.now) (read_later i.now) out.old.items out.new.items result }
+    ensures { ReadsWord (λ rest. rest.now) (read_later i.now) out.old.items out.new.items result }
 {
     match read_octet(out, i) {
         Ok(rest) => read_octet(out, bytes_from(rest, 1)),
@@ -39,7 +39,7 @@ fn read_later<'a>(out: &mut Vec<u8>, i: &'a [u8]) -> Result<&'a [u8], TextError>
 
 /// The numbers of a version.
 fn read_version<'a>(out: &mut Vec<u8>, i: &'a [u8]) -> Result<&'a [u8], TextError>
-    ensures { Reads (λ rest. rest.now) (read_version i.now) out.old.items out.new.items result }
+    ensures { ReadsWord (λ rest. rest.now) (read_version i.now) out.old.items out.new.items result }
 {
     match read_octet(out, i) {
         Ok(rest) => read_later(out, bytes_from(rest, 1)),
@@ -54,7 +54,7 @@ fn read_fields<'a>(
     method_id: Identifier,
     i: &'a [u8],
 ) -> Result<&'a [u8], TextError>
-    ensures { Reads (λ rest. rest.now) (read_fields (slots_at class_id method_id) i.now) out.old.items out.new.items result }
+    ensures { ReadsWord (λ rest. rest.now) (read_fields (slots_at class_id method_id) i.now) out.old.items out.new.items result }
 {
     match shapes_of(class_id, method_id) {
         Some(shapes) => read_slots(out, shapes, i),
@@ -64,7 +64,7 @@ fn read_fields<'a>(
 
 /// Appends the two bytes of an id.
 fn write_id(out: &mut Vec<u8>, id: Identifier) -> Result<(), NoMemory>
-    ensures { Writes out.old.items out.new.items (number_bytes bytes2 id) result }
+    ensures { AppendsText out.old.items out.new.items (number_bytes bytes2 id) result }
 {
     write_bytes(out, &id.to_be_bytes())
 }
@@ -75,7 +75,7 @@ fn read_method_of<'a>(
     class_id: Identifier,
     i: &'a [u8],
 ) -> Result<&'a [u8], TextError>
-    ensures { Reads (λ rest. rest.now) (read_method_of class_id i.now) out.old.items out.new.items result }
+    ensures { ReadsWord (λ rest. rest.now) (read_method_of class_id i.now) out.old.items out.new.items result }
 {
     match read_id(i) {
         Some((method_id, rest)) => {
@@ -89,7 +89,7 @@ fn read_method_of<'a>(
 
 /// A class, a method of it, and its fields.
 fn read_method<'a>(out: &mut Vec<u8>, i: &'a [u8]) -> Result<&'a [u8], TextError>
-    ensures { Reads (λ rest. rest.now) (read_method i.now) out.old.items out.new.items result }
+    ensures { ReadsWord (λ rest. rest.now) (read_method i.now) out.old.items out.new.items result }
 {
     match read_id(i) {
         Some((class_id, rest)) => read_method_of(out, class_id, rest),
@@ -99,7 +99,7 @@ fn read_method<'a>(out: &mut Vec<u8>, i: &'a [u8]) -> Result<&'a [u8], TextError
 
 /// A class, the size of a body, and properties.
 fn read_header<'a>(out: &mut Vec<u8>, i: &'a [u8]) -> Result<&'a [u8], TextError>
-    ensures { Reads (λ rest. rest.now) (read_header i.now) out.old.items out.new.items result }
+    ensures { ReadsWord (λ rest. rest.now) (read_header i.now) out.old.items out.new.items result }
 {
     match read_slots(out, header_shapes(), i) {
         Ok(rest) => read_properties(out, rest),
@@ -109,7 +109,7 @@ fn read_header<'a>(out: &mut Vec<u8>, i: &'a [u8]) -> Result<&'a [u8], TextError
 
 /// The channel of a heartbeat, which is 0 where none is named.
 fn read_beat(i: &[u8]) -> Option<(u16, &[u8])>
-    ensures { Finds (λ n. n) (λ rest. rest.now) (read_beat i.now) result }
+    ensures { FindsWord (λ n. n) (λ rest. rest.now) (read_beat i.now) result }
 {
     match i {
         [] => Some((0, i)),

@@ -1,11 +1,11 @@
-//! Slots and properties read back from text, as their bytes.
+//! The fields of methods and the properties of messages read back from text, as their bytes.
 #![tactic(auto, using(crate::proofs::ReadSteps::memory_gone, crate::proofs::SlotSteps::set_memory))]
 
 ghost use Rattle.std.specs.Prelude.{◌≡◌, ◌%◌, ◌^◌, ◌++◌, ◌∷◌, [], ℕ, List, map, length};
 ghost use Rattle.amqp_types.specs.Numbers.{bytes2, number_bytes};
 ghost use Rattle.amqp_canonical.specs.Shapes.{form_of, property_of, slot_of, slots_of};
-ghost use Rattle.amqp_text.specs.Telling.{Writes};
-ghost use Rattle.amqp_text.specs.Reading.{FindsText, Reads, ReadsSet, constant_bytes, named, read_form, read_option, read_properties, read_set, read_slot, read_slots, strip};
+ghost use Rattle.amqp_text.specs.Rendering.{AppendsText};
+ghost use Rattle.amqp_text.specs.Reading.{FindsText, ReadsWord, ReadsSet, constant_bytes, named, read_form, read_option, read_properties, read_set, read_slot, read_slots, strip};
 
 use crate::errors::TextError;
 use crate::reading::values::read_table;
@@ -16,15 +16,12 @@ use crate::reading::words::{
 use crate::slots::{is_reserved, property_name};
 use crate::words::write_bytes;
 use amqp_canonical::{Shape, bytes_from, property_shapes};
-use amqp_types::{NoMemory, put_short_uint};
-
-/// How deep tables and arrays may nest in the values of a table that is a slot.
-const ROOM: usize = 63;
+use amqp_types::{INNER_DEPTH, NoMemory, put_short_uint};
 
 /// What stands at the front as this shape.
 #[tactic(auto, unfolding(crate::specs::Reading::read_form))]
 fn read_form<'a>(out: &mut Vec<u8>, shape: Shape, i: &'a [u8]) -> Result<&'a [u8], TextError>
-    ensures { Reads (λ rest. rest.now) (read_form (form_of shape) i.now) out.old.items out.new.items result }
+    ensures { ReadsWord (λ rest. rest.now) (read_form (form_of shape) i.now) out.old.items out.new.items result }
 {
     match shape {
         Shape::Octet => read_octet(out, i),
@@ -39,14 +36,14 @@ fn read_form<'a>(out: &mut Vec<u8>, shape: Shape, i: &'a [u8]) -> Result<&'a [u8
         Shape::ReservedShortString => read_short_string(out, i),
         Shape::LongString => read_long_string(out, i),
         Shape::ReservedLongString => read_long_string(out, i),
-        Shape::Table => read_table(out, i, ROOM),
+        Shape::Table => read_table(out, i, INNER_DEPTH),
     }
 }
 
-/// Appends the constant of a reserved slot.
+/// Appends the constant of a reserved field.
 #[tactic(auto, unfolding(amqp_types::specs::SlotBytes::form_bytes))]
 fn write_constant(out: &mut Vec<u8>, shape: Shape) -> Result<(), NoMemory>
-    ensures { Writes out.old.items out.new.items (constant_bytes (slot_of shape)) result }
+    ensures { AppendsText out.old.items out.new.items (constant_bytes (slot_of shape)) result }
 {
     match shape {
         Shape::ReservedShort(number) => write_bytes(out, &number.to_be_bytes()),
@@ -67,7 +64,7 @@ fn write_constant(out: &mut Vec<u8>, shape: Shape) -> Result<(), NoMemory>
 
 /// A word after a space, or the constant of a reserved field, which is not written.
 fn read_slot<'a>(out: &mut Vec<u8>, shape: Shape, i: &'a [u8]) -> Result<&'a [u8], TextError>
-    ensures { Reads (λ rest. rest.now) (read_slot (slot_of shape) i.now) out.old.items out.new.items result }
+    ensures { ReadsWord (λ rest. rest.now) (read_slot (slot_of shape) i.now) out.old.items out.new.items result }
 {
     if is_reserved(shape) {
         write_constant(out, shape)?;
@@ -76,13 +73,13 @@ fn read_slot<'a>(out: &mut Vec<u8>, shape: Shape, i: &'a [u8]) -> Result<&'a [u8
     read_form(out, shape, bytes_from(i, 1))
 }
 
-/// Appends the bytes of slots of these shapes, one after another.
+/// Appends the bytes of fields of these shapes, one after another.
 pub(crate) fn read_slots<'a>(
     out: &mut Vec<u8>,
     shapes: &[Shape],
     i: &'a [u8],
 ) -> Result<&'a [u8], TextError>
-    ensures { Reads (λ rest. rest.now) (read_slots (slots_of shapes.now) i.now) out.old.items out.new.items result }
+    ensures { ReadsWord (λ rest. rest.now) (read_slots (slots_of shapes.now) i.now) out.old.items out.new.items result }
 {
     match shapes {
         [] => Ok(i),
@@ -178,7 +175,7 @@ fn set_mask<'a>(
     rest: &'a [u8],
 ) -> Result<&'a [u8], TextError>
     ensures { (before content : List ℕ) → out.old.items ≡ before ++ (0 ∷ 0 ∷ content) → place ≡ length before
-        → Reads (λ after. after.now) (Some (number_bytes bytes2 mask ++ content, rest.now)) before out.new.items result }
+        → ReadsWord (λ after. after.now) (Some (number_bytes bytes2 mask ++ content, rest.now)) before out.new.items result }
 {
     match content_size(out.len(), place, 2, usize::MAX) {
         Some(_) => {
@@ -191,7 +188,7 @@ fn set_mask<'a>(
 
 /// Appends the mask and the bytes of the properties that are there.
 pub(crate) fn read_properties<'a>(out: &mut Vec<u8>, i: &'a [u8]) -> Result<&'a [u8], TextError>
-    ensures { Reads (λ rest. rest.now) (read_properties i.now) out.old.items out.new.items result }
+    ensures { ReadsWord (λ rest. rest.now) (read_properties i.now) out.old.items out.new.items result }
 {
     let place = keep_place(out, 2)?;
     match read_set(out, property_shapes(), i) {

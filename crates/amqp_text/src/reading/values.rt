@@ -2,7 +2,7 @@
 #![tactic(auto, using(crate::proofs::ReadSteps::memory_gone), unfolding(crate::specs::Reading::read_behind))]
 
 ghost use Rattle.std.specs.Prelude.{◌≡◌, ◌≤◌, ◌<◌, ◌+◌, ℕ, length, IfOk};
-ghost use Rattle.amqp_text.specs.Reading.{Reads, after_colon, inside, or_comma, read_array, read_behind, read_byte_array, read_decimal, read_entry, read_nested, read_table, read_value};
+ghost use Rattle.amqp_text.specs.Reading.{ReadsWord, after_colon, inside, or_comma, read_array, read_behind, read_byte_array, read_decimal, read_entry, read_nested, read_table, read_value};
 
 use crate::errors::TextError;
 use crate::reading::words::{
@@ -14,7 +14,7 @@ use amqp_types::FieldTag;
 
 /// A scale, a character and a number.
 fn read_decimal<'a>(out: &mut Vec<u8>, i: &'a [u8]) -> Result<&'a [u8], TextError>
-    ensures read { Reads (λ rest. rest.now) (read_decimal i.now) out.old.items out.new.items result }
+    ensures read { ReadsWord (λ rest. rest.now) (read_decimal i.now) out.old.items out.new.items result }
     ensures shorter { IfOk result (λ rest. length rest.now ≤ length i.now) }
 {
     match read_octet(out, i) {
@@ -25,7 +25,7 @@ fn read_decimal<'a>(out: &mut Vec<u8>, i: &'a [u8]) -> Result<&'a [u8], TextErro
 
 /// A byte array.
 fn read_byte_array<'a>(out: &mut Vec<u8>, i: &'a [u8]) -> Result<&'a [u8], TextError>
-    ensures read { Reads (λ rest. rest.now) (read_byte_array i.now) out.old.items out.new.items result }
+    ensures read { ReadsWord (λ rest. rest.now) (read_byte_array i.now) out.old.items out.new.items result }
     ensures shorter { IfOk result (λ rest. length rest.now ≤ length i.now) }
 {
     let place = keep_place(out, 4)?;
@@ -45,14 +45,15 @@ fn after_colon(tag: FieldTag, i: &[u8]) -> &[u8]
     }
 }
 
-/// Appends the bytes of a value at the front, and returns the text after it. Tables and arrays may nest `room` deep in it.
+/// Appends the bytes of a value at the front, and returns the text after it. Tables and arrays may nest `room` deep in
+/// it.
 #[cycle(read)]
 pub(crate) fn read_value<'a>(
     out: &mut Vec<u8>,
     i: &'a [u8],
     room: usize,
 ) -> Result<&'a [u8], TextError>
-    ensures read { Reads (λ rest. rest.now) (read_value room i.now) out.old.items out.new.items result }
+    ensures read { ReadsWord (λ rest. rest.now) (read_value room i.now) out.old.items out.new.items result }
     ensures shorter { IfOk result (λ rest. length rest.now < length i.now) }
 {
     match i {
@@ -75,7 +76,7 @@ fn read_after_tag<'a>(
     i: &'a [u8],
     room: usize,
 ) -> Result<&'a [u8], TextError>
-    ensures read { Reads (λ rest. rest.now) (read_behind (read_nested room) tag i.now) out.old.items out.new.items result }
+    ensures read { ReadsWord (λ rest. rest.now) (read_behind (read_nested room) tag i.now) out.old.items out.new.items result }
     ensures shorter { IfOk result (λ rest. length rest.now ≤ length i.now) }
 {
     match tag {
@@ -98,7 +99,7 @@ fn read_after_tag<'a>(
 /// An array.
 #[cycle(read)]
 fn read_array<'a>(out: &mut Vec<u8>, i: &'a [u8], room: usize) -> Result<&'a [u8], TextError>
-    ensures read { Reads (λ rest. rest.now) (read_array (read_value room) i.now) out.old.items out.new.items result }
+    ensures read { ReadsWord (λ rest. rest.now) (read_array (read_value room) i.now) out.old.items out.new.items result }
     ensures shorter { IfOk result (λ rest. length rest.now ≤ length i.now) }
 {
     let place = keep_place(out, 4)?;
@@ -108,15 +109,15 @@ fn read_array<'a>(out: &mut Vec<u8>, i: &'a [u8], room: usize) -> Result<&'a [u8
     }
 }
 
-/// Appends the bytes of a table at the front, and returns the text after it. Tables and arrays may nest `room` deep in its
-/// values.
+/// Appends the bytes of a table at the front, and returns the text after it. Tables and arrays may nest `room` deep in
+/// its values.
 #[cycle(read)]
 pub(crate) fn read_table<'a>(
     out: &mut Vec<u8>,
     i: &'a [u8],
     room: usize,
 ) -> Result<&'a [u8], TextError>
-    ensures read { Reads (λ rest. rest.now) (read_table (read_value room) i.now) out.old.items out.new.items result }
+    ensures read { ReadsWord (λ rest. rest.now) (read_table (read_value room) i.now) out.old.items out.new.items result }
     ensures shorter { IfOk result (λ rest. length rest.now ≤ length i.now) }
 {
     let place = keep_place(out, 4)?;
@@ -129,7 +130,7 @@ pub(crate) fn read_table<'a>(
 /// The values after an array's bracket, up to its end.
 #[cycle(read)]
 fn read_values<'a>(out: &mut Vec<u8>, i: &'a [u8], room: usize) -> Result<&'a [u8], TextError>
-    ensures read { Reads (λ rest. rest.now) (inside (or_comma (read_value room)) 93 i.now) out.old.items out.new.items result }
+    ensures read { ReadsWord (λ rest. rest.now) (inside (or_comma (read_value room)) 93 i.now) out.old.items out.new.items result }
     ensures shorter { IfOk result (λ rest. length rest.now ≤ length i.now) }
 {
     let mut rest = bytes_from(i, 1);
@@ -145,7 +146,7 @@ fn read_values<'a>(out: &mut Vec<u8>, i: &'a [u8], room: usize) -> Result<&'a [u
 /// A comma, which is passed, or a value.
 #[cycle(read)]
 fn read_next_value<'a>(out: &mut Vec<u8>, i: &'a [u8], room: usize) -> Result<&'a [u8], TextError>
-    ensures read { Reads (λ rest. rest.now) (or_comma (read_value room) i.now) out.old.items out.new.items result }
+    ensures read { ReadsWord (λ rest. rest.now) (or_comma (read_value room) i.now) out.old.items out.new.items result }
     ensures shorter { IfOk result (λ rest. length rest.now < length i.now) }
 {
     if begins_with(i, b',') {
@@ -157,7 +158,7 @@ fn read_next_value<'a>(out: &mut Vec<u8>, i: &'a [u8], room: usize) -> Result<&'
 /// The entries after a table's bracket, up to its end.
 #[cycle(read)]
 fn read_entries<'a>(out: &mut Vec<u8>, i: &'a [u8], room: usize) -> Result<&'a [u8], TextError>
-    ensures read { Reads (λ rest. rest.now) (inside (or_comma (read_entry (read_value room))) 125 i.now) out.old.items out.new.items result }
+    ensures read { ReadsWord (λ rest. rest.now) (inside (or_comma (read_entry (read_value room))) 125 i.now) out.old.items out.new.items result }
     ensures shorter { IfOk result (λ rest. length rest.now ≤ length i.now) }
 {
     let mut rest = bytes_from(i, 1);
@@ -173,7 +174,7 @@ fn read_entries<'a>(out: &mut Vec<u8>, i: &'a [u8], room: usize) -> Result<&'a [
 /// A comma, which is passed, or an entry.
 #[cycle(read)]
 fn read_next_entry<'a>(out: &mut Vec<u8>, i: &'a [u8], room: usize) -> Result<&'a [u8], TextError>
-    ensures read { Reads (λ rest. rest.now) (or_comma (read_entry (read_value room)) i.now) out.old.items out.new.items result }
+    ensures read { ReadsWord (λ rest. rest.now) (or_comma (read_entry (read_value room)) i.now) out.old.items out.new.items result }
     ensures shorter { IfOk result (λ rest. length rest.now < length i.now) }
 {
     if begins_with(i, b',') {
@@ -185,7 +186,7 @@ fn read_next_entry<'a>(out: &mut Vec<u8>, i: &'a [u8], room: usize) -> Result<&'
 /// An entry: a key, a character and a value.
 #[cycle(read)]
 fn read_entry<'a>(out: &mut Vec<u8>, i: &'a [u8], room: usize) -> Result<&'a [u8], TextError>
-    ensures read { Reads (λ rest. rest.now) (read_entry (read_value room) i.now) out.old.items out.new.items result }
+    ensures read { ReadsWord (λ rest. rest.now) (read_entry (read_value room) i.now) out.old.items out.new.items result }
     ensures shorter { IfOk result (λ rest. length rest.now < length i.now) }
 {
     match read_short_string(out, i) {

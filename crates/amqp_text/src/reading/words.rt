@@ -1,12 +1,12 @@
-//! The words of a line read back, as the bytes that they stand for: numbers, hex, quoted strings and flags. More is read
-//! than words; what is read so is compared with how its bytes are written.
+//! The words of a line read back, as the bytes that they stand for: numbers, hex, quoted strings and flags. More is
+//! read than words: the bytes are rendered again, and a text that differs is refused.
 #![tactic(auto, using(crate::proofs::ReadSteps::memory_gone))]
 
 ghost use Rattle.std.specs.Prelude.{◌≡◌, ◌≤◌, ◌<◌, ◌+◌, ◌-◌, ◌*◌, ◌^◌, ℕ, List, [], ◌∷◌, ◌++◌, nat_lt, length, replicate, IfSome, IfOk, OnOk, true, false, if◌then◌else◌};
 ghost use Rattle.amqp_types.specs.Numbers.{bytes1, bytes2, bytes4, bytes8};
 ghost use Rattle.amqp_types.specs.Booleans.{boolean_bytes};
 ghost use Rattle.amqp_types.specs.Flags.{bit_of};
-ghost use Rattle.amqp_text.specs.Reading.{Finds, Reads, first_is, framed_long, framed_short, inside, is_digit, is_hex, nibble, read_bits, read_digits, read_escaped, read_flags, read_hex, read_long_string, read_negative, read_number, read_positive, read_short_string, read_signs, read_truth};
+ghost use Rattle.amqp_text.specs.Reading.{FindsWord, ReadsWord, first_is, framed_long, framed_short, inside, is_digit, is_hex, nibble, read_bits, read_digits, read_escaped, read_flags, read_hex, read_long_string, read_negative, read_unsigned, read_positive, read_short_string, read_signs, read_truth};
 
 use crate::errors::TextError;
 use amqp_canonical::bytes_from;
@@ -44,7 +44,7 @@ fn with_digit(number: u64, c: u8) -> Option<u64>
 
 /// The number in decimal at the front, and the text after it.
 pub(crate) fn read_digits(i: &[u8]) -> Option<(u64, &[u8])>
-    ensures found { Finds (λ n. n) (λ rest. rest.now) (read_digits 0 i.now) result }
+    ensures found { FindsWord (λ n. n) (λ rest. rest.now) (read_digits 0 i.now) result }
     ensures shorter { IfSome result (λ found. length found.1.now ≤ length i.now) }
 {
     let mut number = 0;
@@ -64,7 +64,7 @@ pub(crate) fn read_digits(i: &[u8]) -> Option<(u64, &[u8])>
 
 /// A number that is at most `most`.
 fn read_positive(i: &[u8], most: u64) -> Option<(u64, &[u8])>
-    ensures found { Finds (λ n. n) (λ rest. rest.now) (read_positive most i.now) result }
+    ensures found { FindsWord (λ n. n) (λ rest. rest.now) (read_positive most i.now) result }
     ensures bound { IfSome result (λ found. found.0 ≤ most) }
     ensures shorter { IfSome result (λ found. length found.1.now ≤ length i.now) }
 {
@@ -89,7 +89,7 @@ fn before_it(number: u64) -> u64
 
 /// The bits of a number below zero after its sign, where all bits are `most`.
 fn read_negative(i: &[u8], most: u64) -> Option<(u64, &[u8])>
-    ensures found { Finds (λ n. n) (λ rest. rest.now) (read_negative most i.now) result }
+    ensures found { FindsWord (λ n. n) (λ rest. rest.now) (read_negative most i.now) result }
     ensures bound { IfSome result (λ found. found.0 ≤ most) }
     ensures shorter { IfSome result (λ found. length found.1.now ≤ length i.now) }
 {
@@ -106,7 +106,7 @@ fn read_negative(i: &[u8], most: u64) -> Option<(u64, &[u8])>
 
 /// The bits of a number with or without a sign, where all bits are `most`.
 pub(crate) fn read_bits(i: &[u8], most: u64) -> Option<(u64, &[u8])>
-    ensures found { Finds (λ n. n) (λ rest. rest.now) (read_bits most i.now) result }
+    ensures found { FindsWord (λ n. n) (λ rest. rest.now) (read_bits most i.now) result }
     ensures bound { IfSome result (λ found. found.0 ≤ most) }
     ensures shorter { IfSome result (λ found. length found.1.now ≤ length i.now) }
 {
@@ -119,7 +119,7 @@ pub(crate) fn read_bits(i: &[u8], most: u64) -> Option<(u64, &[u8])>
 
 /// Appends the byte of a number.
 pub(crate) fn read_octet<'a>(out: &mut Vec<u8>, i: &'a [u8]) -> Result<&'a [u8], TextError>
-    ensures read { Reads (λ rest. rest.now) (read_number bytes1 i.now) out.old.items out.new.items result }
+    ensures read { ReadsWord (λ rest. rest.now) (read_unsigned bytes1 i.now) out.old.items out.new.items result }
     ensures shorter { IfOk result (λ rest. length rest.now ≤ length i.now) }
 {
     match read_bits(i, u8::MAX as u64) {
@@ -133,7 +133,7 @@ pub(crate) fn read_octet<'a>(out: &mut Vec<u8>, i: &'a [u8]) -> Result<&'a [u8],
 
 /// Appends the two bytes of a number.
 pub(crate) fn read_short<'a>(out: &mut Vec<u8>, i: &'a [u8]) -> Result<&'a [u8], TextError>
-    ensures read { Reads (λ rest. rest.now) (read_number bytes2 i.now) out.old.items out.new.items result }
+    ensures read { ReadsWord (λ rest. rest.now) (read_unsigned bytes2 i.now) out.old.items out.new.items result }
     ensures shorter { IfOk result (λ rest. length rest.now ≤ length i.now) }
 {
     match read_bits(i, u16::MAX as u64) {
@@ -147,7 +147,7 @@ pub(crate) fn read_short<'a>(out: &mut Vec<u8>, i: &'a [u8]) -> Result<&'a [u8],
 
 /// Appends the four bytes of a number.
 pub(crate) fn read_long<'a>(out: &mut Vec<u8>, i: &'a [u8]) -> Result<&'a [u8], TextError>
-    ensures read { Reads (λ rest. rest.now) (read_number bytes4 i.now) out.old.items out.new.items result }
+    ensures read { ReadsWord (λ rest. rest.now) (read_unsigned bytes4 i.now) out.old.items out.new.items result }
     ensures shorter { IfOk result (λ rest. length rest.now ≤ length i.now) }
 {
     match read_bits(i, u32::MAX as u64) {
@@ -161,7 +161,7 @@ pub(crate) fn read_long<'a>(out: &mut Vec<u8>, i: &'a [u8]) -> Result<&'a [u8], 
 
 /// Appends the eight bytes of a number.
 pub(crate) fn read_long_long<'a>(out: &mut Vec<u8>, i: &'a [u8]) -> Result<&'a [u8], TextError>
-    ensures read { Reads (λ rest. rest.now) (read_number bytes8 i.now) out.old.items out.new.items result }
+    ensures read { ReadsWord (λ rest. rest.now) (read_unsigned bytes8 i.now) out.old.items out.new.items result }
     ensures shorter { IfOk result (λ rest. length rest.now ≤ length i.now) }
 {
     match read_bits(i, u64::MAX) {
@@ -183,7 +183,7 @@ fn truth_byte(i: &[u8]) -> u8
 
 /// Appends the byte of a truth value.
 pub(crate) fn read_truth<'a>(out: &mut Vec<u8>, i: &'a [u8]) -> Result<&'a [u8], TextError>
-    ensures read { Reads (λ rest. rest.now) (read_truth i.now) out.old.items out.new.items result }
+    ensures read { ReadsWord (λ rest. rest.now) (read_truth i.now) out.old.items out.new.items result }
     ensures shorter { IfOk result (λ rest. length rest.now ≤ length i.now) }
 {
     out.push(truth_byte(i))?;
@@ -201,7 +201,7 @@ fn sign_bit(i: &[u8]) -> u8
 
 /// The byte that has as many signs at the front as flags, and the text after them.
 fn read_signs(i: &[u8], count: u8) -> Option<(u8, &[u8])>
-    ensures found { Finds (λ n. n) (λ rest. rest.now) (read_signs count i.now) result }
+    ensures found { FindsWord (λ n. n) (λ rest. rest.now) (read_signs count i.now) result }
     ensures shorter { IfSome result (λ found. length found.1.now ≤ length i.now) }
 {
     if count == 0 {
@@ -225,7 +225,7 @@ pub(crate) fn read_flags<'a>(
     count: u8,
     i: &'a [u8],
 ) -> Result<&'a [u8], TextError>
-    ensures read { Reads (λ rest. rest.now) (read_flags count i.now) out.old.items out.new.items result }
+    ensures read { ReadsWord (λ rest. rest.now) (read_flags count i.now) out.old.items out.new.items result }
     ensures shorter { IfOk result (λ rest. length rest.now ≤ length i.now) }
 {
     match read_signs(i, count) {
@@ -267,9 +267,9 @@ fn hex_byte(high: u8, low: u8) -> u8
     16 * nibble(high) + nibble(low)
 }
 
-/// Appends the bytes of pairs of digits, as long as there are any.
+/// Appends the bytes of pairs of characters, as long as the first of a pair is a hex digit; the second is not tested.
 pub(crate) fn read_hex<'a>(out: &mut Vec<u8>, i: &'a [u8]) -> Result<&'a [u8], TextError>
-    ensures read { Reads (λ rest. rest.now) (read_hex i.now) out.old.items out.new.items result }
+    ensures read { ReadsWord (λ rest. rest.now) (read_hex i.now) out.old.items out.new.items result }
     ensures shorter { IfOk result (λ rest. length rest.now ≤ length i.now) }
 {
     let mut rest = i;
@@ -287,7 +287,7 @@ pub(crate) fn read_hex<'a>(out: &mut Vec<u8>, i: &'a [u8]) -> Result<&'a [u8], T
 #[inline(always)]
 fn read_escape<'a>(out: &mut Vec<u8>, i: &'a [u8]) -> Result<&'a [u8], TextError>
     requires { first_is 92 i.now ≡ true }
-    ensures read { Reads (λ rest. rest.now) (read_escaped i.now) out.old.items out.new.items result }
+    ensures read { ReadsWord (λ rest. rest.now) (read_escaped i.now) out.old.items out.new.items result }
     ensures shorter { IfOk result (λ rest. length rest.now < length i.now) }
 {
     match i {
@@ -303,7 +303,7 @@ fn read_escape<'a>(out: &mut Vec<u8>, i: &'a [u8]) -> Result<&'a [u8], TextError
 #[inline(always)]
 fn read_itself<'a>(out: &mut Vec<u8>, i: &'a [u8]) -> Result<&'a [u8], TextError>
     requires { first_is 92 i.now ≡ false }
-    ensures read { Reads (λ rest. rest.now) (read_escaped i.now) out.old.items out.new.items result }
+    ensures read { ReadsWord (λ rest. rest.now) (read_escaped i.now) out.old.items out.new.items result }
     ensures shorter { IfOk result (λ rest. length rest.now < length i.now) }
 {
     match i {
@@ -318,7 +318,7 @@ fn read_itself<'a>(out: &mut Vec<u8>, i: &'a [u8]) -> Result<&'a [u8], TextError
 /// Appends a byte of a quoted string.
 #[inline(always)]
 fn read_escaped<'a>(out: &mut Vec<u8>, i: &'a [u8]) -> Result<&'a [u8], TextError>
-    ensures read { Reads (λ rest. rest.now) (read_escaped i.now) out.old.items out.new.items result }
+    ensures read { ReadsWord (λ rest. rest.now) (read_escaped i.now) out.old.items out.new.items result }
     ensures shorter { IfOk result (λ rest. length rest.now < length i.now) }
 {
     if begins_with(i, b'\\') {
@@ -330,7 +330,7 @@ fn read_escaped<'a>(out: &mut Vec<u8>, i: &'a [u8]) -> Result<&'a [u8], TextErro
 
 /// Appends the bytes of a quoted string after its quote.
 fn read_characters<'a>(out: &mut Vec<u8>, i: &'a [u8]) -> Result<&'a [u8], TextError>
-    ensures read { Reads (λ rest. rest.now) (inside read_escaped 34 i.now) out.old.items out.new.items result }
+    ensures read { ReadsWord (λ rest. rest.now) (inside read_escaped 34 i.now) out.old.items out.new.items result }
     ensures shorter { IfOk result (λ rest. length rest.now ≤ length i.now) }
 {
     let mut rest = bytes_from(i, 1);
@@ -379,7 +379,7 @@ pub(crate) fn set_long<'a>(
     rest: &'a [u8],
 ) -> Result<&'a [u8], TextError>
     ensures read { (before content : List ℕ) → out.old.items ≡ before ++ (0 ∷ 0 ∷ 0 ∷ 0 ∷ content) → place ≡ length before
-        → Reads (λ after. after.now) (framed_long (content, rest.now)) before out.new.items result }
+        → ReadsWord (λ after. after.now) (framed_long (content, rest.now)) before out.new.items result }
     ensures same { IfOk result (λ after. length after.now ≡ length rest.now) }
 {
     match content_size(out.len(), place, 4, u32::MAX as usize) {
@@ -394,7 +394,7 @@ pub(crate) fn set_long<'a>(
 /// Puts the length of what stands after a byte at a place into it, and returns the text after it.
 fn set_short<'a>(out: &mut Vec<u8>, place: usize, rest: &'a [u8]) -> Result<&'a [u8], TextError>
     ensures read { (before content : List ℕ) → out.old.items ≡ before ++ (0 ∷ content) → place ≡ length before
-        → Reads (λ after. after.now) (framed_short (content, rest.now)) before out.new.items result }
+        → ReadsWord (λ after. after.now) (framed_short (content, rest.now)) before out.new.items result }
     ensures same { IfOk result (λ after. length after.now ≡ length rest.now) }
 {
     match content_size(out.len(), place, 1, u8::MAX as usize) {
@@ -408,7 +408,7 @@ fn set_short<'a>(out: &mut Vec<u8>, place: usize, rest: &'a [u8]) -> Result<&'a 
 
 /// Appends a long string.
 pub(crate) fn read_long_string<'a>(out: &mut Vec<u8>, i: &'a [u8]) -> Result<&'a [u8], TextError>
-    ensures read { Reads (λ rest. rest.now) (read_long_string i.now) out.old.items out.new.items result }
+    ensures read { ReadsWord (λ rest. rest.now) (read_long_string i.now) out.old.items out.new.items result }
     ensures shorter { IfOk result (λ rest. length rest.now ≤ length i.now) }
 {
     let place = keep_place(out, 4)?;
@@ -420,7 +420,7 @@ pub(crate) fn read_long_string<'a>(out: &mut Vec<u8>, i: &'a [u8]) -> Result<&'a
 
 /// Appends a short string.
 pub(crate) fn read_short_string<'a>(out: &mut Vec<u8>, i: &'a [u8]) -> Result<&'a [u8], TextError>
-    ensures read { Reads (λ rest. rest.now) (read_short_string i.now) out.old.items out.new.items result }
+    ensures read { ReadsWord (λ rest. rest.now) (read_short_string i.now) out.old.items out.new.items result }
     ensures shorter { IfOk result (λ rest. length rest.now ≤ length i.now) }
 {
     let place = keep_place(out, 1)?;

@@ -17,10 +17,19 @@ use std::alloc::Global;
 /// The client binds a queue to an exchange.
 #[derive(Debug, Drop, PartialEq)]
 pub struct Bind {
+    /// The name of the queue; empty is the queue that the client declared last on the channel.
     pub queue: ShortString,
+
+    /// The name of the exchange.
     pub exchange: ShortString,
+
+    /// The key of the binding; the kind of the exchange decides how it is matched.
     pub routing_key: ShortString,
+
+    /// The server sends no `BindOk`.
     pub nowait: Boolean,
+
+    /// Further arguments of the binding; the kind of the exchange gives them a meaning.
     pub arguments: FieldTable,
 }
 
@@ -103,7 +112,7 @@ pub(super) fn bind_fields(method: &Bind) -> [Field<'_>; 8]
     ]
 }
 
-/// The size of the method id and the fields of `Bind`.
+/// The size in bytes of the method id and the fields of `Bind`.
 #[tactic(auto)]
 pub fn size_bind(method: &Bind) -> Result<u64, GenError>
     ensures { Measures result (method_size (bind_method method.now)) }
@@ -164,7 +173,7 @@ pub(super) fn bind_ok_fields(_method: &BindOk) -> [Field<'_>; 2]
     [Field::ShortUInt(50), Field::ShortUInt(21)]
 }
 
-/// The size of the method id and the fields of `BindOk`.
+/// The size in bytes of the method id and the fields of `BindOk`.
 #[tactic(auto)]
 pub fn size_bind_ok(method: &BindOk) -> Result<u64, GenError>
     ensures { Measures result (method_size (bind_ok_method method.now)) }
@@ -192,9 +201,16 @@ pub fn gen_bind_ok(_alloc: Global, out: &mut Vec<u8>, method: &BindOk) -> Result
 /// The client unbinds a queue from an exchange.
 #[derive(Debug, Drop, PartialEq)]
 pub struct Unbind {
+    /// The name of the queue; empty is the queue that the client declared last on the channel.
     pub queue: ShortString,
+
+    /// The name of the exchange.
     pub exchange: ShortString,
+
+    /// The key of the binding to remove.
     pub routing_key: ShortString,
+
+    /// The arguments of the binding to remove.
     pub arguments: FieldTable,
 }
 
@@ -272,7 +288,7 @@ pub(super) fn unbind_fields(method: &Unbind) -> [Field<'_>; 7]
     ]
 }
 
-/// The size of the method id and the fields of `Unbind`.
+/// The size in bytes of the method id and the fields of `Unbind`.
 #[tactic(auto)]
 pub fn size_unbind(method: &Unbind) -> Result<u64, GenError>
     ensures { Measures result (method_size (unbind_method method.now)) }
@@ -333,7 +349,7 @@ pub(super) fn unbind_ok_fields(_method: &UnbindOk) -> [Field<'_>; 2]
     [Field::ShortUInt(50), Field::ShortUInt(51)]
 }
 
-/// The size of the method id and the fields of `UnbindOk`.
+/// The size in bytes of the method id and the fields of `UnbindOk`.
 #[tactic(auto)]
 pub fn size_unbind_ok(method: &UnbindOk) -> Result<u64, GenError>
     ensures { Measures result (method_size (unbind_ok_method method.now)) }

@@ -17,12 +17,25 @@ use std::alloc::Global;
 /// The client declares a queue.
 #[derive(Debug, Drop, PartialEq)]
 pub struct Declare {
+    /// The name of the queue; the server makes one where it is empty. Names that begin with `amq.` are reserved.
     pub queue: ShortString,
+
+    /// The server creates nothing, and raises an error where the queue does not exist.
     pub passive: Boolean,
+
+    /// The queue remains when the server restarts.
     pub durable: Boolean,
+
+    /// Only this connection may access the queue, which is deleted when the connection closes.
     pub exclusive: Boolean,
+
+    /// The server deletes the queue when its last consumer ends; while it has had none, it stays.
     pub auto_delete: Boolean,
+
+    /// The server sends no `DeclareOk`.
     pub nowait: Boolean,
+
+    /// Further arguments; their names and meaning are the server's.
     pub arguments: FieldTable,
 }
 
@@ -43,7 +56,8 @@ impl Declare {
 
     /// The method whose fields are empty, zero and false.
     pub fn empty(alloc: Global) -> Declare
-        ensures { declare_method result ≡ method 50 10 (text_item [] ∷ flag_item false ∷ flag_item false ∷ flag_item false ∷ flag_item false ∷ flag_item false ∷ entries_item [] ∷ []) }
+        ensures { declare_method result ≡ method 50 10
+            (text_item [] ∷ flag_item false ∷ flag_item false ∷ flag_item false ∷ flag_item false ∷ flag_item false ∷ entries_item [] ∷ []) }
     {
         Declare {
             queue: ShortString::empty(alloc),
@@ -113,7 +127,7 @@ pub(super) fn declare_fields(method: &Declare) -> [Field<'_>; 6]
     ]
 }
 
-/// The size of the method id and the fields of `Declare`.
+/// The size in bytes of the method id and the fields of `Declare`.
 #[tactic(auto)]
 pub fn size_declare(method: &Declare) -> Result<u64, GenError>
     ensures { Measures result (method_size (declare_method method.now)) }
@@ -141,8 +155,13 @@ pub fn gen_declare(_alloc: Global, out: &mut Vec<u8>, method: &Declare) -> Resul
 /// The queue is there.
 #[derive(Debug, Drop, PartialEq)]
 pub struct DeclareOk {
+    /// The name of the queue, which the client or the server has chosen.
     pub queue: ShortString,
+
+    /// The number of messages in the queue, without those that wait for an acknowledgement.
     pub message_count: LongUInt,
+
+    /// The number of active consumers of the queue.
     pub consumer_count: LongUInt,
 }
 
@@ -213,7 +232,7 @@ pub(super) fn declare_ok_fields(method: &DeclareOk) -> [Field<'_>; 5]
     ]
 }
 
-/// The size of the method id and the fields of `DeclareOk`.
+/// The size in bytes of the method id and the fields of `DeclareOk`.
 #[tactic(auto)]
 pub fn size_declare_ok(method: &DeclareOk) -> Result<u64, GenError>
     ensures { Measures result (method_size (declare_ok_method method.now)) }
@@ -241,7 +260,10 @@ pub fn gen_declare_ok(_alloc: Global, out: &mut Vec<u8>, method: &DeclareOk) -> 
 /// The client empties a queue.
 #[derive(Debug, Drop, PartialEq)]
 pub struct Purge {
+    /// The name of the queue; empty is the queue that the client declared last on the channel.
     pub queue: ShortString,
+
+    /// The server sends no `PurgeOk`.
     pub nowait: Boolean,
 }
 
@@ -309,7 +331,7 @@ pub(super) fn purge_fields(method: &Purge) -> [Field<'_>; 5]
     ]
 }
 
-/// The size of the method id and the fields of `Purge`.
+/// The size in bytes of the method id and the fields of `Purge`.
 #[tactic(auto)]
 pub fn size_purge(method: &Purge) -> Result<u64, GenError>
     ensures { Measures result (method_size (purge_method method.now)) }
@@ -335,9 +357,19 @@ pub fn gen_purge(_alloc: Global, out: &mut Vec<u8>, method: &Purge) -> Result<()
 }
 
 /// The queue is empty, and so many messages were in it.
-#[derive(Clone, Default, Debug, Drop, PartialEq)]
+#[derive(Clone, Debug, Drop, PartialEq)]
 pub struct PurgeOk {
+    /// The number of messages that were removed.
     pub message_count: LongUInt,
+}
+
+impl Default for PurgeOk {
+    /// The method whose numbers are 0 and whose flags are false.
+    fn default() -> PurgeOk
+        ensures { purge_ok_method result ≡ method 50 31 (number_item 0 ∷ []) }
+    {
+        PurgeOk { message_count: 0 }
+    }
 }
 
 impl PurgeOk {
@@ -378,7 +410,7 @@ pub(super) fn purge_ok_fields(method: &PurgeOk) -> [Field<'_>; 3]
     ]
 }
 
-/// The size of the method id and the fields of `PurgeOk`.
+/// The size in bytes of the method id and the fields of `PurgeOk`.
 #[tactic(auto)]
 pub fn size_purge_ok(method: &PurgeOk) -> Result<u64, GenError>
     ensures { Measures result (method_size (purge_ok_method method.now)) }
@@ -406,9 +438,16 @@ pub fn gen_purge_ok(_alloc: Global, out: &mut Vec<u8>, method: &PurgeOk) -> Resu
 /// The client deletes a queue.
 #[derive(Debug, Drop, PartialEq)]
 pub struct Delete {
+    /// The name of the queue; empty is the queue that the client declared last on the channel.
     pub queue: ShortString,
+
+    /// The server deletes the queue only if it has no consumers, and raises an error otherwise.
     pub if_unused: Boolean,
+
+    /// The server deletes the queue only if it has no messages, and raises an error otherwise.
     pub if_empty: Boolean,
+
+    /// The server sends no `DeleteOk`.
     pub nowait: Boolean,
 }
 
@@ -482,7 +521,7 @@ pub(super) fn delete_fields(method: &Delete) -> [Field<'_>; 5]
     ]
 }
 
-/// The size of the method id and the fields of `Delete`.
+/// The size in bytes of the method id and the fields of `Delete`.
 #[tactic(auto)]
 pub fn size_delete(method: &Delete) -> Result<u64, GenError>
     ensures { Measures result (method_size (delete_method method.now)) }
@@ -508,9 +547,19 @@ pub fn gen_delete(_alloc: Global, out: &mut Vec<u8>, method: &Delete) -> Result<
 }
 
 /// The queue is deleted, and so many messages were in it.
-#[derive(Clone, Default, Debug, Drop, PartialEq)]
+#[derive(Clone, Debug, Drop, PartialEq)]
 pub struct DeleteOk {
+    /// The number of messages that were deleted with the queue.
     pub message_count: LongUInt,
+}
+
+impl Default for DeleteOk {
+    /// The method whose numbers are 0 and whose flags are false.
+    fn default() -> DeleteOk
+        ensures { delete_ok_method result ≡ method 50 41 (number_item 0 ∷ []) }
+    {
+        DeleteOk { message_count: 0 }
+    }
 }
 
 impl DeleteOk {
@@ -551,7 +600,7 @@ pub(super) fn delete_ok_fields(method: &DeleteOk) -> [Field<'_>; 3]
     ]
 }
 
-/// The size of the method id and the fields of `DeleteOk`.
+/// The size in bytes of the method id and the fields of `DeleteOk`.
 #[tactic(auto)]
 pub fn size_delete_ok(method: &DeleteOk) -> Result<u64, GenError>
     ensures { Measures result (method_size (delete_ok_method method.now)) }

@@ -1,3 +1,4 @@
+-- `canonicalize`: what it ensures, what loops keep, what falls with each iteration and that no place or sum is out of range.
 use Rattle.std.proofs.Common.{rules, arith}
 use Rattle.std.proofs.lemmas.List.{take_rest}
 use Rattle.amqp_types.specs.Levels.{level_of}

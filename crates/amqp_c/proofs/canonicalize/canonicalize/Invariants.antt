@@ -1,3 +1,4 @@
+-- `canonicalize`: what loops keep and what falls with each iteration or call.
 use Rattle.std.proofs.Common.{length, ◌-◌}
 use Rattle.amqp_types.specs.Levels.{level_of}
 use Rattle.amqp_c.proofs.Fronts.{Going}

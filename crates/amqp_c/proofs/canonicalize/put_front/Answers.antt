@@ -1,3 +1,4 @@
+-- `put_front`: what it ensures and what calls require.
 use Rattle.std.proofs.Common.{refl}
 use Rattle.amqp_types.specs.Levels.{level_of}
 use Rattle.amqp_frame.specs.Frames.{raw_of}

@@ -1,3 +1,4 @@
+-- `put_tidy`: clause `puts`.
 use Rattle.std.proofs.Common.{rules, ◌≡◌, false, refl, sym, ◌∙◌}
 use Rattle.amqp_types.specs.Judging.{not_tidy}
 use Rattle.amqp_types.specs.Levels.{tidy}

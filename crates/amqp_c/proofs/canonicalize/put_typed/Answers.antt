@@ -1,3 +1,4 @@
+-- `put_typed`: what it ensures.
 use Rattle.std.proofs.Common.{Err, ap}
 use Rattle.amqp_types.specs.Levels.{plain}
 use Rattle.amqp_frame.specs.Frames.{raw_of}

@@ -1,3 +1,4 @@
+-- `put_version`: what it ensures.
 use Rattle.std.proofs.Common.{arith}
 use Rattle.amqp_c.proofs.Fronts.{version_put, version_short, version_trailing}
 use Rattle.amqp_c.proofs.canonicalize.put_version.Goals as goal

@@ -1,3 +1,4 @@
+-- `check`: what it ensures.
 use Rattle.std.proofs.Common.{arith, sym, ◌∙◌}
 use Rattle.amqp_c.specs.Checks.{summary_or}
 use Rattle.amqp_c.proofs.Summaries.{summary_known}

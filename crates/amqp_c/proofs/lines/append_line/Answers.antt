@@ -1,3 +1,4 @@
+-- `append_line`: what it ensures and what calls require.
 use Rattle.amqp_frame.specs.Frames.{raw_of}
 use Rattle.amqp_c.proofs.FrameLines.{line_appended, no_front, no_line}
 use Rattle.amqp_c.proofs.Fronts.{front_few}

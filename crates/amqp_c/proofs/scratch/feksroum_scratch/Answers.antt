@@ -1,3 +1,4 @@
+-- `feksroum_scratch`: clause `enough`.
 use Rattle.std.proofs.Common.{arith}
 use Rattle.amqp_c.proofs.Entries.{entries_few}
 use Rattle.amqp_c.proofs.scratch.feksroum_scratch.Goals as goal

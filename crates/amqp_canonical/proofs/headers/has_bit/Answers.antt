@@ -1,3 +1,4 @@
+-- `has_bit`: what it ensures.
 use Rattle.std.proofs.Common.{sym, ◌∙◌, arith}
 use Rattle.std.proofs.lemmas.Bool.Decides.{nat_tests}
 use Rattle.amqp_canonical.proofs.Properties.{bit_beyond}

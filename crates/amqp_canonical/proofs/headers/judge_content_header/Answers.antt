@@ -1,3 +1,4 @@
+-- `judge_content_header`: clause `judged`.
 use Rattle.std.proofs.Common.{Ok, Err, arith}
 use Rattle.std.proofs.lemmas.List.{take_rest}
 use Rattle.amqp_types.specs.Levels.{tidy}

@@ -1,3 +1,4 @@
+-- `judge_properties`: clause `judged`.
 use Rattle.std.proofs.Common.{ℕ, arith}
 use Rattle.std.proofs.lemmas.List.{take_rest}
 use Rattle.amqp_types.specs.Levels.{tidy, strict}

@@ -1,3 +1,4 @@
+-- `judge_property`: clause `judged`.
 use Rattle.std.proofs.Common.{arith}
 use Rattle.amqp_canonical.specs.Shapes.{form_of}
 use Rattle.amqp_canonical.proofs.Properties.{optional_there, optional_none}

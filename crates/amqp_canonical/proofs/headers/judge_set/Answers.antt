@@ -1,3 +1,4 @@
+-- `judge_set`: clause `judged` and what loops keep.
 use Rattle.std.proofs.Common.{ℕ, length, drop, get_or, List, subst, Ok, Err, ◌≤◌, arith}
 use Rattle.std.proofs.lemmas.List.{length-drop, take_rest}
 use Rattle.amqp_types.specs.Flags.{flag_at}

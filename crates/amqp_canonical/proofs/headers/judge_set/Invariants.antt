@@ -1,3 +1,4 @@
+-- `judge_set`: what loops keep.
 use Rattle.std.proofs.Common.{◌≤◌, length}
 use Rattle.amqp_canonical.proofs.Properties.{ArePropertiesReached}
 use Rattle.amqp_canonical.proofs.headers.judge_set.Given as goal

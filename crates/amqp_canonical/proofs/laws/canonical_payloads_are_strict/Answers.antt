@@ -1,3 +1,4 @@
+-- `canonical_payloads_are_strict`: what it ensures.
 use Rattle.amqp_types.specs.Methods.{judge_payload, payload_bytes}
 use Rattle.amqp_types.specs.MethodSpelling.{SpellsPayload}
 use Rattle.amqp_values.proofs.MethodLaws.{payloads_lawful}

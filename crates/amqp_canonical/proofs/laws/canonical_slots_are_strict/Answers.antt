@@ -1,3 +1,4 @@
+-- `canonical_slots_are_strict`: what it ensures.
 use Rattle.amqp_types.specs.SlotBytes.{slots_bytes}
 use Rattle.amqp_types.specs.SlotJudging.{judge_slots}
 use Rattle.amqp_types.specs.SlotSpelling.{SpellsSlots}

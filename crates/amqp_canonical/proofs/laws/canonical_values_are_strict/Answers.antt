@@ -1,3 +1,4 @@
+-- `canonical_values_are_strict`: clauses `values`, `arrays` and `tables`.
 use Rattle.amqp_canonical.proofs.Strict.{value_strict, array_strict, table_strict}
 use Rattle.amqp_canonical.proofs.laws.canonical_values_are_strict.Goals as goal
 

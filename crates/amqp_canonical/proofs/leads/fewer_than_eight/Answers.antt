@@ -1,3 +1,4 @@
+-- `fewer_than_eight`: what it ensures.
 use Rattle.std.proofs.Common.{◌≡◌, ◌≤◌, ℕ, get_or, arith}
 use Rattle.amqp_canonical.proofs.Leading.{eight_are, beyond}
 use Rattle.amqp_canonical.proofs.leads.fewer_than_eight.Goals as goal

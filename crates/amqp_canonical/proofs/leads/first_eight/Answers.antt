@@ -1,3 +1,4 @@
+-- `first_eight`: what it ensures.
 use Rattle.std.proofs.Common.{arith}
 use Rattle.amqp_canonical.proofs.Leading.{eight_are}
 use Rattle.amqp_canonical.proofs.leads.first_eight.Goals as goal

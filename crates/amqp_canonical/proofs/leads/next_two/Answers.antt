@@ -1,3 +1,4 @@
+-- `next_two`: what it ensures.
 use Rattle.std.proofs.Common.{arith}
 use Rattle.amqp_canonical.proofs.Leading.{two_are, beyond}
 use Rattle.amqp_canonical.proofs.leads.next_two.Goals as goal

@@ -1,3 +1,4 @@
+-- `are_in_order`: what loops keep.
 use Rattle.std.proofs.Common.{◌≡◌, ◌-◌, ℕ, suc, get_or, subst, inl, inr, arith}
 use Rattle.std.proofs.lemmas.Bool.{cases_lt}
 use Rattle.amqp_canonical.specs.Marks.{Follows, blank}

@@ -1,3 +1,4 @@
+-- `are_in_order`: what loops keep and what falls with each iteration or call.
 use Rattle.std.proofs.Common.{◌<◌, ◌≤◌, ◌-◌, ℕ, suc, length, get_or}
 use Rattle.amqp_canonical.specs.Marks.{Follows, blank}
 use Rattle.amqp_canonical.proofs.marks.are_in_order.Given as goal

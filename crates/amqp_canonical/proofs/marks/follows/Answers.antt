@@ -1,3 +1,4 @@
+-- `follows`: what it ensures.
 use Rattle.std.proofs.Common.{◌<◌, arith}
 use Rattle.std.proofs.lemmas.Bool.Decides.{nat_tests}
 use Rattle.amqp_canonical.proofs.Leading.{lead_tells, more_tells}

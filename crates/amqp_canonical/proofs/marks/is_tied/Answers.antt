@@ -1,9 +1,11 @@
+-- `is_tied`: what it ensures.
 use Rattle.std.proofs.Common.{refl, ◌<◌, ◌+◌, ◌∙◌, false, length, get_or, arith}
 use Rattle.amqp_canonical.specs.Leads.{key_at}
 use Rattle.amqp_canonical.specs.Marks.{blank}
-use Rattle.amqp_canonical.proofs.InOrder.{cmp, tied_as}
+use Rattle.amqp_canonical.proofs.InOrder.{tied_as}
 use Rattle.amqp_canonical.proofs.Leading.{same_lead, same_test, never}
 use Rattle.amqp_canonical.proofs.marks.is_tied.Goals as goal
+use Rattle.amqp_canonical.proofs.Placed.{cmp}
 
 pub returns-then-mark-next : goal.returns-then-mark-next
 returns-then-mark-next c = λ room read.

@@ -1,3 +1,4 @@
+-- `key_follows`: what it ensures.
 use Rattle.std.proofs.Common.{inr, ◌∙◌, sym, ap, arith}
 use Rattle.std.proofs.lemmas.Bool.Decides.{nat_tests}
 use Rattle.std.proofs.lemmas.Map.Lookups.{exact_bytes}

@@ -1,7 +1,8 @@
+-- `mark_entries`: clause `marked`, what loops keep and what falls with each iteration.
 use Rattle.std.proofs.Common.{refl, ◌+◌, ◌∙◌, ◌<◌, List, length, take, drop, sym, ap, subst, arith}
 use Rattle.std.specs.Prelude.{All}
 use Rattle.amqp_canonical.specs.Leads.{leading}
-use Rattle.amqp_canonical.specs.Marks.{IsMarked}
+use Rattle.amqp_canonical.specs.Marks.{IsMarkOf}
 use Rattle.amqp_canonical.specs.Writes.{entry_bytes}
 use Rattle.amqp_canonical.proofs.Leading.{all_marked}
 use Rattle.std.proofs.lemmas.List.{take_more_set, length-set, take_rest}
@@ -25,12 +26,12 @@ loop-at-preserved c =
     let key = (rw take_rest at c.split_key.ensures.key) in
     let sized = rw take_rest at c.entry_span-span.ensures.used in
     let copied = rw take_rest at c.entry_span-span.ensures.copied in
-    let is : IsMarked content mark = record {
+    let is : IsMarkOf content mark = record {
       first = c.first_eight.ensures ∙ ap (leading 8) key;
       next = c.next_two.ensures ∙ ap (λ k. leading 2 (drop 8 k)) key;
       copied = λ some room read. let fits = c.size_copied.ensures some in copied_as entry_bytes (drop at content) span.size c.size_copied.result _ (sym fits.1) (copied fits.0 room read);
     } in
-    let L : List Mark → Type 0 = λ ms. All (IsMarked content) ms in (
+    let L : List Mark → Type 0 = λ ms. All (IsMarkOf content) ms in (
       length-set marks count mark ∙ c.loop-at.invariant.0,
       omega (arith, more, length-set marks count mark),
       subst L (sym (take_more_set marks count mark more)) (all_marked content (take count marks) mark c.loop-at.invariant.2 is),

@@ -1,8 +1,9 @@
+-- `mark_in_order`: clauses `table` and `each`.
 use Rattle.std.proofs.Common.{◌≡◌, List, length, take, drop, sym, subst, arith}
 use Rattle.std.proofs.lemmas.List.{take_at, length-take-le}
 use Rattle.std.proofs.lemmas.List.Sorted.{All-permutation, length_permutation}
 use Rattle.std.specs.Prelude.{All}
-use Rattle.amqp_canonical.specs.Marks.{AreOfTable, IsMarked}
+use Rattle.amqp_canonical.specs.Marks.{AreOfTable, IsMarkOf}
 use Rattle.amqp_canonical.specs.declared.marks.Mark.{Mark}
 use Rattle.amqp_canonical.proofs.InOrder.{marks_of_table}
 use Rattle.amqp_canonical.proofs.marks.mark_in_order.Goals as goal
@@ -27,5 +28,5 @@ returns-then-put_in_order-clause-each c =
     let rest = drop count c.mark_entries.new.marks in
     let long = length_permutation old new c.put_in_order.ensures.permuted in
     let same : length new ≡ count = omega (arith, long, length-take-le count c.mark_entries.new.marks c.in_ok-count.ensures.within) in
-    let P : List Mark → Type 0 = λ ms. All (IsMarked content) ms in
-    subst P (sym (take_at new rest count same)) (All-permutation (IsMarked content) old new c.put_in_order.ensures.permuted c.in_ok-count.ensures.each)
+    let P : List Mark → Type 0 = λ ms. All (IsMarkOf content) ms in
+    subst P (sym (take_at new rest count same)) (All-permutation (IsMarkOf content) old new c.put_in_order.ensures.permuted c.in_ok-count.ensures.each)

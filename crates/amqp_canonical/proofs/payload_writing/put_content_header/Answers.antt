@@ -1,3 +1,4 @@
+-- `put_content_header`: what it ensures and what calls require.
 use Rattle.std.proofs.Common.{◌≡◌, List, ℕ, length, drop, sym, ap, subst, arith}
 use Rattle.amqp_types.specs.Slots.{Slot}
 use Rattle.amqp_types.specs.SlotJudging.{judge_slots}

@@ -1,3 +1,4 @@
+-- `put_payload`: what it ensures and what calls require.
 use Rattle.std.proofs.Common.{◌≡◌, ◌++◌, List, Some, None, length, drop, refl, sym, ap, ap₂, subst, ◌∙◌, arith}
 use Rattle.amqp_types.specs.Judging.{Judged}
 use Rattle.amqp_types.specs.Numbers.{bytes2, number_bytes}

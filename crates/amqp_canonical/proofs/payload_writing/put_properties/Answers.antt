@@ -1,3 +1,4 @@
+-- `put_properties`: what it ensures and what calls require.
 use Rattle.std.proofs.Common.{◌-◌, ◌%◌, List, ℕ, length, drop, sym, ap, subst, arith}
 use Rattle.amqp_types.specs.Numbers.{bytes2, number_bytes}
 use Rattle.amqp_types.specs.Properties.{properties}

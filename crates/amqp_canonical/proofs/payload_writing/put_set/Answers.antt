@@ -1,3 +1,4 @@
+-- `put_set`: what it ensures, what loops keep and what calls require.
 use Rattle.std.proofs.Common.{refl, ◌+◌, ℕ, List, get_or, drop, sym, ap, subst, ◌∙◌, arith}
 use Rattle.amqp_types.specs.Properties.{properties}
 use Rattle.amqp_canonical.specs.declared.shapes.Shape.{Shape}
@@ -5,9 +6,9 @@ use Rattle.amqp_canonical.specs.declared.shapes.Shape.TheVariants as shapes
 use Rattle.amqp_canonical.specs.Shapes.{form_of, property_of}
 use Rattle.amqp_canonical.proofs.PayloadParts.{SetPut, set_none, set_end, property_here, property_past, property_from, properties_all, gives_one_at}
 use Rattle.amqp_types.specs.SlotJudging.{judge_form}
-use Rattle.amqp_canonical.specs.Writes.{used_of}
 use Rattle.amqp_canonical.proofs.payload_writing.put_set.Goals as goal
 use Rattle.amqp_canonical.proofs.payload_writing.put_set.Goals.{then-has_bit, else-has_bit}
+use Rattle.amqp_types.specs.Tidiness.{used_by}
 
 pub loop-shape-init : goal.loop-shape-init
 loop-shape-init c = set_none c.args.mask properties c.args.i.now c.args.buf.now c.args.at (λ k. omega (arith, c.type_inv.i k)) c.requires.read
@@ -21,7 +22,7 @@ put_form-end-requires-clause-read c =
     let p = property_of shape in
     let is = property_from ps l.shape-index other c.property_shapes-shapes.ensures c.loop-shape-test.true in
     let one = gives_one_at l.shape-index p (drop (l.shape-index + 1) properties) is in
-    let here = property_here c.args.mask properties p c.args.i.now l.rest.now l.shape-index (used_of (judge_form (form_of shape.1) l.rest.now)) c.args.buf.now l.buf c.args.at l.end is one (sym c.has_bit.ensures ∙ c.if-has_bit.true) (λ read. refl) c.requires.room l.invariant in
+    let here = property_here c.args.mask properties p c.args.i.now l.rest.now l.shape-index (used_by (judge_form (form_of shape.1) l.rest.now)) c.args.buf.now l.buf c.args.at l.end is one (sym c.has_bit.ensures ∙ c.if-has_bit.true) (λ read. refl) c.requires.room l.invariant in
     here.read
 
 pub put_form-end-requires-clause-room : goal.put_form-end-requires-clause-room
@@ -33,7 +34,7 @@ put_form-end-requires-clause-room c =
     let p = property_of shape in
     let is = property_from ps l.shape-index other c.property_shapes-shapes.ensures c.loop-shape-test.true in
     let one = gives_one_at l.shape-index p (drop (l.shape-index + 1) properties) is in
-    let here = property_here c.args.mask properties p c.args.i.now l.rest.now l.shape-index (used_of (judge_form (form_of shape.1) l.rest.now)) c.args.buf.now l.buf c.args.at l.end is one (sym c.has_bit.ensures ∙ c.if-has_bit.true) (λ read. refl) c.requires.room l.invariant in
+    let here = property_here c.args.mask properties p c.args.i.now l.rest.now l.shape-index (used_by (judge_form (form_of shape.1) l.rest.now)) c.args.buf.now l.buf c.args.at l.end is one (sym c.has_bit.ensures ∙ c.if-has_bit.true) (λ read. refl) c.requires.room l.invariant in
     here.room
 
 pub loop-shape-preserved : goal.loop-shape-preserved

@@ -1,3 +1,4 @@
+-- `put_set`: what loops keep.
 use Rattle.amqp_types.specs.Properties.{properties}
 use Rattle.amqp_canonical.proofs.PayloadParts.{SetPut}
 use Rattle.amqp_canonical.proofs.payload_writing.put_set.Given as goal

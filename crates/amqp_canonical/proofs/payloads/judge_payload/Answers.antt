@@ -1,3 +1,4 @@
+-- `judge_payload`: clause `judged`.
 use Rattle.std.proofs.Common.{ℕ, ◌-◌, length, take, drop, sym, ◌∙◌, arith}
 use Rattle.std.proofs.lemmas.List.{take_rest}
 use Rattle.amqp_types.specs.Levels.{tidy}

@@ -1,3 +1,4 @@
+-- `next_entry`: what it ensures and what loops keep.
 use Rattle.std.proofs.Common.{option_map, ◌∙◌, ◌+◌, sym, subst, arith, ℕ, Bor, List, Option}
 use Rattle.std.proofs.lemmas.Bool.{false≢true}
 use Rattle.std.proofs.lemmas.List.{take_rest}

@@ -1,3 +1,4 @@
+-- `next_entry`: what loops keep and what falls with each iteration or call.
 use Rattle.std.proofs.Common.{◌-◌, ℕ, length, option_map}
 use Rattle.amqp_canonical.specs.Marks.{AreEntries}
 use Rattle.amqp_canonical.proofs.NextKey.{LookedTo}

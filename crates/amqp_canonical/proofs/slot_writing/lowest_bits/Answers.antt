@@ -1,3 +1,4 @@
+-- `lowest_bits`: what it ensures.
 use Rattle.std.proofs.Common.{◌≡◌, ◌*◌, ◌^◌, ◌%◌, sym, ap, ◌∙◌, arith}
 use Rattle.std.proofs.lemmas.Nat.{pow_below}
 use Rattle.amqp_types.proofs.FormLaws.{flags_byte_back}

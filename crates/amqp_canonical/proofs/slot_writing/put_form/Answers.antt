@@ -1,3 +1,4 @@
+-- `put_form`: what it ensures, what calls require and that no place or sum is out of range.
 use Rattle.std.proofs.Common.{rules, ◌∷◌, [], length, get_or, sym, ap, ◌∙◌, arith}
 use Rattle.std.proofs.lemmas.List.{length-take-le}
 use Rattle.amqp_types.specs.Flags.{flags_byte, flags_from}

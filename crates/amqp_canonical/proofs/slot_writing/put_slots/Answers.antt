@@ -1,11 +1,12 @@
+-- `put_slots`: what it ensures, what loops keep and what calls require.
 use Rattle.std.proofs.Common.{ℕ, ◌+◌, refl, List, get_or, sym, subst, arith}
 use Rattle.std.proofs.lemmas.List.{length-map}
 use Rattle.amqp_types.specs.SlotJudging.{judge_slot}
 use Rattle.amqp_canonical.specs.declared.shapes.Shape.TheVariants as shapes
 use Rattle.amqp_canonical.specs.Shapes.{slot_of, slots_of}
-use Rattle.amqp_canonical.specs.Writes.{used_of}
 use Rattle.amqp_canonical.proofs.SlotParts.{SlotsPut, slots_none, slot_here, slots_end, slots_from, slot_sized}
 use Rattle.amqp_canonical.proofs.slot_writing.put_slots.Goals as goal
+use Rattle.amqp_types.specs.Tidiness.{used_by}
 
 pub loop-shape-init : goal.loop-shape-init
 loop-shape-init c = slots_none (slots_of c.args.shapes.now) c.args.i.now c.args.buf.now c.args.at (λ k. omega (arith, c.type_inv.i k)) c.requires.read
@@ -14,14 +15,14 @@ pub put_slot-end-requires-clause-read : goal.put_slot-end-requires-clause-read
 put_slot-end-requires-clause-read c =
     let l = c.loop-shape in
     let slot = slot_of (get_or c.args.shapes.now l.shape-index shapes.Octet) in
-    let here = slot_here (slots_of c.args.shapes.now) slot c.args.i.now l.rest.now (l.shape-index) (used_of (judge_slot slot l.rest.now)) c.args.buf.now l.buf c.args.at l.end (slots_from c.args.shapes.now l.shape-index shapes.Octet c.loop-shape-test.true) (λ read. refl) c.requires.room l.invariant in
+    let here = slot_here (slots_of c.args.shapes.now) slot c.args.i.now l.rest.now (l.shape-index) (used_by (judge_slot slot l.rest.now)) c.args.buf.now l.buf c.args.at l.end (slots_from c.args.shapes.now l.shape-index shapes.Octet c.loop-shape-test.true) (λ read. refl) c.requires.room l.invariant in
     here.read
 
 pub put_slot-end-requires-clause-room : goal.put_slot-end-requires-clause-room
 put_slot-end-requires-clause-room c =
     let l = c.loop-shape in
     let slot = slot_of (get_or c.args.shapes.now l.shape-index shapes.Octet) in
-    let here = slot_here (slots_of c.args.shapes.now) slot c.args.i.now l.rest.now (l.shape-index) (used_of (judge_slot slot l.rest.now)) c.args.buf.now l.buf c.args.at l.end (slots_from c.args.shapes.now l.shape-index shapes.Octet c.loop-shape-test.true) (λ read. refl) c.requires.room l.invariant in
+    let here = slot_here (slots_of c.args.shapes.now) slot c.args.i.now l.rest.now (l.shape-index) (used_by (judge_slot slot l.rest.now)) c.args.buf.now l.buf c.args.at l.end (slots_from c.args.shapes.now l.shape-index shapes.Octet c.loop-shape-test.true) (λ read. refl) c.requires.room l.invariant in
     here.room
 
 pub loop-shape-preserved : goal.loop-shape-preserved

@@ -1,3 +1,4 @@
+-- `put_slots`: what loops keep.
 use Rattle.amqp_canonical.specs.Shapes.{slots_of}
 use Rattle.amqp_canonical.proofs.SlotParts.{SlotsPut}
 use Rattle.amqp_canonical.proofs.slot_writing.put_slots.Given as goal

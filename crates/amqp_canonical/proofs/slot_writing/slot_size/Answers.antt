@@ -1,3 +1,4 @@
+-- `slot_size`: clause `used`.
 use Rattle.std.proofs.Common.{ap, length}
 use Rattle.amqp_canonical.proofs.SlotParts.{octet_size, flags_size, short_size, long_size, long_long_size, text_size, counted_size, table_size}
 use Rattle.amqp_canonical.proofs.slot_writing.slot_size.Goals as goal

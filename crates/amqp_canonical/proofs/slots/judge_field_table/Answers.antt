@@ -1,3 +1,4 @@
+-- `judge_field_table`: clause `judged`.
 use Rattle.std.proofs.Common.{arith}
 use Rattle.amqp_types.specs.Levels.{tidy, strict}
 use Rattle.amqp_types.specs.Slots.{table_form}

@@ -1,3 +1,4 @@
+-- `judge_flags`: clause `judged`.
 use Rattle.std.proofs.Common.{arith}
 use Rattle.amqp_canonical.proofs.OneSlot.{flags_form_past, flags_form_took}
 use Rattle.amqp_canonical.proofs.slots.judge_flags.Goals as goal

@@ -1,3 +1,4 @@
+-- `judge_long_string`: clause `judged`.
 use Rattle.std.proofs.Common.{ℕ, List, Bor, arith}
 use Rattle.amqp_types.specs.Levels.{tidy, strict}
 use Rattle.amqp_types.specs.Slots.{long_string_form}

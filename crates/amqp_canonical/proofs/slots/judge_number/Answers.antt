@@ -1,3 +1,4 @@
+-- `judge_number`: clause `judged`.
 use Rattle.std.proofs.Common.{arith}
 use Rattle.amqp_canonical.proofs.OneSlot.{number_form_past, number_form_took}
 use Rattle.amqp_canonical.proofs.slots.judge_number.Goals as goal

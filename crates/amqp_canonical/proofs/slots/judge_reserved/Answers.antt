@@ -1,9 +1,10 @@
+-- `judge_reserved`: clause `judged`.
 use Rattle.std.proofs.Common.{take, sym, ◌∙◌, arith}
 use Rattle.amqp_types.specs.Levels.{tidy, strict}
 use Rattle.amqp_types.specs.SlotSpelling.{SpellsReserved}
 use Rattle.amqp_canonical.specs.Shapes.{form_of}
-use Rattle.amqp_canonical.proofs.Children.{told_as}
-use Rattle.amqp_canonical.proofs.OneSlot.{bytes_told, err_passed, reserved_fails, reserved_took}
+use Rattle.amqp_canonical.proofs.Children.{decided_as}
+use Rattle.amqp_canonical.proofs.OneSlot.{bytes_decided, err_passed, reserved_fails, reserved_took}
 use Rattle.amqp_canonical.proofs.slots.judge_reserved.Goals as goal
 
 pub returns-in_err-found-clause-judged : goal.returns-in_err-found-clause-judged
@@ -13,5 +14,5 @@ returns-in_err-found-clause-judged c = λ items least is.
 
 pub returns-clause-judged : goal.returns-clause-judged
 returns-clause-judged c = λ items least is.
-    let told = bytes_told (take c.in_ok-found.found.used c.args.i.now) c.args.constant.now c.eq-as_written.result c.eq-as_written.ensures in
-    reserved_took (form_of c.args.shape) items c.args.i.now c.in_ok-found.found c.eq-as_written.result (λ k. omega (arith, c.type_inv.i k)) least c.in_ok-found.ensures.judged (told_as c.eq-as_written.result _ _ told (λ e. e ∙ is) (λ e. e ∙ sym is))
+    let decides = bytes_decided (take c.in_ok-found.found.used c.args.i.now) c.args.constant.now c.eq-as_written.result c.eq-as_written.ensures in
+    reserved_took (form_of c.args.shape) items c.args.i.now c.in_ok-found.found c.eq-as_written.result (λ k. omega (arith, c.type_inv.i k)) least c.in_ok-found.ensures.judged (decided_as c.eq-as_written.result _ _ decides (λ e. e ∙ is) (λ e. e ∙ sym is))

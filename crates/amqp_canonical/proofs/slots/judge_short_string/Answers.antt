@@ -1,3 +1,4 @@
+-- `judge_short_string`: clause `judged`.
 use Rattle.std.proofs.Common.{ℕ, List, Bor, arith}
 use Rattle.amqp_types.specs.Levels.{tidy, strict}
 use Rattle.amqp_types.specs.Slots.{short_string_form}

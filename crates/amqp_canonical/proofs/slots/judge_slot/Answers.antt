@@ -1,3 +1,4 @@
+-- `judge_slot`: clause `judged`.
 use Rattle.std.proofs.Common.{[], ◌∷◌, false, refl}
 use Rattle.amqp_types.specs.Slots.{flag_item, text_item, bytes_item}
 use Rattle.amqp_types.specs.SlotBytes.{form_bytes}

@@ -1,3 +1,4 @@
+-- `judge_slots`: clause `judged` and what loops keep.
 use Rattle.std.proofs.Common.{length, drop, ◌≤◌, arith}
 use Rattle.std.proofs.lemmas.List.{length-drop, take_rest}
 use Rattle.amqp_canonical.specs.declared.shapes.Shape.TheVariants as shapes

@@ -1,3 +1,4 @@
+-- `judge_slots`: what loops keep.
 use Rattle.std.proofs.Common.{◌≤◌, length}
 use Rattle.amqp_canonical.proofs.Forms.{AreSlotsReached, AreLeastTo}
 use Rattle.amqp_canonical.proofs.slots.judge_slots.Given as goal

@@ -1,3 +1,4 @@
+-- `entry_span`: clauses `used` and `copied`.
 use Rattle.std.proofs.Common.{ap, length}
 use Rattle.amqp_canonical.proofs.ReadParts.{entry_used}
 use Rattle.amqp_canonical.proofs.PutParts.{entry_whole}

@@ -1,3 +1,4 @@
+-- `size_in`: clause `used`.
 use Rattle.std.proofs.Common.{◌∙◌, sym, arith}
 use Rattle.amqp_types.specs.ValueJudging.{nested}
 use Rattle.amqp_canonical.proofs.Sizes.{fixed_taken, used_taken, boolean_used, long_at}

@@ -1,3 +1,4 @@
+-- `span_after`: clauses `used` and `copied`.
 use Rattle.std.proofs.Common.{inl, inr, ◌∙◌, sym, arith}
 use Rattle.amqp_types.specs.ValueJudging.{nested}
 use Rattle.amqp_canonical.proofs.Sizes.{fixed_taken, used_taken, boolean_used, long_at}

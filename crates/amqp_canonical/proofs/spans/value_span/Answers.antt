@@ -1,3 +1,4 @@
+-- `value_span`: clauses `used` and `copied`.
 use Rattle.std.proofs.Common.{sym, ◌∙◌, get_or, arith}
 use Rattle.std.proofs.lemmas.List.{take_rest}
 use Rattle.amqp_types.specs.Tags.{tag_at}

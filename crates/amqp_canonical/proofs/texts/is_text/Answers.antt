@@ -1,3 +1,4 @@
+-- `is_text`: what it ensures.
 use Rattle.std.proofs.Common.{sym}
 use Rattle.std.proofs.lemmas.Str.{IsUtf8-from_ascii, is_utf8-from_IsUtf8}
 use Rattle.amqp_canonical.proofs.texts.is_text.Goals as goal

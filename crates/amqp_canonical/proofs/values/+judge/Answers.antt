@@ -1,3 +1,4 @@
+-- the calls of cycle `judge`: what they ensure and what loops keep.
 use Rattle.std.proofs.Common.{ℕ, ◌≡◌, ◌≤◌, Bool, true, false, subst, List, Bor, length, drop, get_or, refl, sym, ◌∙◌, arith}
 use Rattle.std.proofs.lemmas.List.{length-drop, take_rest}
 use Rattle.amqp_types.specs.Tags.{tag_at}
@@ -92,7 +93,7 @@ judge_values-loop-at-preserved t c =
     let used = c.in-Ok.ensures.used in
     let fits : item.used ≤ length (drop l.at all) = rw take_rest at used.1 in (
       omega (arith, fits, length-drop l.at all),
-      values_next c.args.room all l.at item.used found.thing l.canonical item.canonical (λ k. omega (arith, c.type_inv.content k)) c.loop-at-test.true found.is used.0 fits found.told l.invariant.1,
+      values_next c.args.room all l.at item.used found.thing l.canonical item.canonical (λ k. omega (arith, c.type_inv.content k)) c.loop-at-test.true found.is used.0 fits found.decides l.invariant.1,
     )
 
 pub judge_values-returns : goal.judge_values-returns
@@ -119,7 +120,7 @@ judge_entries-loop-canonical-preserved t c =
     let fits : item.used ≤ length (drop l.at all) = rw take_rest at used.1 in
     let P : Bool → Type 0 = λ b. EntriesTo c.args.room all l.at l.previous.now b in (
       omega (arith, fits, length-drop l.at all),
-      entries_next c.args.room all l.at item.used l.previous.now key found.value true item.canonical c.is_next.result (λ k. omega (arith, c.type_inv.content k)) c.if-at-content.true found.is used.0 fits found.told c.is_next.ensures (subst P c.loop-canonical-test.true l.invariant.1),
+      entries_next c.args.room all l.at item.used l.previous.now key found.value true item.canonical c.is_next.result (λ k. omega (arith, c.type_inv.content k)) c.if-at-content.true found.is used.0 fits found.decides c.is_next.ensures (subst P c.loop-canonical-test.true l.invariant.1),
     )
 
 pub judge_entries-loop-at-init : goal.judge_entries-loop-at-init
@@ -151,7 +152,7 @@ judge_entries-loop-at-preserved t c =
     let fits : item.used ≤ length (drop l.at all) = rw take_rest at used.1 in (
       omega (arith, fits, length-drop l.at all),
       λ is. omega (arith, l.invariant.1 is),
-      (key, entries_read c.args.room all l.at item.used l.invariant.2.0 key found.value c.loop-canonical.canonical item.canonical (λ k. omega (arith, c.type_inv.content k)) c.loop-at-test.true found.is used.0 fits found.told l.invariant.1 l.invariant.2.1),
+      (key, entries_read c.args.room all l.at item.used l.invariant.2.0 key found.value c.loop-canonical.canonical item.canonical (λ k. omega (arith, c.type_inv.content k)) c.loop-at-test.true found.is used.0 fits found.decides l.invariant.1 l.invariant.2.1),
     )
 
 pub judge_entries-returns : goal.judge_entries-returns

@@ -1,3 +1,4 @@
+-- the calls of cycle `judge`: what loops keep and what falls with each iteration or call.
 use Rattle.std.proofs.Common.{◌≡◌, ◌+◌, ◌-◌, ◌*◌, ◌≤◌, ℕ, List, true, length}
 use Rattle.amqp_canonical.proofs.Children.{ValuesTo, EntriesTo}
 use Rattle.amqp_canonical.proofs.values.+judge.Given as goal

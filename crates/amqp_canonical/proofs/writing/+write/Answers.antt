@@ -1,3 +1,4 @@
+-- the calls of cycle `write`: what they ensure, what loops keep, what falls with each iteration, what calls require and that no place or sum is out of range.
 use Rattle.std.proofs.Common.{rules, drop, Bor, Option, ◌≡◌, ◌≤◌, ◌+◌, ◌-◌, ◌∷◌, [], ℕ, List, true, false, None, length, take, sym, ap, subst, ◌∙◌, arith}
 use Rattle.std.proofs.lemmas.List.{length-take-le, length-drop, take_rest}
 use Rattle.amqp_types.specs.ValueBytes.{tagged_bytes, value_bytes, array_bytes, table_bytes}

@@ -1,3 +1,4 @@
+-- the calls of cycle `write`: what loops keep and what falls with each iteration or call.
 use Rattle.std.proofs.Common.{◌+◌, ◌-◌, ◌*◌, ◌≤◌, length}
 use Rattle.amqp_types.specs.Settling.{settled}
 use Rattle.amqp_canonical.specs.Writes.{table_content}

@@ -17,10 +17,19 @@ use std::alloc::Global;
 /// The server begins a connection, and says what it can do.
 #[derive(Debug, Drop, PartialEq)]
 pub struct Start {
+    /// The major version of the protocol: 0 of 0-9-1.
     pub version_major: ShortShortUInt,
+
+    /// The minor version of the protocol: 9 of 0-9-1.
     pub version_minor: ShortShortUInt,
+
+    /// What the server says of itself, such as its product, version and capabilities.
     pub server_properties: FieldTable,
+
+    /// The names of the SASL mechanisms that the server supports, with spaces between them.
     pub mechanisms: LongString,
+
+    /// The locales that the server supports for its texts, with spaces between them.
     pub locales: LongString,
 }
 
@@ -101,7 +110,7 @@ pub(super) fn start_fields(method: &Start) -> [Field<'_>; 7]
     ]
 }
 
-/// The size of the method id and the fields of `Start`.
+/// The size in bytes of the method id and the fields of `Start`.
 #[tactic(auto)]
 pub fn size_start(method: &Start) -> Result<u64, GenError>
     ensures { Measures result (method_size (start_method method.now)) }
@@ -129,9 +138,16 @@ pub fn gen_start(_alloc: Global, out: &mut Vec<u8>, method: &Start) -> Result<()
 /// The client chooses how it proves who it is.
 #[derive(Debug, Drop, PartialEq)]
 pub struct StartOk {
+    /// What the client says of itself, such as its product, version and capabilities.
     pub client_properties: FieldTable,
+
+    /// The name of the SASL mechanism that the client has chosen.
     pub mechanism: ShortString,
+
+    /// The first response of the mechanism, in bytes that only the mechanism gives a meaning.
     pub response: LongString,
+
+    /// The locale that the client has chosen for the texts of the server.
     pub locale: ShortString,
 }
 
@@ -207,7 +223,7 @@ pub(super) fn start_ok_fields(method: &StartOk) -> [Field<'_>; 6]
     ]
 }
 
-/// The size of the method id and the fields of `StartOk`.
+/// The size in bytes of the method id and the fields of `StartOk`.
 #[tactic(auto)]
 pub fn size_start_ok(method: &StartOk) -> Result<u64, GenError>
     ensures { Measures result (method_size (start_ok_method method.now)) }
@@ -235,6 +251,7 @@ pub fn gen_start_ok(_alloc: Global, out: &mut Vec<u8>, method: &StartOk) -> Resu
 /// The server asks the client for more proof of who it is.
 #[derive(Debug, Drop, PartialEq)]
 pub struct Secure {
+    /// The challenge of the mechanism, in bytes that only the mechanism gives a meaning.
     pub challenge: LongString,
 }
 
@@ -293,7 +310,7 @@ pub(super) fn secure_fields(method: &Secure) -> [Field<'_>; 3]
     ]
 }
 
-/// The size of the method id and the fields of `Secure`.
+/// The size in bytes of the method id and the fields of `Secure`.
 #[tactic(auto)]
 pub fn size_secure(method: &Secure) -> Result<u64, GenError>
     ensures { Measures result (method_size (secure_method method.now)) }
@@ -318,9 +335,10 @@ pub fn gen_secure(_alloc: Global, out: &mut Vec<u8>, method: &Secure) -> Result<
     gen_fields(out, &secure_fields(method)[1..])
 }
 
-/// The client answers what the server asked.
+/// The client responds to the challenge of the server.
 #[derive(Debug, Drop, PartialEq)]
 pub struct SecureOk {
+    /// The response of the mechanism, in bytes that only the mechanism gives a meaning.
     pub response: LongString,
 }
 
@@ -379,7 +397,7 @@ pub(super) fn secure_ok_fields(method: &SecureOk) -> [Field<'_>; 3]
     ]
 }
 
-/// The size of the method id and the fields of `SecureOk`.
+/// The size in bytes of the method id and the fields of `SecureOk`.
 #[tactic(auto)]
 pub fn size_secure_ok(method: &SecureOk) -> Result<u64, GenError>
     ensures { Measures result (method_size (secure_ok_method method.now)) }
@@ -405,11 +423,29 @@ pub fn gen_secure_ok(_alloc: Global, out: &mut Vec<u8>, method: &SecureOk) -> Re
 }
 
 /// The server proposes limits for the connection.
-#[derive(Clone, Default, Debug, Drop, PartialEq)]
+#[derive(Clone, Debug, Drop, PartialEq)]
 pub struct Tune {
+    /// The highest channel number that the server permits; 0 is no limit.
     pub channel_max: ShortUInt,
+
+    /// The largest frame size in bytes, with header and end, that the server proposes; 0 is no limit.
     pub frame_max: LongUInt,
+
+    /// The delay between heartbeats in seconds that the server wishes for; 0 is none.
     pub heartbeat: ShortUInt,
+}
+
+impl Default for Tune {
+    /// The method whose numbers are 0 and whose flags are false.
+    fn default() -> Tune
+        ensures { tune_method result ≡ method 10 30 (number_item 0 ∷ number_item 0 ∷ number_item 0 ∷ []) }
+    {
+        Tune {
+            channel_max: 0,
+            frame_max: 0,
+            heartbeat: 0,
+        }
+    }
 }
 
 impl Tune {
@@ -458,7 +494,7 @@ pub(super) fn tune_fields(method: &Tune) -> [Field<'_>; 5]
     ]
 }
 
-/// The size of the method id and the fields of `Tune`.
+/// The size in bytes of the method id and the fields of `Tune`.
 #[tactic(auto)]
 pub fn size_tune(method: &Tune) -> Result<u64, GenError>
     ensures { Measures result (method_size (tune_method method.now)) }
@@ -484,11 +520,29 @@ pub fn gen_tune(_alloc: Global, out: &mut Vec<u8>, method: &Tune) -> Result<(), 
 }
 
 /// The client settles the limits.
-#[derive(Clone, Default, Debug, Drop, PartialEq)]
+#[derive(Clone, Debug, Drop, PartialEq)]
 pub struct TuneOk {
+    /// The highest channel number that the client will use; 0 is no limit.
     pub channel_max: ShortUInt,
+
+    /// The largest frame size in bytes, with header and end, on the connection; 0 is no limit.
     pub frame_max: LongUInt,
+
+    /// The delay between heartbeats in seconds that the client wishes for; 0 is none.
     pub heartbeat: ShortUInt,
+}
+
+impl Default for TuneOk {
+    /// The method whose numbers are 0 and whose flags are false.
+    fn default() -> TuneOk
+        ensures { tune_ok_method result ≡ method 10 31 (number_item 0 ∷ number_item 0 ∷ number_item 0 ∷ []) }
+    {
+        TuneOk {
+            channel_max: 0,
+            frame_max: 0,
+            heartbeat: 0,
+        }
+    }
 }
 
 impl TuneOk {
@@ -537,7 +591,7 @@ pub(super) fn tune_ok_fields(method: &TuneOk) -> [Field<'_>; 5]
     ]
 }
 
-/// The size of the method id and the fields of `TuneOk`.
+/// The size in bytes of the method id and the fields of `TuneOk`.
 #[tactic(auto)]
 pub fn size_tune_ok(method: &TuneOk) -> Result<u64, GenError>
     ensures { Measures result (method_size (tune_ok_method method.now)) }

@@ -17,6 +17,7 @@ use std::alloc::Global;
 /// The client opens the connection to a virtual host.
 #[derive(Debug, Drop, PartialEq)]
 pub struct Open {
+    /// The name of the virtual host.
     pub virtual_host: ShortString,
 }
 
@@ -79,7 +80,7 @@ pub(super) fn open_fields(method: &Open) -> [Field<'_>; 5]
     ]
 }
 
-/// The size of the method id and the fields of `Open`.
+/// The size in bytes of the method id and the fields of `Open`.
 #[tactic(auto)]
 pub fn size_open(method: &Open) -> Result<u64, GenError>
     ensures { Measures result (method_size (open_method method.now)) }
@@ -145,7 +146,7 @@ pub(super) fn open_ok_fields(_method: &OpenOk) -> [Field<'_>; 3]
     ]
 }
 
-/// The size of the method id and the fields of `OpenOk`.
+/// The size in bytes of the method id and the fields of `OpenOk`.
 #[tactic(auto)]
 pub fn size_open_ok(method: &OpenOk) -> Result<u64, GenError>
     ensures { Measures result (method_size (open_ok_method method.now)) }
@@ -173,9 +174,16 @@ pub fn gen_open_ok(_alloc: Global, out: &mut Vec<u8>, method: &OpenOk) -> Result
 /// A peer closes the connection, and says why.
 #[derive(Debug, Drop, PartialEq)]
 pub struct Close {
+    /// The reason as a reply code (AMQP 0-9-1, section 1.2); 200 is success.
     pub reply_code: ShortUInt,
+
+    /// The reason in words.
     pub reply_text: ShortString,
+
+    /// The class id of the method that caused the close; 0 where none did.
     pub class_id: ShortUInt,
+
+    /// The id of that method in its class; 0 where none did.
     pub method_id: ShortUInt,
 }
 
@@ -251,7 +259,7 @@ pub(super) fn close_fields(method: &Close) -> [Field<'_>; 6]
     ]
 }
 
-/// The size of the method id and the fields of `Close`.
+/// The size in bytes of the method id and the fields of `Close`.
 #[tactic(auto)]
 pub fn size_close(method: &Close) -> Result<u64, GenError>
     ensures { Measures result (method_size (close_method method.now)) }
@@ -312,7 +320,7 @@ pub(super) fn close_ok_fields(_method: &CloseOk) -> [Field<'_>; 2]
     [Field::ShortUInt(10), Field::ShortUInt(51)]
 }
 
-/// The size of the method id and the fields of `CloseOk`.
+/// The size in bytes of the method id and the fields of `CloseOk`.
 #[tactic(auto)]
 pub fn size_close_ok(method: &CloseOk) -> Result<u64, GenError>
     ensures { Measures result (method_size (close_ok_method method.now)) }
@@ -340,6 +348,7 @@ pub fn gen_close_ok(_alloc: Global, out: &mut Vec<u8>, method: &CloseOk) -> Resu
 /// The server takes no messages for now.
 #[derive(Debug, Drop, PartialEq)]
 pub struct Blocked {
+    /// The reason in words.
     pub reason: ShortString,
 }
 
@@ -398,7 +407,7 @@ pub(super) fn blocked_fields(method: &Blocked) -> [Field<'_>; 3]
     ]
 }
 
-/// The size of the method id and the fields of `Blocked`.
+/// The size in bytes of the method id and the fields of `Blocked`.
 #[tactic(auto)]
 pub fn size_blocked(method: &Blocked) -> Result<u64, GenError>
     ensures { Measures result (method_size (blocked_method method.now)) }
@@ -459,7 +468,7 @@ pub(super) fn unblocked_fields(_method: &Unblocked) -> [Field<'_>; 2]
     [Field::ShortUInt(10), Field::ShortUInt(61)]
 }
 
-/// The size of the method id and the fields of `Unblocked`.
+/// The size in bytes of the method id and the fields of `Unblocked`.
 #[tactic(auto)]
 pub fn size_unblocked(method: &Unblocked) -> Result<u64, GenError>
     ensures { Measures result (method_size (unblocked_method method.now)) }
@@ -487,7 +496,10 @@ pub fn gen_unblocked(_alloc: Global, out: &mut Vec<u8>, method: &Unblocked) -> R
 /// The client renews the secret that it proved itself by.
 #[derive(Debug, Drop, PartialEq)]
 pub struct UpdateSecret {
+    /// The new secret, in bytes that only the mechanism of the connection gives a meaning.
     pub new_secret: LongString,
+
+    /// The reason in words.
     pub reason: ShortString,
 }
 
@@ -550,7 +562,7 @@ pub(super) fn update_secret_fields(method: &UpdateSecret) -> [Field<'_>; 4]
     ]
 }
 
-/// The size of the method id and the fields of `UpdateSecret`.
+/// The size in bytes of the method id and the fields of `UpdateSecret`.
 #[tactic(auto)]
 pub fn size_update_secret(method: &UpdateSecret) -> Result<u64, GenError>
     ensures { Measures result (method_size (update_secret_method method.now)) }
@@ -618,7 +630,7 @@ pub(super) fn update_secret_ok_fields(_method: &UpdateSecretOk) -> [Field<'_>; 2
     [Field::ShortUInt(10), Field::ShortUInt(71)]
 }
 
-/// The size of the method id and the fields of `UpdateSecretOk`.
+/// The size in bytes of the method id and the fields of `UpdateSecretOk`.
 #[tactic(auto)]
 pub fn size_update_secret_ok(method: &UpdateSecretOk) -> Result<u64, GenError>
     ensures { Measures result (method_size (update_secret_ok_method method.now)) }

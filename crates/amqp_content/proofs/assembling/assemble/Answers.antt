@@ -1,3 +1,4 @@
+-- `assemble`: what loops keep.
 use Rattle.std.proofs.Common.{sym, ◌∙◌, subst, map, List, [], ◌∷◌, ◌++◌}
 use Rattle.amqp_frame.specs.Frames.{frame_of}
 use Rattle.amqp_content.specs.declared.outcome.Outcome.{Outcome}

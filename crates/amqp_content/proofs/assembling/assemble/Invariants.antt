@@ -1,3 +1,4 @@
+-- `assemble`: what loops keep.
 use Rattle.std.proofs.Common.{◌≡◌, [], map}
 use Rattle.amqp_frame.specs.Frames.{frame_of}
 use Rattle.amqp_content.specs.Outcomes.{outcome_of}

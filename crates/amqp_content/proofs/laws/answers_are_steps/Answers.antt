@@ -1,3 +1,4 @@
+-- `answers_are_steps`: clauses `frames` and `outlines`.
 use Rattle.amqp_frame.specs.Outlines.{outline_of}
 use Rattle.amqp_content.specs.Marks.{itself}
 use Rattle.amqp_content.proofs.Running.{answers_run, run_is_answers, stands_run, run_stands}

@@ -1,3 +1,4 @@
+-- `splits_are_whole`: what it ensures.
 use Rattle.amqp_content.proofs.Whole.{splits_whole}
 use Rattle.amqp_content.proofs.laws.splits_are_whole.Goals as goal
 

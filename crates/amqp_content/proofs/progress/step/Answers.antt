@@ -1,3 +1,4 @@
+-- `step`: clause `tracks`.
 use Rattle.std.proofs.Common.{rules}
 use Rattle.amqp_content.proofs.Tracking.{tracks_step}
 use Rattle.amqp_content.proofs.progress.step.Goals as goal

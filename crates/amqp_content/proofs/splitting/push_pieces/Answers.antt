@@ -1,3 +1,4 @@
+-- `push_pieces`: what it ensures and what loops keep.
 use Rattle.std.proofs.Common.{◌≡◌, ◌≤◌, ◌-◌, ◌++◌, drop, rules, ap, ◌∙◌, map, length, take, min, arith}
 use Rattle.std.proofs.lemmas.List.{map_push, take_rest}
 use Rattle.std.proofs.lemmas.Bool.Decides.{nat_tests}

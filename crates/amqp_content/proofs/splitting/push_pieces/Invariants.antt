@@ -1,3 +1,4 @@
+-- `push_pieces`: what loops keep and what falls with each iteration or call.
 use Rattle.std.proofs.Common.{◌≡◌, ◌++◌, length, map}
 use Rattle.amqp_frame.specs.Frames.{Body, frame_of}
 use Rattle.amqp_content.specs.Splits.{pieces}

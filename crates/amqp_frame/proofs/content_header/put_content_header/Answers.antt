@@ -1,3 +1,4 @@
+-- `put_content_header`: what it ensures.
 use Rattle.std.proofs.Common.{ℕ, List, subst}
 use Rattle.amqp_types.specs.Writing.{Puts}
 use Rattle.amqp_types.specs.SlotBytes.{slots_bytes}

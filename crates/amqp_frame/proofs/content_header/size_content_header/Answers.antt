@@ -1,3 +1,4 @@
+-- `size_content_header`: clause `size`.
 use Rattle.std.proofs.Common.{◌≡◌, Ok, sym, rules}
 use Rattle.amqp_types.specs.PropertyBytes.{properties_size}
 use Rattle.amqp_frame.specs.Frames.{header_of}

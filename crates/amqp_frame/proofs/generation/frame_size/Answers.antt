@@ -1,3 +1,4 @@
+-- `frame_size`: what it ensures.
 use Rattle.std.proofs.Common.{sym, ap, ◌∙◌}
 use Rattle.amqp_frame.specs.Frames.{frame_of}
 use Rattle.amqp_frame.specs.Canonical.{framed_size, size_of}

@@ -1,3 +1,4 @@
+-- `gen_frame`: what it ensures and what calls require.
 use Rattle.std.proofs.Common.{◌≡◌, ℕ, ◌++◌, ◌∙◌, ap, length, replicate, Ok, IsOk, refl, sym, subst, arith, rules}
 use Rattle.std.proofs.lemmas.List.{length-append, length-replicate}
 use Rattle.amqp_types.proofs.Puts.{appended}

@@ -1,3 +1,4 @@
+-- `put_around`: what it ensures.
 use Rattle.std.proofs.Common.{refl}
 use Rattle.amqp_frame.proofs.Sizes.{puts_around}
 use Rattle.amqp_frame.proofs.generation.put_around.Goals as goal

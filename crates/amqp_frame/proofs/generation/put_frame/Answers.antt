@@ -1,3 +1,4 @@
+-- `put_frame`: what it ensures and what calls require.
 use Rattle.std.proofs.Common.{◌≡◌, IsOk, length, ap, subst, arith}
 use Rattle.amqp_frame.specs.declared.frame.AMQPFrame.{AMQPFrame}
 use Rattle.amqp_frame.specs.Frames.{frame_of}

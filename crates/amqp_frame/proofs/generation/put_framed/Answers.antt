@@ -1,3 +1,4 @@
+-- `put_framed`: what it ensures and what calls require.
 use Rattle.std.proofs.Common.{arith}
 use Rattle.amqp_types.proofs.Puts.{puts-length}
 use Rattle.amqp_frame.proofs.Sizes.{framed_length}

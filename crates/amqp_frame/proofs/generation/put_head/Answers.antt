@@ -1,3 +1,4 @@
+-- `put_head`: what it ensures.
 use Rattle.amqp_frame.proofs.Sizes.{puts_head}
 use Rattle.amqp_frame.proofs.generation.put_head.Goals as goal
 

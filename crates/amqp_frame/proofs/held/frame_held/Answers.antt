@@ -1,3 +1,4 @@
+-- `frame_held`: what it ensures.
 use Rattle.amqp_frame.proofs.held.frame_held.Goals as goal
 
 pub returns-in-Header : goal.returns-in-Header

@@ -1,3 +1,4 @@
+-- `judge_as`: what it ensures.
 use Rattle.std.proofs.Common.{true, Ok, Err}
 use Rattle.amqp_types.specs.declared.errors.ParserError.TheVariants as errors
 use Rattle.amqp_frame.specs.declared.frame_type.AMQPFrameType.TheVariants as kinds

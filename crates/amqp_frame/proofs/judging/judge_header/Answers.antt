@@ -1,3 +1,4 @@
+-- `judge_header`: what it ensures.
 use Rattle.std.proofs.Common.{Err, sym, subst, arith}
 use Rattle.amqp_types.specs.ContentHeaders.{judge_content_header, content_header_bytes}
 use Rattle.amqp_types.specs.Tidiness.{is_tidy_content_header}

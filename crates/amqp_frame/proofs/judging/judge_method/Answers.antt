@@ -1,3 +1,4 @@
+-- `judge_method`: what it ensures.
 use Rattle.std.proofs.Common.{Err, sym, subst, arith}
 use Rattle.amqp_types.specs.Methods.{judge_payload, payload_bytes}
 use Rattle.amqp_types.specs.Tidiness.{is_tidy_payload}

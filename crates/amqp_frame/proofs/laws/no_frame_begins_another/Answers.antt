@@ -1,4 +1,5 @@
-use Rattle.amqp_frame.proofs.Rows.{no_frame_begins}
+-- `no_frame_begins_another`: what it ensures.
+use Rattle.amqp_frame.proofs.Sequences.{no_frame_begins}
 use Rattle.amqp_frame.proofs.laws.no_frame_begins_another.Goals as goal
 
 pub returns : goal.returns

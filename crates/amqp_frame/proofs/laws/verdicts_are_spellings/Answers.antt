@@ -1,4 +1,5 @@
-use Rattle.amqp_frame.proofs.Rows.{verdict_exact}
+-- `verdicts_are_spellings`: what it ensures.
+use Rattle.amqp_frame.proofs.Sequences.{verdict_exact}
 use Rattle.amqp_frame.proofs.laws.verdicts_are_spellings.Goals as goal
 
 pub returns : goal.returns

@@ -1,3 +1,4 @@
+-- `written_again`: what it ensures.
 use Rattle.amqp_frame.proofs.Strictness.{gives_itself}
 use Rattle.amqp_frame.proofs.laws.written_again.Goals as goal
 

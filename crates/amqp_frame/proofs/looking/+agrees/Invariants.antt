@@ -1,3 +1,4 @@
+-- `agrees`, which calls itself: what falls with each iteration or call.
 use Rattle.std.proofs.Common.{length}
 use Rattle.amqp_frame.proofs.looking.+agrees.Given as goal
 

@@ -1,3 +1,4 @@
+-- `outline_if_enough`: clause `whole`.
 use Rattle.std.proofs.Common.{refl, Some, ap, sym, subst, ◌∙◌, arith}
 use Rattle.std.specs.Prelude.{IsOk}
 use Rattle.amqp_frame.specs.Verdicts.{whole_as}

@@ -1,3 +1,4 @@
+-- `outline_whole`: what it ensures and what calls require.
 use Rattle.std.proofs.Common.{refl, ◌∙◌, arith}
 use Rattle.amqp_frame.specs.Verdicts.{whole_as}
 use Rattle.amqp_frame.proofs.Outlined.{enough_whole, outlined}

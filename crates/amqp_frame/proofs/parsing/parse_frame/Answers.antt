@@ -1,3 +1,4 @@
+-- `parse_frame`: clause `within`.
 use Rattle.std.proofs.Common.{arith}
 use Rattle.amqp_frame.proofs.Within.{frame_within}
 use Rattle.amqp_frame.proofs.parsing.parse_frame.Goals as goal

@@ -1,3 +1,4 @@
+-- `read_whole`: clauses `inside` and `within`.
 use Rattle.std.proofs.Common.{arith}
 use Rattle.amqp_frame.proofs.Within.{payload_within, payload_error}
 use Rattle.amqp_frame.proofs.parsing.read_whole.Goals as goal

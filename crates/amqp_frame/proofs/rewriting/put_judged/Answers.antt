@@ -1,3 +1,4 @@
+-- `put_judged`: clauses `puts` and `within` and what calls require.
 use Rattle.std.proofs.Common.{arith}
 use Rattle.amqp_types.specs.Methods.{judge_payload, payload_bytes}
 use Rattle.amqp_types.specs.ContentHeaders.{judge_content_header, content_header_bytes}

@@ -1,3 +1,4 @@
+-- `put_method`: what it ensures and what calls require.
 use Rattle.std.proofs.Common.{arith}
 use Rattle.amqp_types.specs.Methods.{judge_payload, payload_bytes}
 use Rattle.amqp_types.proofs.Puts.{puts-length}

@@ -1,3 +1,4 @@
+-- `canonicalize_lent`: clause `exact`.
 use Rattle.std.proofs.Common.{Ok, subst}
 use Rattle.amqp_types.specs.Levels.{plain}
 use Rattle.amqp_stream.specs.Canonicalizing.{AnswersExactly}

@@ -1,3 +1,4 @@
+-- `header_in`: clause `same`.
 use Rattle.amqp_lent.proofs.Standing.{header_whole}
 use Rattle.amqp_lent.proofs.frame.header_in.Goals as goal
 

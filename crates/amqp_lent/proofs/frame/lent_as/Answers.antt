@@ -1,3 +1,4 @@
+-- `lent_as`: clauses `same` and `within` and what calls require.
 use Rattle.std.proofs.Common.{[], length, sym, ap, subst, ◌∙◌, arith}
 use Rattle.std.specs.Prelude.{IsOk}
 use Rattle.amqp_frame.specs.declared.frame_type.AMQPFrameType.{AMQPFrameType}

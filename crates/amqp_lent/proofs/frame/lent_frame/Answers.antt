@@ -1,3 +1,4 @@
+-- `lent_frame`: clause `judged` and what calls require.
 use Rattle.std.proofs.Common.{◌∙◌}
 use Rattle.amqp_frame.specs.Frames.{raw_of}
 use Rattle.amqp_frame.specs.Verdicts.{whole}

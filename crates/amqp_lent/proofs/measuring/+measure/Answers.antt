@@ -1,12 +1,14 @@
+-- the calls of cycle `measure`: what they ensure, what loops keep, what falls with each iteration, what calls require and that no place or sum is out of range.
 use Rattle.std.proofs.Common.{rules, ◌≡◌, ◌-◌, List, ℕ, Bor, Option, None, length, drop, refl, sym, ap, subst, ◌∙◌, arith}
 use Rattle.amqp_types.specs.ValueJudging.{judge_array, judge_table, judge_value}
 use Rattle.amqp_types.proofs.Bytes.{IsBytes-drop}
 use Rattle.amqp_canonical.specs.Judgements.{layout_at}
-use Rattle.amqp_canonical.specs.Writes.{IsRead, used_of}
+use Rattle.amqp_canonical.specs.Writes.{IsRead}
 use Rattle.amqp_canonical.proofs.PutParts.{array_holds, array_inside, table_holds, table_inside}
 use Rattle.amqp_canonical.proofs.ReadParts.{none_read, tag_parts, unknown_read}
 use Rattle.amqp_lent.proofs.Sized.{EntriesSized, entries_sized_end, entries_sized_none, entry_length, entry_sized, plain_sized, value_sized, values_sized_end, values_sized_none}
 use Rattle.amqp_lent.proofs.measuring.+measure.Goals as goal
+use Rattle.amqp_types.specs.Tidiness.{used_by}
 
 pub size_value-returns-in-empty : goal.size_value-returns-in-empty
 size_value-returns-in-empty t c = absurd (none_read c.args.room c.args.i.now (omega (arith, c.in-empty.len_below)) c.requires.read)
@@ -108,7 +110,7 @@ pub size_values-size_value-total-requires : goal.size_values-size_value-total-re
 size_values-size_value-total-requires t c =
     let l = c.loop-start in
     let content = c.args.content.now in
-    let v = value_sized c.args.room content l.start (used_of (judge_value c.args.room (drop l.start content))) l.total (λ k. omega (arith, c.type_inv.content k)) c.loop-start-test.true (λ read. refl) l.invariant in
+    let v = value_sized c.args.room content l.start (used_by (judge_value c.args.room (drop l.start content))) l.total (λ k. omega (arith, c.type_inv.content k)) c.loop-start-test.true (λ read. refl) l.invariant in
     let P : List ℕ → Type 0 = λ bs. IsRead (judge_value c.args.room bs) in
     (search rules, subst P (sym c.bytes_from-item.ensures) v.read)
 
@@ -116,7 +118,7 @@ pub size_values-overflow_add-total : goal.size_values-overflow_add-total
 size_values-overflow_add-total t c =
     let l = c.loop-start in
     let content = c.args.content.now in
-    let v = value_sized c.args.room content l.start (used_of (judge_value c.args.room (drop l.start content))) l.total (λ k. omega (arith, c.type_inv.content k)) c.loop-start-test.true (λ read. refl) l.invariant in
+    let v = value_sized c.args.room content l.start (used_by (judge_value c.args.room (drop l.start content))) l.total (λ k. omega (arith, c.type_inv.content k)) c.loop-start-test.true (λ read. refl) l.invariant in
     let size = rw c.bytes_from-item.ensures at c.size_value-total.ensures in
     omega (arith, size, v.fits, c.requires.few)
 

@@ -1,3 +1,4 @@
+-- the calls of cycle `measure`: what loops keep and what falls with each iteration or call.
 use Rattle.std.proofs.Common.{◌+◌, ◌-◌, ◌*◌, length}
 use Rattle.amqp_lent.proofs.Sized.{ValuesSized, EntriesSized, table_of}
 use Rattle.amqp_lent.proofs.measuring.+measure.Given as goal

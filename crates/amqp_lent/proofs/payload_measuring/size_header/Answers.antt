@@ -1,3 +1,4 @@
+-- `size_header`: clauses `size` and `few`, what calls require and that no place or sum is out of range.
 use Rattle.std.proofs.Common.{length, ap, arith}
 use Rattle.amqp_frame.proofs.Rewritten.{header_shorter}
 use Rattle.amqp_lent.specs.Payloads.{header_payload}

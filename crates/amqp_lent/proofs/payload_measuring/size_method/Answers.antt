@@ -1,3 +1,4 @@
+-- `size_method`: clauses `size` and `few`, what calls require and that no place or sum is out of range.
 use Rattle.std.proofs.Common.{◌≡◌, List, Some, None, length, sym, ap, subst, ◌∙◌, arith}
 use Rattle.amqp_types.specs.Slots.{Slot}
 use Rattle.amqp_types.specs.SlotBytes.{slots_bytes}

@@ -1,3 +1,4 @@
+-- `header_parts`: clauses `same` and `as_many`.
 use Rattle.std.proofs.Common.{length, ap, arith}
 use Rattle.std.proofs.lemmas.List.{length-drop}
 use Rattle.amqp_lent.proofs.Parts.{header_again}

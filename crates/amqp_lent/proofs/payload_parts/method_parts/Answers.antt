@@ -1,3 +1,4 @@
+-- `method_parts`: what it ensures.
 use Rattle.std.proofs.Common.{arith}
 use Rattle.amqp_lent.proofs.Parts.{method_again}
 use Rattle.amqp_lent.proofs.payload_parts.method_parts.Goals as goal

@@ -1,3 +1,4 @@
+-- `short_at`: what it ensures.
 use Rattle.std.proofs.Common.{ℕ}
 use Rattle.amqp_types.specs.Numbers.{bytes2}
 use Rattle.amqp_lent.proofs.Parts.{number_here, number_took}

@@ -1,3 +1,4 @@
+-- `put_header`: what it ensures and what calls require.
 use Rattle.std.proofs.Common.{◌++◌, [], ◌∷◌, refl, sym, arith}
 use Rattle.amqp_types.specs.Numbers.{bytes2, bytes8, number_bytes}
 use Rattle.amqp_types.specs.PropertyBytes.{properties_bytes}

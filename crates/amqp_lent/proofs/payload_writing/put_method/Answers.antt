@@ -1,3 +1,4 @@
+-- `put_method`: what it ensures and what calls require.
 use Rattle.std.proofs.Common.{◌≡◌, ◌++◌, List, Some, None, length, refl, sym, ap, subst, ◌∙◌, arith}
 use Rattle.amqp_types.specs.Numbers.{bytes2, number_bytes}
 use Rattle.amqp_types.specs.Methods.{judge_payload, payload_bytes}

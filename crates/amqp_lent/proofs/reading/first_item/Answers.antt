@@ -1,18 +1,20 @@
+-- `first_item`: clauses `first` and `left` and what calls require.
 use Rattle.std.proofs.Common.{◌≡◌, List, ℕ, Some, None, refl, sym, subst, ◌∙◌, arith}
 use Rattle.amqp_types.specs.Values.{FieldValue}
 use Rattle.amqp_types.specs.ValueJudging.{filled, judge_value}
-use Rattle.amqp_canonical.specs.Writes.{IsFilled, used_of}
+use Rattle.amqp_canonical.specs.Writes.{IsFilled}
 use Rattle.amqp_lent.specs.Finding.{StartsWith}
 use Rattle.amqp_lent.specs.Views.{value_of}
 use Rattle.amqp_lent.proofs.Rereading.{item_here, no_item}
 use Rattle.amqp_lent.proofs.reading.first_item.Goals as goal
+use Rattle.amqp_types.specs.Tidiness.{used_by}
 
 pub returns-in-empty-clause-first : goal.returns-in-empty-clause-first
 returns-in-empty-clause-first c = no_item c.args.room c.args.content.now (omega (arith, c.in-empty.len_below))
 
 pub value_in-requires : goal.value_in-requires
 value_in-requires c =
-    let h = item_here c.args.room c.args.content.now (used_of (judge_value c.args.room c.args.content.now)) (λ k. omega (arith, c.type_inv.content k)) (omega (arith, c.in-len1-up.len_at_least)) c.requires.read (λ read. refl) in
+    let h = item_here c.args.room c.args.content.now (used_by (judge_value c.args.room c.args.content.now)) (λ k. omega (arith, c.type_inv.content k)) (omega (arith, c.in-len1-up.len_at_least)) c.requires.read (λ read. refl) in
     record { read = h.read }
 
 pub returns-in-Some-clause-left : goal.returns-in-Some-clause-left
@@ -33,6 +35,6 @@ returns-in-Some-clause-first c =
 
 pub returns-in-None-clause-first : goal.returns-in-None-clause-first
 returns-in-None-clause-first c =
-    let h = item_here c.args.room c.args.content.now (used_of (judge_value c.args.room c.args.content.now)) (λ k. omega (arith, c.type_inv.content k)) (omega (arith, c.in-len1-up.len_at_least)) c.requires.read (λ read. refl) in
+    let h = item_here c.args.room c.args.content.now (used_by (judge_value c.args.room c.args.content.now)) (λ k. omega (arith, c.type_inv.content k)) (omega (arith, c.in-len1-up.len_at_least)) c.requires.read (λ read. refl) in
     let e : None ≡ Some h.value = c.in-None.ensures ∙ sym h.is in
     absurd cc

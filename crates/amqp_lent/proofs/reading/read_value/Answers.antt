@@ -1,3 +1,4 @@
+-- `read_value`: clause `judged` and what calls require.
 use Rattle.std.proofs.Common.{List, ℕ, sym, subst, ◌∙◌, arith}
 use Rattle.amqp_types.specs.ValueJudging.{judge_behind, nested}
 use Rattle.amqp_canonical.specs.Writes.{IsRead}

@@ -1,3 +1,4 @@
+-- `size_form`: what it ensures and what calls require.
 use Rattle.std.proofs.Common.{length, sym, ap, ◌∙◌, arith}
 use Rattle.amqp_types.specs.ValueBytes.{table_bytes}
 use Rattle.amqp_types.specs.ValueJudging.{judge_field_table}

@@ -1,3 +1,4 @@
+-- `size_properties`: what it ensures, what calls require and that no place or sum is out of range.
 use Rattle.std.proofs.Common.{List, ℕ, length, sym, ap, subst, arith}
 use Rattle.amqp_types.specs.Properties.{properties}
 use Rattle.amqp_types.specs.PropertyJudging.{judge_set}

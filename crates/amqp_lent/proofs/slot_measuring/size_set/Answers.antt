@@ -1,13 +1,14 @@
+-- `size_set`: what it ensures, what loops keep, what calls require and that no place or sum is out of range.
 use Rattle.std.proofs.Common.{refl, ◌+◌, ℕ, List, get_or, sym, ap, subst, ◌∙◌, arith}
 use Rattle.amqp_types.specs.SlotJudging.{judge_form}
 use Rattle.amqp_canonical.specs.declared.shapes.Shape.{Shape}
 use Rattle.amqp_canonical.specs.declared.shapes.Shape.TheVariants as shapes
 use Rattle.amqp_canonical.specs.Shapes.{form_of, property_of}
-use Rattle.amqp_canonical.specs.Writes.{used_of}
 use Rattle.amqp_canonical.proofs.PayloadParts.{properties_all, property_from}
 use Rattle.amqp_lent.proofs.SlotsSized.{SetSized, property_missing, property_sized, set_sized_end, set_sized_none}
 use Rattle.amqp_lent.proofs.slot_measuring.size_set.Goals as goal
 use Rattle.amqp_lent.proofs.slot_measuring.size_set.Goals.{then-has_bit, else-has_bit}
+use Rattle.amqp_types.specs.Tidiness.{used_by}
 
 pub loop-shape-init : goal.loop-shape-init
 loop-shape-init c = set_sized_none c.args.mask c.args.i.now (λ k. omega (arith, c.type_inv.i k)) c.requires.read
@@ -20,7 +21,7 @@ size_form-total-requires c =
     let shape = get_or ps l.shape-index other in
     let p = property_of shape in
     let is = property_from ps l.shape-index other c.property_shapes-shapes.ensures c.loop-shape-test.true in
-    let here = property_sized c.args.mask p c.args.i.now l.rest.now l.shape-index (used_of (judge_form (form_of shape.1) l.rest.now)) l.total is (sym c.has_bit.ensures ∙ c.if-has_bit.true) (λ read. refl) l.invariant in
+    let here = property_sized c.args.mask p c.args.i.now l.rest.now l.shape-index (used_by (judge_form (form_of shape.1) l.rest.now)) l.total is (sym c.has_bit.ensures ∙ c.if-has_bit.true) (λ read. refl) l.invariant in
     record { read = here.read }
 
 pub overflow_add-total : goal.overflow_add-total
@@ -31,7 +32,7 @@ overflow_add-total c =
     let shape = get_or ps l.shape-index other in
     let p = property_of shape in
     let is = property_from ps l.shape-index other c.property_shapes-shapes.ensures c.loop-shape-test.true in
-    let here = property_sized c.args.mask p c.args.i.now l.rest.now l.shape-index (used_of (judge_form (form_of shape.1) l.rest.now)) l.total is (sym c.has_bit.ensures ∙ c.if-has_bit.true) (λ read. refl) l.invariant in
+    let here = property_sized c.args.mask p c.args.i.now l.rest.now l.shape-index (used_by (judge_form (form_of shape.1) l.rest.now)) l.total is (sym c.has_bit.ensures ∙ c.if-has_bit.true) (λ read. refl) l.invariant in
     omega (arith, here.within, c.size_form-total.ensures, c.requires.few)
 
 pub loop-shape-preserved : goal.loop-shape-preserved

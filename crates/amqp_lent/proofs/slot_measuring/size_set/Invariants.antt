@@ -1,3 +1,4 @@
+-- `size_set`: what loops keep.
 use Rattle.amqp_lent.proofs.SlotsSized.{SetSized}
 use Rattle.amqp_lent.proofs.slot_measuring.size_set.Given as goal
 

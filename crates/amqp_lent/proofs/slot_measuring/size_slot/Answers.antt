@@ -1,3 +1,4 @@
+-- `size_slot`: what it ensures and what calls require.
 use Rattle.std.proofs.Common.{◌∷◌, [], length, sym, ap, ◌∙◌}
 use Rattle.amqp_types.specs.Numbers.{bytes2, bytes4, number_bytes}
 use Rattle.amqp_canonical.specs.declared.shapes.Shape.TheVariants as shapes

@@ -1,12 +1,13 @@
+-- `size_slots`: what it ensures, what loops keep, what calls require and that no place or sum is out of range.
 use Rattle.std.proofs.Common.{ℕ, ◌+◌, refl, List, get_or, sym, subst, arith}
 use Rattle.std.proofs.lemmas.List.{length-map}
 use Rattle.amqp_types.specs.SlotJudging.{judge_slot}
 use Rattle.amqp_canonical.specs.declared.shapes.Shape.TheVariants as shapes
 use Rattle.amqp_canonical.specs.Shapes.{slot_of, slots_of}
-use Rattle.amqp_canonical.specs.Writes.{used_of}
 use Rattle.amqp_canonical.proofs.SlotParts.{slot_sized as sized_slot, slots_from}
 use Rattle.amqp_lent.proofs.SlotsSized.{SlotsSized, slot_sized, slots_sized_end, slots_sized_none}
 use Rattle.amqp_lent.proofs.slot_measuring.size_slots.Goals as goal
+use Rattle.amqp_types.specs.Tidiness.{used_by}
 
 pub loop-shape-init : goal.loop-shape-init
 loop-shape-init c = slots_sized_none (slots_of c.args.shapes.now) c.args.i.now (λ k. omega (arith, c.type_inv.i k)) c.requires.read
@@ -15,14 +16,14 @@ pub size_slot-total-requires : goal.size_slot-total-requires
 size_slot-total-requires c =
     let l = c.loop-shape in
     let slot = slot_of (get_or c.args.shapes.now l.shape-index shapes.Octet) in
-    let here = slot_sized (slots_of c.args.shapes.now) slot c.args.i.now l.rest.now l.shape-index (used_of (judge_slot slot l.rest.now)) l.total (slots_from c.args.shapes.now l.shape-index shapes.Octet c.loop-shape-test.true) (λ read. refl) l.invariant in
+    let here = slot_sized (slots_of c.args.shapes.now) slot c.args.i.now l.rest.now l.shape-index (used_by (judge_slot slot l.rest.now)) l.total (slots_from c.args.shapes.now l.shape-index shapes.Octet c.loop-shape-test.true) (λ read. refl) l.invariant in
     record { read = here.read }
 
 pub overflow_add-total : goal.overflow_add-total
 overflow_add-total c =
     let l = c.loop-shape in
     let slot = slot_of (get_or c.args.shapes.now l.shape-index shapes.Octet) in
-    let here = slot_sized (slots_of c.args.shapes.now) slot c.args.i.now l.rest.now l.shape-index (used_of (judge_slot slot l.rest.now)) l.total (slots_from c.args.shapes.now l.shape-index shapes.Octet c.loop-shape-test.true) (λ read. refl) l.invariant in
+    let here = slot_sized (slots_of c.args.shapes.now) slot c.args.i.now l.rest.now l.shape-index (used_by (judge_slot slot l.rest.now)) l.total (slots_from c.args.shapes.now l.shape-index shapes.Octet c.loop-shape-test.true) (λ read. refl) l.invariant in
     omega (arith, here.within, c.size_slot-total.ensures, c.requires.few)
 
 pub loop-shape-preserved : goal.loop-shape-preserved

@@ -1,3 +1,4 @@
+-- `size_slots`: what loops keep.
 use Rattle.amqp_canonical.specs.Shapes.{slots_of}
 use Rattle.amqp_lent.proofs.SlotsSized.{SlotsSized}
 use Rattle.amqp_lent.proofs.slot_measuring.size_slots.Given as goal

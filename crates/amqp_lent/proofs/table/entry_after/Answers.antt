@@ -1,3 +1,4 @@
+-- `entry_after`: what it ensures.
 use Rattle.std.proofs.Common.{option_map, List, ℕ, Bor, ap, ◌∙◌}
 use Rattle.amqp_types.specs.ValueJudging.{judge_entry, judge_value}
 use Rattle.amqp_canonical.specs.Marks.{entries_in}

@@ -1,3 +1,4 @@
+-- `last_entry`: what it ensures and what loops keep.
 use Rattle.std.proofs.Common.{◌+◌, ℕ, Option, drop, refl, sym, subst, ◌∙◌, arith}
 use Rattle.std.proofs.lemmas.Bool.{false≢true}
 use Rattle.amqp_canonical.specs.Writes.{key_in}

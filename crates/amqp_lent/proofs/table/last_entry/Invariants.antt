@@ -1,3 +1,4 @@
+-- `last_entry`: what loops keep and what falls with each iteration or call.
 use Rattle.std.proofs.Common.{◌-◌, ℕ, length}
 use Rattle.amqp_canonical.specs.Marks.{AreEntries}
 use Rattle.amqp_lent.proofs.Finding.{LastTo}

@@ -1,3 +1,4 @@
+-- `lent_size`: what it ensures, what calls require and that no place or sum is out of range.
 use Rattle.std.proofs.Common.{◌<◌, ◌^◌, length, ap, subst, arith}
 use Rattle.amqp_types.specs.Methods.{judge_payload, payload_bytes}
 use Rattle.amqp_types.specs.ContentHeaders.{judge_content_header, content_header_bytes}

@@ -1,3 +1,4 @@
+-- `put_header_frame`: what it ensures and what calls require.
 use Rattle.std.proofs.Common.{arith}
 use Rattle.amqp_types.specs.ContentHeaders.{judge_content_header, content_header_bytes}
 use Rattle.amqp_types.proofs.Puts.{puts-length}

@@ -1,3 +1,4 @@
+-- `put_lent`: what it ensures and what calls require.
 use Rattle.std.proofs.Common.{◌<◌, ◌^◌, length, ap, subst, ◌∙◌, arith}
 use Rattle.amqp_lent.specs.declared.frame.LentFrame.{LentFrame}
 use Rattle.amqp_lent.specs.Frames.{StandsFor, payload_of}

@@ -1,3 +1,4 @@
+-- `parse_number`: what it ensures.
 use Rattle.std.proofs.Common.{sym, ap, ◌∙◌, arith}
 use Rattle.std.proofs.lemmas.Bool.Decides.{nat_tests}
 use Rattle.amqp_program.proofs.Numerals.{number_read, named_padded, named_read}

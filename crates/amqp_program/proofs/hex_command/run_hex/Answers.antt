@@ -1,3 +1,4 @@
+-- `run_hex`: clause `report`.
 use Rattle.amqp_program.proofs.HexRuns.{hex_read_fault, hex_too_long, hex_no_memory}
 use Rattle.amqp_program.proofs.hex_command.run_hex.Goals as goal
 

@@ -1,3 +1,4 @@
+-- `count_read`: what it ensures.
 use Rattle.std.proofs.Common.{arith}
 use Rattle.std.proofs.lemmas.Bool.Decides.{nat_tests}
 use Rattle.amqp_stream.proofs.MadeSizes.{made-length}

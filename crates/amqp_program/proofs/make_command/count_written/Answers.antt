@@ -1,3 +1,4 @@
+-- `count_written`: what calls require and that no place or sum is out of range.
 use Rattle.std.proofs.Common.{◌+◌, arith, rules}
 use Rattle.amqp_stream.proofs.MadeSizes.{made-short}
 use Rattle.amqp_program.proofs.MakeRuns.{made_or_no_memory, no_other_error}

@@ -1,3 +1,4 @@
+-- `canonical`: clause `answer`.
 use Rattle.std.proofs.Common.{rules}
 use Rattle.amqp_program.proofs.HexRuns.{answered}
 use Rattle.amqp_program.proofs.report.canonical.Goals as goal

@@ -1,3 +1,4 @@
+-- `run`: clauses `usage` and `nothing` and what calls require.
 use Rattle.std.proofs.Common.{◌≡◌, Some, sym, ◌∙◌, rules}
 use Rattle.amqp_program.specs.declared.command.Command.TheVariants as commands
 use Rattle.amqp_select.specs.Refusals.{texts_of}

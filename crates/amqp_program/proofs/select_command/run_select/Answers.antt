@@ -1,3 +1,4 @@
+-- `run_select`: what it ensures.
 use Rattle.std.proofs.Common.{refl, sym, subst, arith}
 use Rattle.amqp_select.specs.Refusals.{texts_of}
 use Rattle.amqp_program.proofs.Selections.{IsRefusal, refused_spell_none}

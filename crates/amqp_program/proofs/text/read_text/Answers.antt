@@ -1,3 +1,4 @@
+-- `read_text`: what it ensures and what loops keep.
 use Rattle.std.proofs.Common.{arith}
 use Rattle.std.proofs.lemmas.Grind.{common_steps}
 use Rattle.std.proofs.lemmas.List.{length-take-le, nil_from_length}

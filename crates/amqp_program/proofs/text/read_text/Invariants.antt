@@ -1,3 +1,4 @@
+-- `read_text`: what loops keep and what falls with each iteration or call.
 use Rattle.std.proofs.Common.{◌≡◌, ◌-◌, length}
 use Rattle.amqp_program.specs.Texts.{longest}
 use Rattle.amqp_program.proofs.TextReading.{ReadSoFar}

@@ -1,3 +1,4 @@
+-- `equal_properties`: what it ensures.
 use Rattle.amqp_properties.proofs.Equality.{all_equal-decides}
 use Rattle.amqp_properties.proofs.equality_laws.equal_properties.Goals as goal
 

@@ -1,3 +1,4 @@
+-- `properties_fields`: what it ensures.
 use Rattle.std.proofs.Common.{rules}
 use Rattle.amqp_types.specs.Properties.{properties, later_properties}
 use Rattle.amqp_types.specs.PropertyBytes.{set_bytes, properties_bytes, properties_size, any_deep_option, any_long_option}

@@ -1,3 +1,4 @@
+-- `properties_held`: what it ensures.
 use Rattle.amqp_properties.proofs.Holding.{options_held}
 use Rattle.amqp_properties.proofs.held_properties.properties_held.Goals as goal
 

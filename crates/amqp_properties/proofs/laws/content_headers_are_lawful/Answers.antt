@@ -1,3 +1,4 @@
+-- `content_headers_are_lawful`: what it ensures.
 use Rattle.amqp_properties.proofs.HeaderLaws.{content_headers_lawful}
 use Rattle.amqp_properties.proofs.laws.content_headers_are_lawful.Goals as goal
 

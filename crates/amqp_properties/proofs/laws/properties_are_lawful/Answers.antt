@@ -1,3 +1,4 @@
+-- `properties_are_lawful`: what it ensures.
 use Rattle.amqp_properties.proofs.PropertyLaws.{properties_lawful}
 use Rattle.amqp_properties.proofs.laws.properties_are_lawful.Goals as goal
 

@@ -1,3 +1,4 @@
+-- `sets_are_lawful`: what it ensures.
 use Rattle.amqp_properties.proofs.Options.{sets_lawful}
 use Rattle.amqp_properties.proofs.laws.sets_are_lawful.Goals as goal
 

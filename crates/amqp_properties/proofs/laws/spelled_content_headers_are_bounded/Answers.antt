@@ -1,3 +1,4 @@
+-- `spelled_content_headers_are_bounded`: what it ensures.
 use Rattle.amqp_properties.proofs.HeaderLaws.{content_headers_bounded}
 use Rattle.amqp_properties.proofs.laws.spelled_content_headers_are_bounded.Goals as goal
 

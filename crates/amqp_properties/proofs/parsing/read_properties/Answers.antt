@@ -1,3 +1,4 @@
+-- `read_properties`: clause `step`.
 use Rattle.std.proofs.Common.{arith}
 use Rattle.std.proofs.lemmas.Grind.{common_steps}
 use Rattle.amqp_types.specs.Answers.{Refuses}

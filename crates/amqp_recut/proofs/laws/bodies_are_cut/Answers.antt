@@ -1,3 +1,4 @@
+-- `bodies_are_cut`: clauses `cut` and `stay`.
 use Rattle.amqp_recut.proofs.LawsOnce.{bodies_are_cut}
 use Rattle.amqp_recut.proofs.LawsAgain.{cut_bodies_stay}
 use Rattle.amqp_recut.proofs.laws.bodies_are_cut.Goals as goal

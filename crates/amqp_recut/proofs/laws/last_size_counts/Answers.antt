@@ -1,3 +1,4 @@
+-- `last_size_counts`: clauses `twice` and `last`.
 use Rattle.amqp_recut.proofs.LawsAgain.{twice_is_once, last_size_counts}
 use Rattle.amqp_recut.proofs.laws.last_size_counts.Goals as goal
 

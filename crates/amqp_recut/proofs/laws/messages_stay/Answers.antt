@@ -1,3 +1,4 @@
+-- `messages_stay`: clauses `turn` and `messages`.
 use Rattle.amqp_recut.proofs.LawsOnce.{stays_in_turn, messages_stay}
 use Rattle.amqp_recut.proofs.laws.messages_stay.Goals as goal
 

@@ -1,3 +1,4 @@
+-- `last_of`: what it ensures.
 use Rattle.std.proofs.Common.{◌++◌, List, ℕ, ap₂, refl, ◌∙◌}
 use Rattle.amqp_recut.proofs.Piecing.{last_parts}
 use Rattle.amqp_recut.proofs.pieces.last_of.Goals as goal

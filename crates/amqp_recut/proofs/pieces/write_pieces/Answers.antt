@@ -1,3 +1,4 @@
+-- `write_pieces`: clause `gathers` and what loops keep.
 use Rattle.std.proofs.Common.{[], ◌++◌, refl, ◌∙◌, ◌-◌, arith, length}
 use Rattle.std.proofs.lemmas.List.{length-append}
 use Rattle.amqp_recut.proofs.Gathering.{gathered_none}

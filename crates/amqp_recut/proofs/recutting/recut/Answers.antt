@@ -1,3 +1,4 @@
+-- `recut`: clauses `stream`, `never_untidy`, `never_too_large`, `never_faulted`, `exact` and `complete`.
 use Rattle.std.proofs.Common.{refl}
 use Rattle.amqp_recut.proofs.Streams.{recuts_stream, recuts_exactly, never_untidy, fresh, welcome, done_or_memory}
 use Rattle.amqp_recut.proofs.recutting.recut.Goals as goal

@@ -1,3 +1,4 @@
+-- `number_of`: what it ensures.
 use Rattle.std.proofs.Common.{sym, ◌∙◌}
 use Rattle.std.proofs.lemmas.Str.Parse.{parse_digits}
 use Rattle.amqp_select.proofs.Numerals.{numerals, named_padded, named_as_read, text_of_digits}

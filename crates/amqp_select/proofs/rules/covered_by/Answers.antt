@@ -1,3 +1,4 @@
+-- `covered_by`: what it ensures.
 use Rattle.std.proofs.Common.{sym, ◌∙◌}
 use Rattle.amqp_select.proofs.Uncovered.{covered_at}
 use Rattle.amqp_select.proofs.rules.covered_by.Goals as goal

@@ -1,3 +1,4 @@
+-- `parse_rules`: what it ensures and what loops keep.
 use Rattle.std.proofs.Common.{sym, ap, ◌∙◌, arith}
 use Rattle.amqp_select.specs.Reading.{read_rule}
 use Rattle.amqp_select.proofs.Reading.{spelled_more, first_malformed}

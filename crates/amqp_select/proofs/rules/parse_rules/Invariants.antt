@@ -1,3 +1,4 @@
+-- `parse_rules`: what loops keep.
 use Rattle.std.proofs.Common.{take}
 use Rattle.amqp_select.specs.Refusals.{texts_of}
 use Rattle.amqp_select.proofs.Reading.{SpelledBy}

@@ -1,3 +1,4 @@
+-- `why_refused`: what it ensures and what loops keep.
 use Rattle.std.proofs.Common.{[], ◌∷◌, ◌++◌, sym, ap, ◌∙◌}
 use Rattle.amqp_select.specs.Reading.{read_rule}
 use Rattle.amqp_select.proofs.Reading.{none_spelled, spelled_more, first_malformed, all_spelled}

@@ -1,3 +1,4 @@
+-- `why_refused`: what loops keep.
 use Rattle.std.proofs.Common.{List, take}
 use Rattle.amqp_select.specs.declared.rule.Rule.{Rule}
 use Rattle.amqp_select.specs.Refusals.{texts_of}

@@ -1,3 +1,4 @@
+-- `without_covered`: what loops keep.
 use Rattle.std.proofs.Common.{sym, ap, ◌∙◌}
 use Rattle.std.specs.Prelude.{is_some}
 use Rattle.amqp_select.proofs.Uncovered.{taken_on, passed_on}

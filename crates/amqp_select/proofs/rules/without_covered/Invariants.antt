@@ -1,3 +1,4 @@
+-- `without_covered`: what loops keep.
 use Rattle.std.proofs.Common.{◌≡◌, ◌++◌}
 use Rattle.amqp_select.specs.Covering.{uncovered}
 use Rattle.amqp_select.proofs.Uncovered.{uncovered_from}

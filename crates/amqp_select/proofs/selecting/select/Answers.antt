@@ -1,3 +1,4 @@
+-- `select`: clauses `stream` and `exact`.
 use Rattle.std.proofs.Common.{sym, ◌∙◌}
 use Rattle.amqp_stream.proofs.Transcribing.{transcribes_exactly}
 use Rattle.amqp_select.proofs.Selected.{all_exact, all_stream, selects, selects_stream}

@@ -1,3 +1,4 @@
+-- `held_of`: clause `bytes`.
 use Rattle.std.proofs.Common.{arith}
 use Rattle.amqp_types.proofs.Bytes.{IsBytes-take, IsBytes-drop}
 use Rattle.amqp_stream.proofs.buffer.held_of.Goals as goal

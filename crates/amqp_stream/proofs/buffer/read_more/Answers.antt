@@ -1,3 +1,4 @@
+-- `read_more`: clause `reads`.
 use Rattle.std.proofs.Common.{◌-◌, length, take, refl, sym, ap, ◌∙◌, ◌++◌, List, [], ℕ, append-nil, arith}
 use Rattle.std.proofs.lemmas.List.{length-take-le}
 use Rattle.std.proofs.Math.Facts.{Fits-lt-pow}

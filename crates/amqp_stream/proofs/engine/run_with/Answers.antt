@@ -1,3 +1,4 @@
+-- `run_with`: clauses `stream`, `spent` and `unwritten`, what loops keep, what falls with each iteration and what calls require.
 use Rattle.std.proofs.Common.{refl, ap, arith}
 use Rattle.amqp_stream.proofs.Turning.{first_turn, ends_at_fault, frame_has_room, ends_at_frame, frame_shortens, turn_after_frame, ends_unflushed, ends_spent, ends_unread, ends_at_end, turn_after_read, all_left, no_fault, no_frame}
 use Rattle.amqp_stream.proofs.engine.run_with.Goals as goal

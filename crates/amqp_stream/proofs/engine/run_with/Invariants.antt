@@ -1,3 +1,4 @@
+-- `run_with`: what loops keep and what falls with each iteration or call.
 use Rattle.std.proofs.Common.{◌≡◌, ◌+◌, ◌*◌, [], length}
 use Rattle.amqp_stream.proofs.Turning.{Turn}
 use Rattle.amqp_stream.proofs.engine.run_with.Given as goal

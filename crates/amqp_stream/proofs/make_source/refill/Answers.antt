@@ -1,3 +1,4 @@
+-- `refill`: clauses `making`, `same` and `some`.
 use Rattle.std.proofs.Common.{arith}
 use Rattle.amqp_stream.proofs.MadeSizes.{made_frame-some}
 use Rattle.amqp_stream.proofs.Giving.{refilled_making, refilled_same}

@@ -1,3 +1,4 @@
+-- `write_all`: what it ensures and what loops keep.
 use Rattle.std.proofs.Common.{arith}
 use Rattle.amqp_stream.proofs.Writes.{Gains-more, WritesAll-fault}
 use Rattle.amqp_stream.proofs.output.write_all.Goals as goal

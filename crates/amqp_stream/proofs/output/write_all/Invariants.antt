@@ -1,3 +1,4 @@
+-- `write_all`: what loops keep and what falls with each iteration or call.
 use Rattle.std.proofs.Common.{◌≤◌, ◌-◌, length, take}
 use Rattle.amqp_stream.specs.Ends.{Gains}
 use Rattle.amqp_stream.proofs.output.write_all.Given as goal

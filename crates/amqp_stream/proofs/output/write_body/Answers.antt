@@ -1,3 +1,4 @@
+-- `write_body`: clause `gathers`.
 use Rattle.std.proofs.Common.{[], ◌∷◌, ◌++◌, length, ap, ◌∙◌, append_assoc, List, ℕ}
 use Rattle.amqp_frame.specs.Spelling.{head}
 use Rattle.amqp_stream.proofs.Writes.{WritesAll-then, gather_fails, all_but}

@@ -1,3 +1,4 @@
+-- `put_after`: clause `front`.
 use Rattle.amqp_stream.proofs.Putting.{put_front}
 use Rattle.amqp_stream.proofs.output_buffer.put_after.Goals as goal
 

@@ -1,3 +1,4 @@
+-- `put_raw_after`: clause `adds`.
 use Rattle.std.proofs.Common.{length}
 use Rattle.amqp_stream.proofs.Putting.{rewritten_after}
 use Rattle.amqp_stream.proofs.output_buffer.put_raw_after.Goals as goal

@@ -1,3 +1,4 @@
+-- `dump`: clauses `stream` and `exact`.
 use Rattle.amqp_text.proofs.Dumps.{dumps_stream, dumps_exactly}
 use Rattle.amqp_text.proofs.dumping.dump.Goals as goal
 

@@ -1,3 +1,4 @@
+-- `line_of`: clause `line`.
 use Rattle.std.proofs.Common.{List, ℕ, ◌++◌, ap, ◌∙◌}
 use Rattle.amqp_frame.specs.Frames.{frame_of}
 use Rattle.amqp_text.specs.Lines.{line}

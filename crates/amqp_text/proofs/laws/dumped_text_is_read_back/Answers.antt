@@ -1,3 +1,4 @@
+-- `dumped_text_is_read_back`: what it ensures.
 use Rattle.amqp_text.proofs.TextLaws.{dumped_back}
 use Rattle.amqp_text.proofs.laws.dumped_text_is_read_back.Goals as goal
 

@@ -1,3 +1,4 @@
+-- `one_longest_text`: what it ensures.
 use Rattle.amqp_text.proofs.TextLaws.{one_longest}
 use Rattle.amqp_text.proofs.laws.one_longest_text.Goals as goal
 

@@ -1,3 +1,4 @@
+-- `strict_frames_are_usual`: what it ensures.
 use Rattle.amqp_text.proofs.TextLaws.{strict_is_usual}
 use Rattle.amqp_text.proofs.laws.strict_frames_are_usual.Goals as goal
 

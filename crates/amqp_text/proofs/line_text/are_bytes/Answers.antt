@@ -1,3 +1,4 @@
+-- `are_bytes`: what it ensures.
 use Rattle.std.proofs.Common.{arith}
 use Rattle.amqp_text.proofs.line_text.are_bytes.Goals as goal
 

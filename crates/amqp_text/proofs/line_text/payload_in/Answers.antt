@@ -1,3 +1,4 @@
+-- `payload_in`: what it ensures.
 use Rattle.amqp_text.proofs.Borrowed.{payload_framed, payload_version}
 use Rattle.amqp_text.proofs.line_text.payload_in.Goals as goal
 

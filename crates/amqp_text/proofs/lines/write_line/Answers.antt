@@ -1,3 +1,4 @@
+-- `write_line`: what it ensures.
 use Rattle.std.proofs.Common.{List, ◌∷◌, [], ◌++◌, ℕ, ap, ◌∙◌, append_assoc}
 use Rattle.amqp_text.specs.Lines.{line, words}
 use Rattle.amqp_text.proofs.lines.write_line.Goals as goal

@@ -1,3 +1,4 @@
+-- `write_version`: what it ensures.
 use Rattle.amqp_text.proofs.Lining.{version_said}
 use Rattle.amqp_text.proofs.lines.write_version.Goals as goal
 

@@ -1,3 +1,4 @@
+-- `write_words`: what it ensures.
 use Rattle.amqp_text.proofs.Lining.{method_by, header_by, beat_by}
 use Rattle.amqp_text.proofs.lines.write_words.Goals as goal
 

@@ -1,7 +1,8 @@
+-- `write_set`, which calls itself: what they ensure.
 use Rattle.std.proofs.Common.{◌≡◌, true, false, sym, ◌∙◌, arith}
 use Rattle.std.proofs.lemmas.List.{take_rest}
 use Rattle.amqp_canonical.specs.declared.shapes.Shape.TheVariants as shapes
-use Rattle.amqp_text.proofs.ToldSlots.{option_told, option_past}
+use Rattle.amqp_text.proofs.RenderedSlots.{option_rendered, option_past}
 use Rattle.amqp_text.proofs.slots.+write_set.Goals as goal
 
 pub returns-then-not-has_bit : goal.returns-then-not-has_bit
@@ -14,5 +15,5 @@ pub returns-in_ok-used-in-len1-up : goal.returns-in_ok-used-in-len1-up
 returns-in_ok-used-in-len1-up t c =
     let on : c.has_bit.result ≡ true = grind arith in
     let others = rw take_rest at c.write_set-in-len1-up.ensures in
-    option_told c.args.mask c.args.shapes.now (0, shapes.Octet) c.args.i.now c.bytes_from.result.now c.args.out.now.items c.write_name.new.out.items c.write_form.new.out.items c.write_set-in-len1-up.new.out.items c.in_ok-used-in-len1-up.used c.write_set-in-len1-up.result
+    option_rendered c.args.mask c.args.shapes.now (0, shapes.Octet) c.args.i.now c.bytes_from.result.now c.args.out.now.items c.write_name.new.out.items c.write_form.new.out.items c.write_set-in-len1-up.new.out.items c.in_ok-used-in-len1-up.used c.write_set-in-len1-up.result
     c.in-len1-up.len_at_least (sym c.has_bit.ensures ∙ on) c.in_ok-write_name-in-len1-up.ensures c.in_ok-used-in-len1-up.ensures c.bytes_from.ensures others

@@ -1,3 +1,4 @@
+-- `gather_lines`: what it ensures, what loops keep and what falls with each iteration.
 use Rattle.std.proofs.Common.{length, ap, refl, arith}
 use Rattle.std.proofs.lemmas.List.{length-drop}
 use Rattle.amqp_text.proofs.Gathering.{along_begins, along_line, lines_done, lines_error, none_yet}

@@ -1,3 +1,4 @@
+-- `line_end`: what loops keep and what falls with each iteration or call.
 use Rattle.std.proofs.Common.{◌-◌, ◌≤◌, length, take}
 use Rattle.amqp_text.specs.LineReading.{HasNoNewline}
 use Rattle.amqp_text.proofs.undumping.line_end.Given as goal

@@ -1,6 +1,7 @@
+-- `run`: clause `stream` and what loops keep.
 use Rattle.std.proofs.Common.{ap, refl, ◌∙◌, arith}
 use Rattle.amqp_stream.specs.Buffers.{Buffered}
-use Rattle.amqp_text.specs.LineReading.{end_with}
+use Rattle.amqp_text.specs.LineReading.{end_of_text}
 use Rattle.amqp_text.proofs.Gathering.{kept_rest}
 use Rattle.amqp_text.proofs.Undumps.{begins_with, ends_spent, ends_at_read, ends_at_end, ends_at_lines, ends_unflushed, goes_on}
 use Rattle.amqp_text.proofs.undumping.run.Goals as goal
@@ -15,7 +16,7 @@ pub returns-in-Err-clause-stream : goal.returns-in-Err-clause-stream
 returns-in-Err-clause-stream g c = ends_at_read c.in-Err.error c.reads.invariant.going (omega (arith, c.if-left-eq0.false)) c.in-Err.ensures.reads
 
 pub returns-in-Ok-eq0-clause-stream : goal.returns-in-Ok-eq0-clause-stream
-returns-in-Ok-eq0-clause-stream g c = ends_at_end c.reads.invariant.going (omega (arith, c.if-left-eq0.false)) c.in-Ok-eq0.ensures.reads (omega (arith, c.in-Ok-eq0.field-0-is)) (c.end_of_input.ensures ∙ ap end_with c.deref.ensures.value)
+returns-in-Ok-eq0-clause-stream g c = ends_at_end c.reads.invariant.going (omega (arith, c.if-left-eq0.false)) c.in-Ok-eq0.ensures.reads (omega (arith, c.in-Ok-eq0.field-0-is)) (c.end_of_input.ensures ∙ ap end_of_text c.deref.ensures.value)
 
 pub returns-in-Err-gather_lines-clause-stream : goal.returns-in-Err-gather_lines-clause-stream
 returns-in-Err-gather_lines-clause-stream g c =

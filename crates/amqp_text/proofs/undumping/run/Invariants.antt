@@ -1,3 +1,4 @@
+-- `run`: what loops keep and what falls with each iteration or call.
 use Rattle.std.proofs.Common.{◌≡◌, []}
 use Rattle.amqp_text.proofs.Undumps.{Going}
 use Rattle.amqp_text.proofs.undumping.run.Given as goal

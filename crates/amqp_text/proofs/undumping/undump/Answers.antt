@@ -1,3 +1,4 @@
+-- `undump`: clauses `stream`, `complete` and `exact`.
 use Rattle.amqp_text.proofs.Undumps.{never_began}
 use Rattle.amqp_text.proofs.Completing.{complete}
 use Rattle.amqp_text.proofs.Exactly.{exactly, never_exactly}

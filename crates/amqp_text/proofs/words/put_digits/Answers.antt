@@ -1,3 +1,4 @@
+-- `put_digits`: clause `digits`, what loops keep and that no place or sum is out of range.
 use Rattle.std.proofs.Common.{arith, rules}
 use Rattle.amqp_text.proofs.Digits.{has_room, one_more, last_one}
 use Rattle.amqp_text.proofs.words.put_digits.Goals as goal

@@ -1,3 +1,4 @@
+-- `put_digits`: what loops keep and what falls with each iteration or call.
 use Rattle.amqp_text.proofs.Digits.{ArePut}
 use Rattle.amqp_text.proofs.words.put_digits.Given as goal
 

@@ -1,3 +1,4 @@
+-- `write_hex`: what loops keep.
 use Rattle.std.proofs.Common.{◌≡◌, ◌++◌, take}
 use Rattle.std.specs.List.{flat_map}
 use Rattle.amqp_text.specs.Words.{hex_byte}

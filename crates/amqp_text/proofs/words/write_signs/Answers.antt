@@ -1,3 +1,4 @@
+-- `write_signs`: what loops keep.
 use Rattle.std.proofs.Common.{ap, ◌∙◌}
 use Rattle.amqp_text.specs.Words.{sign}
 use Rattle.amqp_text.proofs.Digits.{one_more_sign}

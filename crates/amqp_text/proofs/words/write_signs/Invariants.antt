@@ -1,3 +1,4 @@
+-- `write_signs`: what loops keep.
 use Rattle.std.proofs.Common.{◌≡◌, ◌++◌}
 use Rattle.std.specs.Prelude.{map}
 use Rattle.amqp_types.specs.Flags.{flags_from}

@@ -1,3 +1,4 @@
+-- `equal_flags`: what it ensures.
 use Rattle.std.proofs.Common.{◌≡◌, ◌↔◌, IsTrue, List, Bool, true, subst, sym, ap, ◌∙◌}
 use Rattle.std.specs.Cmp.{booleans_Decides}
 use Rattle.std.specs.Cmp.Lexicographic.{pointwise}

@@ -1,3 +1,4 @@
+-- `flags_of_byte`: what loops keep.
 use Rattle.std.proofs.Common.{◌≡◌}
 use Rattle.amqp_types.specs.Flags.{flags_from}
 use Rattle.amqp_types.proofs.flags.flags_of_byte.Given as goal

@@ -1,3 +1,4 @@
+-- `gen_long_string`: what it ensures.
 use Rattle.std.proofs.Common.{rules}
 use Rattle.amqp_types.specs.Strings.{with_length}
 use Rattle.amqp_types.proofs.Puts.{appended}

@@ -1,3 +1,4 @@
+-- `gen_short_string`: what it ensures.
 use Rattle.std.proofs.Common.{rules}
 use Rattle.amqp_types.specs.Strings.{short_string_bytes}
 use Rattle.amqp_types.proofs.Puts.{appended}

@@ -1,3 +1,4 @@
+-- `put_long_string`: what it ensures.
 use Rattle.std.proofs.Common.{length}
 use Rattle.amqp_types.specs.Numbers.{bytes4, number_bytes}
 use Rattle.amqp_types.proofs.Puts.{puts_then}

@@ -1,3 +1,4 @@
+-- `put_short_string`: what it ensures.
 use Rattle.std.proofs.Common.{◌≡◌, ◌∷◌, [], ap, ◌∙◌, subst, List, ℕ, length, arith}
 use Rattle.amqp_types.specs.Strings.{short_string_bytes}
 use Rattle.amqp_types.specs.Writing.{Puts}

@@ -1,3 +1,4 @@
+-- `text_of`: what it ensures.
 use Rattle.std.proofs.Common.{◌≡◌, List, ℕ, Bool, true, false, refl}
 use Rattle.std.specs.Str.{is_utf8, IsUtf8}
 use Rattle.std.proofs.lemmas.Str.{IsUtf8-from_is_utf8, is_utf8-from_IsUtf8}

@@ -1,3 +1,4 @@
+-- `equal_field_arrays`: what it ensures.
 use Rattle.std.proofs.Common.{◌≡◌, ◌↔◌, IsTrue, List, sym, ap, ◌∙◌}
 use Rattle.amqp_types.specs.Values.{FieldValue, items, values_of}
 use Rattle.amqp_values.specs.Sameness.{same_items, same_items-decides}

@@ -1,3 +1,4 @@
+-- `equal_field_tables`: what it ensures.
 use Rattle.amqp_values.proofs.Deciding.{same_tables}
 use Rattle.amqp_values.proofs.equality_laws.equal_field_tables.Goals as goal
 

@@ -1,3 +1,4 @@
+-- `equal_values`: what it ensures.
 use Rattle.amqp_values.specs.Views.{value_of}
 use Rattle.amqp_values.specs.Sameness.{same_value-decides}
 use Rattle.amqp_values.proofs.equality_laws.equal_values.Goals as goal

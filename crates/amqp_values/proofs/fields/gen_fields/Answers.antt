@@ -1,3 +1,4 @@
+-- `gen_fields`: what it ensures.
 use Rattle.std.proofs.Common.{rules}
 use Rattle.amqp_types.proofs.Puts.{appended}
 use Rattle.amqp_values.specs.Fields.{fields_bytes, fields_size}

@@ -1,3 +1,4 @@
+-- `gen_field_table`: what it ensures.
 use Rattle.std.proofs.Common.{rules}
 use Rattle.amqp_types.specs.ValueBytes.{table_bytes}
 use Rattle.amqp_types.proofs.Puts.{appended}

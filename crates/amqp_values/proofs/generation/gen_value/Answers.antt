@@ -1,3 +1,4 @@
+-- `gen_value`: what it ensures.
 use Rattle.std.proofs.Common.{rules}
 use Rattle.amqp_types.specs.ValueBytes.{tagged_bytes}
 use Rattle.amqp_types.proofs.Puts.{appended}

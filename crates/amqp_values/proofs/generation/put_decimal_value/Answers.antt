@@ -1,3 +1,4 @@
+-- `put_decimal_value`: what it ensures.
 use Rattle.amqp_types.specs.Numbers.{bytes1, bytes4, number_bytes}
 use Rattle.amqp_types.proofs.Puts.{puts_then}
 use Rattle.amqp_values.proofs.generation.put_decimal_value.Goals as goal

@@ -1,3 +1,4 @@
+-- `forms_are_lawful`: what it ensures.
 use Rattle.amqp_values.proofs.SlotForms.{forms_lawful}
 use Rattle.amqp_values.proofs.laws.forms_are_lawful.Goals as goal
 

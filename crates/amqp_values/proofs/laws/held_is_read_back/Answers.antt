@@ -1,3 +1,4 @@
+-- `held_is_read_back`: what it ensures.
 use Rattle.amqp_values.proofs.ValueLaws.{held_is_read_back}
 use Rattle.amqp_values.proofs.laws.held_is_read_back.Goals as goal
 

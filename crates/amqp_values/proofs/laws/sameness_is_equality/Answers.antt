@@ -1,3 +1,4 @@
+-- `sameness_is_equality`: clauses `values`, `arrays` and `tables`.
 use Rattle.amqp_values.specs.Sameness.{same_value-decides, same_items-decides, same_entries-decides}
 use Rattle.amqp_values.proofs.laws.sameness_is_equality.Goals as goal
 

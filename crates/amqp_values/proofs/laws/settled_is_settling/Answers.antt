@@ -1,3 +1,4 @@
+-- `settled_is_settling`: what it ensures.
 use Rattle.amqp_values.proofs.ValueLaws.{settled_is_settling}
 use Rattle.amqp_values.proofs.laws.settled_is_settling.Goals as goal
 

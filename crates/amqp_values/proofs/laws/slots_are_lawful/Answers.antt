@@ -1,3 +1,4 @@
+-- `slots_are_lawful`: what it ensures.
 use Rattle.amqp_values.proofs.SlotLaws.{slots_lawful}
 use Rattle.amqp_values.proofs.laws.slots_are_lawful.Goals as goal
 

@@ -1,3 +1,4 @@
+-- `spelled_is_bounded`: what it ensures.
 use Rattle.amqp_values.proofs.ValueLaws.{spelled_is_bounded}
 use Rattle.amqp_values.proofs.laws.spelled_is_bounded.Goals as goal
 

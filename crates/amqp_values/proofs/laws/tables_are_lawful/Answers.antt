@@ -1,3 +1,4 @@
+-- `tables_are_lawful`: what it ensures.
 use Rattle.amqp_values.proofs.ValueLaws.{tables_lawful}
 use Rattle.amqp_values.proofs.laws.tables_are_lawful.Goals as goal
 

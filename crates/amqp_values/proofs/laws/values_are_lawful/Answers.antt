@@ -1,3 +1,4 @@
+-- `values_are_lawful`: what it ensures.
 use Rattle.amqp_values.proofs.ValueLaws.{values_lawful}
 use Rattle.amqp_values.proofs.laws.values_are_lawful.Goals as goal
 

@@ -1,3 +1,4 @@
+-- `payloads_are_lawful`: what it ensures.
 use Rattle.amqp_values.proofs.MethodLaws.{payloads_lawful}
 use Rattle.amqp_values.proofs.method_laws.payloads_are_lawful.Goals as goal
 

@@ -1,3 +1,4 @@
+-- `rows_are_lawful`: what it ensures.
 use Rattle.amqp_values.proofs.MethodLaws.{rows_lawful}
 use Rattle.amqp_values.proofs.method_laws.rows_are_lawful.Goals as goal
 

@@ -1,3 +1,4 @@
+-- `Assembler::append`: clauses `kept`, `others` and `err`.
 use Rattle.std.proofs.Common.{sym, ap, ◌∙◌}
 use Rattle.amqp_content.specs.Stands.{kept_at}
 use Rattle.amqp_content.specs.Outcomes.{Assembling, with_bytes}

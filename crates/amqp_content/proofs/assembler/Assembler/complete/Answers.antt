@@ -1,3 +1,4 @@
+-- `Assembler::complete`: clauses `outcome`, `kept` and `others` and what calls require.
 use Rattle.std.proofs.Common.{sym, ap, ◌∙◌, subst}
 use Rattle.std.specs.Prelude.{option_map}
 use Rattle.amqp_content.specs.Stands.{kept_at}

@@ -1,3 +1,4 @@
+-- `Assembler::keep`: clauses `kept` and `others`.
 use Rattle.std.proofs.Common.{ap, ◌∙◌}
 use Rattle.amqp_content.specs.Stands.{kept_at}
 use Rattle.amqp_content.specs.Outcomes.{Assembling}

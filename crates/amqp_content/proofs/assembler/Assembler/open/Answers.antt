@@ -1,3 +1,4 @@
+-- `Assembler::open`: clause `stands`.
 use Rattle.std.proofs.Common.{ap, map}
 use Rattle.amqp_content.specs.Outcomes.{entry_kept}
 use Rattle.amqp_content.proofs.Apart.{none_stand}

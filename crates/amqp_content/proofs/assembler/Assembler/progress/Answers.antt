@@ -1,3 +1,4 @@
+-- `Assembler::progress`: what it ensures.
 use Rattle.std.proofs.Common.{sym, ap, ◌∙◌, Some}
 use Rattle.std.specs.Prelude.{option_map}
 use Rattle.amqp_content.specs.Stands.{kept_at}

@@ -1,3 +1,4 @@
+-- `Assembler::push`: clause `pushes`.
 use Rattle.std.proofs.Common.{refl}
 use Rattle.amqp_content.proofs.Telling.{pushes_if}
 use Rattle.amqp_content.proofs.assembler.Assembler.push.Goals as goal

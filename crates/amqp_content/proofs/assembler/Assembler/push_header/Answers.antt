@@ -1,3 +1,4 @@
+-- `Assembler::push_header`: clause `takes`.
 use Rattle.std.proofs.Common.{sym, subst, ◌∙◌}
 use Rattle.amqp_frame.specs.Frames.{Head, header_of}
 use Rattle.amqp_content.specs.declared.mark.Mark.{Mark}

@@ -1,3 +1,4 @@
+-- `Assembler::set_header`: clauses `kept` and `others`.
 use Rattle.std.proofs.Common.{sym, ap, ◌∙◌}
 use Rattle.amqp_frame.specs.Frames.{header_of}
 use Rattle.amqp_content.specs.Stands.{kept_at}

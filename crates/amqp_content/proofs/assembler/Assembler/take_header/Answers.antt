@@ -1,3 +1,4 @@
+-- `Assembler::take_header`: what calls require.
 use Rattle.std.proofs.Common.{sym, subst}
 use Rattle.amqp_content.specs.Outcomes.{IsHeadedThere}
 use Rattle.amqp_content.proofs.Telling.{headed_there}

@@ -1,3 +1,4 @@
+-- `Tracker::open`: clause `stands`.
 use Rattle.amqp_content.proofs.Tracking.{none_tracked}
 use Rattle.amqp_content.proofs.tracker.Tracker.open.Goals as goal
 

@@ -1,3 +1,4 @@
+-- `Tracker::track_outline`: clause `tracks`.
 use Rattle.std.proofs.Common.{rules}
 use Rattle.amqp_content.proofs.Tracking.{tracks_step}
 use Rattle.amqp_content.proofs.tracker.Tracker.track_outline.Goals as goal

@@ -1,3 +1,4 @@
+-- `LentCodec::canonicalize`: clause `stream`.
 use Rattle.std.proofs.Common.{Result, Err, sym, ap, subst, ◌∙◌}
 use Rattle.amqp_types.specs.Levels.{plain}
 use Rattle.amqp_stream.specs.declared.errors.StreamError.{StreamError}

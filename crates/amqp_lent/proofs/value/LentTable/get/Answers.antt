@@ -1,3 +1,4 @@
+-- `LentTable::get`: what it ensures.
 use Rattle.std.proofs.Common.{sym, ap, ◌∙◌}
 use Rattle.amqp_types.specs.Settling.{last_at, value_at}
 use Rattle.amqp_values.proofs.Settling.{settles}

@@ -1,3 +1,4 @@
+-- `Messages::append`: clause `ok`, what calls require and the invariant of its type.
 use Rattle.std.proofs.Common.{◌++◌, sym, ◌∙◌}
 use Rattle.amqp_recut.specs.Held.{kept_in}
 use Rattle.amqp_recut.proofs.Current.{appended, apart_after, view_after, there_other}

@@ -1,3 +1,4 @@
+-- `Messages::is_empty`: what it ensures.
 use Rattle.amqp_recut.proofs.Current.{is_some}
 use Rattle.amqp_recut.proofs.messages.Messages.is_empty.Goals as goal
 

@@ -1,3 +1,4 @@
+-- `Messages::keep`: clauses `ok` and `absent` and the invariant of its type.
 use Rattle.std.proofs.Common.{sym, ◌∙◌}
 use Rattle.amqp_recut.proofs.Current.{take_apart, take_view, not_taken, apart_after, view_after, absent_after}
 use Rattle.amqp_recut.proofs.messages.Messages.keep.Goals as goal

@@ -1,3 +1,4 @@
+-- `Messages::progress`: what it ensures.
 use Rattle.std.proofs.Common.{ap, ◌∙◌}
 use Rattle.std.proofs.lemmas.Bool.{eq-eqb, ne_eqb}
 use Rattle.amqp_recut.specs.Held.{progress_in}

@@ -1,14 +1,15 @@
+-- `Others::append`: clauses `err` and `ok` and what calls require.
 use Rattle.std.proofs.Common.{◌≡◌, ◌++◌, true, false, Option, sym, ap, ◌∙◌, subst}
 use Rattle.std.specs.Prelude.{option_map, IsSome}
 use Rattle.std.specs.FinMap as finite
 use Rattle.amqp_content.proofs.Entries.{on_err}
-use Rattle.amqp_recut.specs.Held.{Held, Holding, held_of, kept_in}
+use Rattle.amqp_recut.specs.Held.{Held, HeldByChannel, held_of, kept_in}
 use Rattle.amqp_recut.proofs.Holding.{get-holding, holding_of, holding_written, holding_unwritten}
 use Rattle.amqp_recut.proofs.others.Others.append.Goals as goal
 
 pub unreachable-requires : goal.unreachable-requires
 unreachable-requires c =
-    let none = ap (λ (m : Holding). finite.get m c.args.channel_id) (sym c.self.view_is) ∙ get-holding held_of c.self.inside.channels.entries c.args.channel_id ∙ ap (option_map held_of) (sym c.in_default.ensures.value) in
+    let none = ap (λ (m : HeldByChannel). finite.get m c.args.channel_id) (sym c.self.view_is) ∙ get-holding held_of c.self.inside.channels.entries c.args.channel_id ∙ ap (option_map held_of) (sym c.in_default.ensures.value) in
     let no : false ≡ true = subst (λ (o : Option Held). IsSome o) none c.requires.there in
     cc
 
@@ -21,7 +22,7 @@ pub returns-clause-ok : goal.returns-clause-ok
 returns-clause-ok c =
     let found = sym c.in-Some.ensures.value in
     let es = c.self.inside.channels.entries in
-    let was = ap (λ (m : Holding). finite.get m c.args.channel_id) (sym c.self.view_is) ∙ get-holding held_of es c.args.channel_id ∙ ap (option_map held_of) found in
+    let was = ap (λ (m : HeldByChannel). finite.get m c.args.channel_id) (sym c.self.view_is) ∙ get-holding held_of es c.args.channel_id ∙ ap (option_map held_of) found in
     holding_written held_of c.self.inside.channels (c.get_mut.follows.lender c.append.new.self) c.args.channel_id c.in-Some.message.now c.append.new.self found (c.get_mut.follows.holds c.append.new.self)
     ∙ ap (λ (h : Held). finite.insert (holding_of held_of es) c.args.channel_id h) (c.in_ok-append.ensures.ok ∙ ap (λ (o : Option Held). record { progress = c.args.progress; kept = kept_in o ++ c.args.bytes.now }) (sym was))
-    ∙ ap (λ (m : Holding). finite.insert m c.args.channel_id (record { progress = c.args.progress; kept = kept_in (finite.get c.args.self.now c.args.channel_id) ++ c.args.bytes.now })) c.self.view_is
+    ∙ ap (λ (m : HeldByChannel). finite.insert m c.args.channel_id (record { progress = c.args.progress; kept = kept_in (finite.get c.args.self.now c.args.channel_id) ++ c.args.bytes.now })) c.self.view_is

@@ -1,16 +1,17 @@
+-- `Others::kept`: what it ensures.
 use Rattle.std.proofs.Common.{sym, ap, ◌∙◌}
 use Rattle.std.specs.Prelude.{option_map}
 use Rattle.std.specs.FinMap as finite
-use Rattle.amqp_recut.specs.Held.{Holding, held_of, kept_in}
+use Rattle.amqp_recut.specs.Held.{HeldByChannel, held_of, kept_in}
 use Rattle.amqp_recut.proofs.Holding.{get-holding}
 use Rattle.amqp_recut.proofs.others.Others.kept.Goals as goal
 
 pub returns-in-Some : goal.returns-in-Some
 returns-in-Some c =
-    let held = sym (get-holding held_of c.self.inside.channels.entries c.args.channel_id ∙ ap (option_map held_of) (sym c.in-Some.ensures.value)) ∙ ap (λ (m : Holding). finite.get m c.args.channel_id) c.self.view_is in
+    let held = sym (get-holding held_of c.self.inside.channels.entries c.args.channel_id ∙ ap (option_map held_of) (sym c.in-Some.ensures.value)) ∙ ap (λ (m : HeldByChannel). finite.get m c.args.channel_id) c.self.view_is in
     c.as_slice.ensures.value ∙ ap kept_in held
 
 pub returns-in-None : goal.returns-in-None
 returns-in-None c =
-    let held = sym (get-holding held_of c.self.inside.channels.entries c.args.channel_id ∙ ap (option_map held_of) (sym c.in-None.ensures.value)) ∙ ap (λ (m : Holding). finite.get m c.args.channel_id) c.self.view_is in
+    let held = sym (get-holding held_of c.self.inside.channels.entries c.args.channel_id ∙ ap (option_map held_of) (sym c.in-None.ensures.value)) ∙ ap (λ (m : HeldByChannel). finite.get m c.args.channel_id) c.self.view_is in
     ap kept_in held

@@ -1,3 +1,4 @@
+-- `Recutter::cut_body`: clause `writes`.
 use Rattle.std.proofs.Common.{length, refl, sym, ap, ◌∙◌}
 use Rattle.amqp_frame.specs.declared.outline.FrameOutline.TheVariants as outlines
 use Rattle.amqp_content.specs.Steps.{mark_after}

@@ -1,3 +1,4 @@
+-- `Recutter::write_body`: clauses `compact` and `writes`.
 use Rattle.std.proofs.Common.{arith}
 use Rattle.amqp_recut.proofs.Gathering.{settled, unsettled}
 use Rattle.amqp_recut.proofs.Writing.{error_few}

@@ -1,3 +1,4 @@
+-- `Recutter::write_part`: clause `writes`.
 use Rattle.std.proofs.Common.{length, take, sym, ap, ◌∙◌, Ok, Err}
 use Rattle.std.proofs.lemmas.List.{take_at}
 use Rattle.amqp_frame.specs.Frames.{raw_of}

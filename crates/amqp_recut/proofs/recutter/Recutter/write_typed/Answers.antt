@@ -1,3 +1,4 @@
+-- `Recutter::write_typed`: clause `writes` and what calls require.
 use Rattle.std.proofs.Common.{length, refl, sym, ap, ◌∙◌, arith}
 use Rattle.amqp_frame.specs.Frames.{raw_of}
 use Rattle.amqp_content.specs.Steps.{mark_after, progress_after}

@@ -1,3 +1,4 @@
+-- `RecutterFrameWriter::write_frame`: clause `writes`.
 use Rattle.std.proofs.Common.{sym, subst}
 use Rattle.amqp_frame.specs.Frames.{raw_of}
 use Rattle.amqp_recut.proofs.Stepping.{IsOutsideType, outside_passed, passing, proto_is_outside, beat_is_outside}

@@ -1,3 +1,4 @@
+-- `CanonicalFrameWriter::write_frame`: clause `writes`.
 use Rattle.std.proofs.Common.{refl}
 use Rattle.amqp_stream.proofs.Writes.{canonical_by}
 use Rattle.amqp_stream.proofs.canonical.CanonicalFrameWriter.write_frame.Goals as goal

@@ -1,3 +1,4 @@
+-- `TidyCanonicalFrameWriter::write_frame`: clause `writes`.
 use Rattle.std.proofs.Common.{refl, sym, ◌∙◌}
 use Rattle.std.specs.declared.string.ParseError.{Infallible}
 use Rattle.amqp_types.specs.Levels.{tidy}

@@ -1,3 +1,4 @@
+-- `Codec::rewrite`: clauses `stream`, `memory`, `exact` and `complete`.
 use Rattle.amqp_stream.proofs.Transcribing.{canonical, canonicalizes, transcribes, transcribes_exactly, never_out_of_memory, welcome, is_done}
 use Rattle.amqp_stream.proofs.codec.Codec.rewrite.Goals as goal
 

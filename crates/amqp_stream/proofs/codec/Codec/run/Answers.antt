@@ -1,3 +1,4 @@
+-- `Codec::run`: clauses `exact` and `complete`.
 use Rattle.amqp_stream.proofs.Exactly.{streams_exactly, completes}
 use Rattle.amqp_stream.proofs.codec.Codec.run.Goals as goal
 

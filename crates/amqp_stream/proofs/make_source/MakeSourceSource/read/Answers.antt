@@ -1,3 +1,4 @@
+-- `MakeSourceSource::read`: what loops keep.
 use Rattle.std.proofs.Common.{arith}
 use Rattle.amqp_stream.proofs.Giving.{given_refilled, given_more}
 use Rattle.amqp_stream.proofs.make_source.MakeSourceSource.read.Goals as goal

@@ -1,3 +1,4 @@
+-- `MakeSourceSource::read`: what loops keep and what falls with each iteration or call.
 use Rattle.std.proofs.Common.{length, ◌-◌}
 use Rattle.amqp_stream.proofs.Giving.{Giving}
 use Rattle.amqp_stream.proofs.make_source.MakeSourceSource.read.Given as goal

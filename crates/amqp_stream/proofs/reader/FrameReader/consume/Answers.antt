@@ -1,3 +1,4 @@
+-- `FrameReader::consume`: clause `held`.
 use Rattle.std.proofs.Common.{ap, drop, ◌∙◌}
 use Rattle.amqp_stream.proofs.Spans.{part-drop}
 use Rattle.amqp_stream.proofs.reader.FrameReader.consume.Goals as goal

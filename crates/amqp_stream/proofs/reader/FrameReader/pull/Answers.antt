@@ -1,3 +1,4 @@
+-- `FrameReader::pull`: clause `pulls` and what loops keep.
 use Rattle.std.proofs.Common.{Ok, Err, Some, refl, ◌∙◌, arith}
 use Rattle.amqp_stream.specs.declared.errors.ReadError.TheVariants as errors
 use Rattle.amqp_stream.specs.Reading.{LiesIn}

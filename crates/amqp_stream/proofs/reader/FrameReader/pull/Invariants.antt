@@ -1,3 +1,4 @@
+-- `FrameReader::pull`: what loops keep and what falls with each iteration or call.
 use Rattle.std.proofs.Common.{◌≡◌}
 use Rattle.amqp_stream.proofs.Pulling.{Pulled}
 use Rattle.amqp_stream.proofs.reader.FrameReader.pull.Given as goal

@@ -1,6 +1,7 @@
+-- `LineReader::is_line`: what it ensures.
 use Rattle.std.proofs.Common.{◌+◌, List, ℕ, length, ap, subst, arith}
 use Rattle.amqp_types.specs.Judging.{IsBytes}
-use Rattle.amqp_text.proofs.LineBack.{read_here, none_read, none_long, none_large, large_by, within_by, refused_line, told_line}
+use Rattle.amqp_text.proofs.LineBack.{read_here, none_read, none_long, none_large, large_by, within_by, refused_line, rendered_line}
 use Rattle.amqp_text.proofs.line_reading.LineReader.is_line.Goals as goal
 
 pub returns-in-Err-BadText : goal.returns-in-Err-BadText
@@ -25,5 +26,5 @@ returns c =
     let put = rw c.as_slice.ensures.value at c.in-Ok-put.ensures in
     let fits = subst (λ (bs : List ℕ). IsBytes bs) c.as_slice.ensures.value c.are_bytes.ensures in
     let canonical = subst (λ (bs : List ℕ). IsBytes bs) c.canonical.ensures c.are_bytes-2.ensures in
-    told_line c.args.max_payload c.args.text.now c.read_words.new.out.items c.put.new.self.canonical.bytes c.put.new.self.line.items c.in-Ok.found c.in-Ok-put.field-0 c.is_same.result
+    rendered_line c.args.max_payload c.args.text.now c.read_words.new.out.items c.put.new.self.canonical.bytes c.put.new.self.line.items c.in-Ok.found c.in-Ok-put.field-0 c.is_same.result
     read fits c.is_channel.ensures (omega (arith, c.if-len.false, c.len.ensures)) put canonical (within_by c.is_within.result (length c.canonical-2.result.now) (c.args.max_payload + 8) _ c.is_within.ensures c.if-not-is_within.false (ap length c.canonical-2.ensures)) (rw c.line.ensures at c.is_same.ensures)

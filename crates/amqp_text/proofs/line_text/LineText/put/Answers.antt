@@ -1,3 +1,4 @@
+-- `LineText::put`: what it ensures.
 use Rattle.std.proofs.Common.{◌∙◌}
 use Rattle.amqp_frame.specs.Frames.{raw_of}
 use Rattle.amqp_text.proofs.Borrowed.{both_put}

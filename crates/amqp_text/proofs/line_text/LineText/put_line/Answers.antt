@@ -1,3 +1,4 @@
+-- `LineText::put_line`: what it ensures.
 use Rattle.amqp_frame.specs.Frames.{raw_of}
 use Rattle.amqp_text.proofs.Borrowed.{line_put}
 use Rattle.amqp_text.proofs.line_text.LineText.put_line.Goals as goal

@@ -1,3 +1,4 @@
+-- `read_beat`: what it ensures.
 use Rattle.amqp_text.specs.ReadingLines.{read_id, read_beat}
 use Rattle.amqp_text.proofs.LineSteps.{beat_none, beat_some, found_number}
 use Rattle.amqp_text.proofs.reading.lines.read_beat.Goals as goal

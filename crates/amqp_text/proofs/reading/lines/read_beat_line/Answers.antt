@@ -1,3 +1,4 @@
+-- `read_beat_line`: what it ensures.
 use Rattle.std.proofs.Common.{List, ℕ, [], Some, Err}
 use Rattle.amqp_frame.specs.declared.frame_type.AMQPFrameType.TheVariants as kinds
 use Rattle.amqp_text.specs.declared.errors.TextError.TheVariants as texts

@@ -1,3 +1,4 @@
+-- `read_fields`: what it ensures.
 use Rattle.std.proofs.Common.{sym, ap, ◌∙◌}
 use Rattle.std.specs.Prelude.{option_map, option_copied}
 use Rattle.amqp_canonical.specs.Shapes.{slots_of}

@@ -1,3 +1,4 @@
+-- `read_header`: what it ensures.
 use Rattle.amqp_canonical.specs.Shapes.{slots_of}
 use Rattle.amqp_text.proofs.LineSteps.{header_failed, header_read}
 use Rattle.amqp_text.proofs.reading.lines.read_header.Goals as goal

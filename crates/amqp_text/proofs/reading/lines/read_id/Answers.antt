@@ -1,3 +1,4 @@
+-- `read_id`: what it ensures.
 use Rattle.amqp_text.proofs.LineSteps.{id_read, id_unread}
 use Rattle.amqp_text.proofs.reading.lines.read_id.Goals as goal
 

@@ -1,3 +1,4 @@
+-- `read_later`: what it ensures.
 use Rattle.amqp_text.proofs.LineSteps.{later_failed, later_read}
 use Rattle.amqp_text.proofs.reading.lines.read_later.Goals as goal
 

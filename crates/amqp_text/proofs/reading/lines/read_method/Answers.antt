@@ -1,3 +1,4 @@
+-- `read_method`: what it ensures.
 use Rattle.amqp_text.proofs.ReadSteps.{unread}
 use Rattle.amqp_text.proofs.LineSteps.{method_read, method_unread}
 use Rattle.amqp_text.proofs.reading.lines.read_method.Goals as goal

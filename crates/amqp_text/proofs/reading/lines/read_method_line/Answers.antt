@@ -1,3 +1,4 @@
+-- `read_method_line`: what it ensures.
 use Rattle.std.proofs.Common.{List, ℕ, Bor}
 use Rattle.amqp_frame.specs.declared.frame_type.AMQPFrameType.TheVariants as kinds
 use Rattle.amqp_text.specs.ReadingLines.{read_method}

@@ -1,3 +1,4 @@
+-- `read_method_of`: what it ensures.
 use Rattle.amqp_text.proofs.ReadSteps.{unread}
 use Rattle.amqp_text.proofs.LineSteps.{method_of_read, method_of_unread}
 use Rattle.amqp_text.proofs.reading.lines.read_method_of.Goals as goal

@@ -1,3 +1,4 @@
+-- `read_version`: what it ensures.
 use Rattle.amqp_text.proofs.LineSteps.{version_failed, version_read}
 use Rattle.amqp_text.proofs.reading.lines.read_version.Goals as goal
 

@@ -1,3 +1,4 @@
+-- `read_version_line`: what it ensures.
 use Rattle.std.proofs.Common.{List, ℕ, Bor}
 use Rattle.amqp_frame.specs.declared.frame_type.AMQPFrameType.TheVariants as kinds
 use Rattle.amqp_text.proofs.LineSteps.{kind_read, kind_failed}

@@ -1,3 +1,4 @@
+-- `read_words`: what it ensures.
 use Rattle.amqp_text.proofs.LineSteps.{method_first, header_first, body_first, beat_first, version_first, none_first}
 use Rattle.amqp_text.proofs.reading.lines.read_words.Goals as goal
 

@@ -1,3 +1,4 @@
+-- `mask_bit`, which calls itself: what they ensure.
 use Rattle.std.proofs.Common.{◌≡◌, ℕ, ◌*◌, ◌%◌, ◌^◌, sym, ap, arith}
 use Rattle.amqp_text.proofs.SlotSteps.{bit_next}
 use Rattle.amqp_text.proofs.reading.slots.+mask_bit.Goals as goal

@@ -1,3 +1,4 @@
+-- `read_set`, which calls itself: what they ensure.
 use Rattle.std.proofs.Common.{rules}
 use Rattle.std.proofs.lemmas.List.{take_rest}
 use Rattle.amqp_canonical.specs.declared.shapes.Shape.TheVariants as shapes

@@ -1,3 +1,4 @@
+-- `read_set`, which calls itself: what falls with each iteration or call.
 use Rattle.std.proofs.Common.{length}
 use Rattle.amqp_text.proofs.reading.slots.+read_set.Given as goal
 

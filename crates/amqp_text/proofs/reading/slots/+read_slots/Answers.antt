@@ -1,3 +1,4 @@
+-- `read_slots`, which calls itself: what they ensure.
 use Rattle.std.proofs.lemmas.List.{take_rest}
 use Rattle.amqp_canonical.specs.declared.shapes.Shape.TheVariants as shapes
 use Rattle.amqp_text.proofs.SlotSteps.{slots_none, slots_failed, slots_read}

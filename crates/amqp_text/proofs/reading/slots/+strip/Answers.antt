@@ -1,3 +1,4 @@
+-- `strip`, which calls itself: what they ensure.
 use Rattle.std.proofs.Common.{drop, sym, ap, ◌∙◌}
 use Rattle.std.proofs.lemmas.List.{take_rest}
 use Rattle.amqp_text.specs.Reading.{strip}

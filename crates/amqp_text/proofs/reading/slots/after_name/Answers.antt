@@ -1,3 +1,4 @@
+-- `after_name`: what it ensures.
 use Rattle.std.proofs.Common.{List, ℕ, sym, ap, ◌∙◌}
 use Rattle.std.specs.Prelude.{codes}
 use Rattle.amqp_text.specs.Reading.{strip, named}

@@ -1,3 +1,4 @@
+-- `read_option`: what it ensures.
 use Rattle.std.proofs.Common.{List, ℕ, Bor}
 use Rattle.amqp_text.proofs.SlotSteps.{option_none, option_some, option_failed}
 use Rattle.amqp_text.proofs.reading.slots.read_option.Goals as goal

@@ -1,3 +1,4 @@
+-- `read_properties`: what it ensures.
 use Rattle.amqp_text.proofs.SlotSteps.{properties_failed, properties_read}
 use Rattle.amqp_text.proofs.reading.slots.read_properties.Goals as goal
 

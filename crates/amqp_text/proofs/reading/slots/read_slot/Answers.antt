@@ -1,3 +1,4 @@
+-- `read_slot`: what it ensures.
 use Rattle.std.proofs.Common.{sym, ◌∙◌}
 use Rattle.amqp_text.proofs.SlotSteps.{constant_read, kept_read}
 use Rattle.amqp_text.proofs.reading.slots.read_slot.Goals as goal

@@ -1,3 +1,4 @@
+-- the calls of cycle `read`: what they ensure and what loops keep.
 use Rattle.std.proofs.Common.{◌≡◌, length, true, false, refl, sym, ap, ◌∙◌, arith}
 use Rattle.std.proofs.lemmas.List.{length-drop}
 use Rattle.amqp_text.specs.Reading.{after_colon, first_is, inside, or_comma, framed_long, read_entry, read_value, read_array, read_table}

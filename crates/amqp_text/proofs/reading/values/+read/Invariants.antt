@@ -1,3 +1,4 @@
+-- the calls of cycle `read`: what loops keep and what falls with each iteration or call.
 use Rattle.std.proofs.Common.{◌≤◌, ◌+◌, ◌*◌, length, drop}
 use Rattle.amqp_text.specs.Reading.{or_comma, read_entry, read_value}
 use Rattle.amqp_text.proofs.ReadSteps.{GoesOn, IsListed}

@@ -1,3 +1,4 @@
+-- `read_byte_array`: clause `read`.
 use Rattle.amqp_text.specs.Reading.{read_hex, framed_long, read_byte_array}
 use Rattle.amqp_text.proofs.ReadSteps.{failed, long_framed}
 use Rattle.amqp_text.proofs.reading.values.read_byte_array.Goals as goal

@@ -1,3 +1,4 @@
+-- `read_decimal`: clause `read`.
 use Rattle.amqp_text.proofs.ReadSteps.{decimal_failed, decimal_read}
 use Rattle.amqp_text.proofs.reading.values.read_decimal.Goals as goal
 

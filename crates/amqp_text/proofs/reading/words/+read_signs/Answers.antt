@@ -1,3 +1,4 @@
+-- `read_signs`, which calls itself: what they ensure.
 use Rattle.std.proofs.Common.{ℕ, ◌+◌, ◌*◌, ap, arith}
 use Rattle.amqp_text.proofs.ReadSteps.{signs_zero, signs_none, signs_over, signs_some}
 use Rattle.amqp_text.proofs.reading.words.+read_signs.Goals as goal

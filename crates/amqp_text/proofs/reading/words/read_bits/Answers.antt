@@ -1,3 +1,4 @@
+-- `read_bits`: clause `found`.
 use Rattle.std.proofs.Common.{sym, ◌∙◌}
 use Rattle.amqp_text.proofs.ReadSteps.{bits_minus, bits_plus}
 use Rattle.amqp_text.proofs.reading.words.read_bits.Goals as goal

@@ -1,3 +1,4 @@
+-- `read_characters`: clause `read` and what loops keep.
 use Rattle.std.proofs.Common.{◌≡◌, length, true, false, ap, ◌∙◌, arith}
 use Rattle.std.proofs.lemmas.List.{length-drop}
 use Rattle.amqp_text.specs.Reading.{first_is, read_escaped}

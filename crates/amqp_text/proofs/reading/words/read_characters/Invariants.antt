@@ -1,3 +1,4 @@
+-- `read_characters`: what loops keep and what falls with each iteration or call.
 use Rattle.std.proofs.Common.{◌≤◌, length, drop}
 use Rattle.amqp_text.specs.Reading.{read_escaped}
 use Rattle.amqp_text.proofs.ReadSteps.{GoesOn, IsListed}

@@ -1,3 +1,4 @@
+-- `read_digits`: clause `found` and what loops keep.
 use Rattle.std.proofs.Common.{length, sym, ap, ◌∙◌, arith}
 use Rattle.std.proofs.lemmas.List.{length-drop}
 use Rattle.amqp_text.proofs.ReadSteps.{digit_none, digit_end, digit_over, digit_next}

@@ -1,3 +1,4 @@
+-- `read_digits`: what loops keep and what falls with each iteration or call.
 use Rattle.std.proofs.Common.{◌≡◌, ◌≤◌, length}
 use Rattle.amqp_text.specs.Reading.{read_digits}
 use Rattle.amqp_text.proofs.reading.words.read_digits.Given as goal

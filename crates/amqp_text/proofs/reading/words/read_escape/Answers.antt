@@ -1,3 +1,4 @@
+-- `read_escape`: clause `read`.
 use Rattle.std.proofs.Common.{List, ℕ, [], ◌∷◌, ◌++◌, ◌+◌, ◌*◌, get_or, Some, sym, ap, ◌∙◌}
 use Rattle.amqp_text.specs.Reading.{nibble}
 use Rattle.amqp_text.proofs.ReadSteps.{read_so, unread, escape_read, short_escape}

@@ -1,3 +1,4 @@
+-- `read_flags`: clause `read`.
 use Rattle.std.proofs.Common.{List, [], ◌∷◌, ℕ, Some, ap}
 use Rattle.amqp_text.specs.Reading.{◌>>=◌, read_flags}
 use Rattle.amqp_text.proofs.ReadSteps.{read_so, unread}

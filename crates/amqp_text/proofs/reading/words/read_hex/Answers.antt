@@ -1,3 +1,4 @@
+-- `read_hex`: clause `read` and what loops keep.
 use Rattle.std.proofs.Common.{ℕ, [], ◌∷◌, ◌++◌, length, sym, ap, ◌∙◌, arith}
 use Rattle.std.proofs.lemmas.List.{length-drop}
 use Rattle.amqp_text.proofs.ReadSteps.{begins, hex_on, hex_short, hex_done}

@@ -1,3 +1,4 @@
+-- `read_hex`: what loops keep and what falls with each iteration or call.
 use Rattle.std.proofs.Common.{◌≤◌, length}
 use Rattle.amqp_text.proofs.ReadSteps.{GoesOn, IsHexRead}
 use Rattle.amqp_text.proofs.reading.words.read_hex.Given as goal

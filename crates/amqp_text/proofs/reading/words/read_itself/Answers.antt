@@ -1,3 +1,4 @@
+-- `read_itself`: clause `read`.
 use Rattle.std.proofs.Common.{List, ℕ, [], ◌∷◌, get_or, Some, sym, ap, ◌∙◌}
 use Rattle.amqp_text.proofs.ReadSteps.{read_so, unread, itself_read, none_escaped}
 use Rattle.amqp_text.proofs.reading.words.read_itself.Goals as goal

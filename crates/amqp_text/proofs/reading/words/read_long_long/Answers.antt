@@ -1,3 +1,4 @@
+-- `read_long_long`: clause `read`.
 use Rattle.std.proofs.Common.{refl, arith, rules}
 use Rattle.std.proofs.lemmas.Grind.{common_steps}
 use Rattle.amqp_types.specs.Numbers.{bytes8}

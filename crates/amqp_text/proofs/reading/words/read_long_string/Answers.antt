@@ -1,3 +1,4 @@
+-- `read_long_string`: clause `read`.
 use Rattle.amqp_text.specs.Reading.{inside, read_escaped, framed_long, read_long_string}
 use Rattle.amqp_text.proofs.ReadSteps.{failed, long_framed}
 use Rattle.amqp_text.proofs.reading.words.read_long_string.Goals as goal

@@ -1,3 +1,4 @@
+-- `read_negative`: clause `found`.
 use Rattle.std.proofs.Common.{ℕ, ◌-◌, Some, sym, ap, ◌∙◌}
 use Rattle.amqp_text.specs.Reading.{read_digits, read_negative}
 use Rattle.amqp_text.proofs.ReadSteps.{below_within, below_beyond, none_on}

@@ -1,3 +1,4 @@
+-- `read_positive`: clause `found`.
 use Rattle.amqp_text.specs.Reading.{read_positive}
 use Rattle.amqp_text.proofs.ReadSteps.{cap_within, cap_beyond, none_on}
 use Rattle.amqp_text.proofs.reading.words.read_positive.Goals as goal

@@ -1,3 +1,4 @@
+-- `read_short_string`: clause `read`.
 use Rattle.amqp_text.specs.Reading.{inside, read_escaped, framed_short, read_short_string}
 use Rattle.amqp_text.proofs.ReadSteps.{failed, short_framed}
 use Rattle.amqp_text.proofs.reading.words.read_short_string.Goals as goal

@@ -1,3 +1,4 @@
+-- `read_truth`: clause `read`.
 use Rattle.std.proofs.Common.{List, ℕ, ◌++◌, ap, ◌∙◌}
 use Rattle.amqp_text.specs.Reading.{read_truth}
 use Rattle.amqp_text.proofs.reading.words.read_truth.Goals as goal

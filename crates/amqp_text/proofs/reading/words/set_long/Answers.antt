@@ -1,3 +1,4 @@
+-- `set_long`: clause `read`.
 use Rattle.std.proofs.Common.{rules, ◌≡◌, ◌≤◌, ◌+◌, length, refl, arith}
 use Rattle.amqp_types.specs.Numbers.{bytes4, number_bytes}
 use Rattle.amqp_types.specs.Writing.{written}

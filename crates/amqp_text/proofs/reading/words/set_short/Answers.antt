@@ -1,3 +1,4 @@
+-- `set_short`: clause `read`.
 use Rattle.std.proofs.Common.{rules, ◌≡◌, ◌≤◌, ◌+◌, ℕ, [], ◌∷◌, length, refl, ap, arith}
 use Rattle.amqp_types.specs.Numbers.{bytes1, number_bytes}
 use Rattle.amqp_types.specs.Writing.{written}

@@ -1,3 +1,4 @@
+-- `FieldTable::get`: what it ensures and what loops keep.
 use Rattle.std.proofs.Common.{sym, ap, ◌∙◌, bytes_eq}
 use Rattle.std.proofs.lemmas.Map.Text.{is_eq-slice_cmp}
 use Rattle.std.specs.Ordering.{nat_cmp}

@@ -1,3 +1,4 @@
+-- `FieldTable::get`: what loops keep.
 use Rattle.std.proofs.Common.{◌≡◌, map}
 use Rattle.std.specs.Map.{lookup}
 use Rattle.std.specs.Ordering.{nat_cmp}

@@ -1,3 +1,4 @@
+-- `FieldTable::iter`: clause `rising`.
 use Rattle.std.proofs.Common.{sym, ap, ◌∙◌, subst, List, ℕ}
 use Rattle.std.specs.Map.{keys_of}
 use Rattle.std.specs.List.Sorted.{IsStrictlySortedBy}

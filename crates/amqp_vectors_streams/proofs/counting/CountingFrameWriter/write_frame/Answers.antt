@@ -1,3 +1,4 @@
+-- `CountingFrameWriter::write_frame`: clause `writes`.
 use Rattle.std.proofs.Common.{refl}
 use Rattle.amqp_stream.proofs.Writes.{written_by, unwritten_by}
 use Rattle.amqp_vectors_streams.specs.Counting.{one_more}

@@ -1,7 +1,8 @@
+-- the calls of cycle `render`: what loops keep and what falls with each iteration or call.
 use Rattle.std.proofs.Common.{◌+◌, ◌*◌, length}
-use Rattle.amqp_text.specs.Telling.{told_entry, told_value}
-use Rattle.amqp_text.proofs.Told.{GoesOn}
-use Rattle.amqp_text.proofs.values.+tell.Given as goal
+use Rattle.amqp_text.specs.Rendering.{rendered_entry, rendered_value}
+use Rattle.amqp_text.proofs.Rendered.{GoesOn}
+use Rattle.amqp_text.proofs.values.+render.Given as goal
 
 abbrev pub decreases-write_after_tag : goal.decreases-write_after_tag
 decreases-write_after_tag l = 5 * l.room
@@ -31,7 +32,7 @@ abbrev pub decreases-write_entries-loop-rest : goal.decreases-write_entries-loop
 decreases-write_entries-loop-rest l = length l.rest
 
 abbrev pub invariant-write_values-loop-rest : goal.invariant-write_values-loop-rest
-invariant-write_values-loop-rest l = GoesOn (told_value l.room) l.content l.fn.out.items l.rest l.out.items
+invariant-write_values-loop-rest l = GoesOn (rendered_value l.room) l.content l.fn.out.items l.rest l.out.items
 
 abbrev pub invariant-write_entries-loop-rest : goal.invariant-write_entries-loop-rest
-invariant-write_entries-loop-rest l = GoesOn (told_entry (told_value l.room)) l.content l.fn.out.items l.rest l.out.items
+invariant-write_entries-loop-rest l = GoesOn (rendered_entry (rendered_value l.room)) l.content l.fn.out.items l.rest l.out.items

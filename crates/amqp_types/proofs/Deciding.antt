@@ -1,19 +1,20 @@
--- A test that parts tidy encodings from plain ones says of what is decoded, and two such tests do so of two things, one after the other.
+-- A test that separates tidy encodings from other plain ones decides whether bytes that are decoded are tidy, and two such
+-- tests decide it of two things, one after the other.
 use Rattle.std.proofs.Common.{◌≡◌, ℕ, ◌&&◌, Bool, true, List, ◌++◌, length, take, drop, refl, sym, ap, subst, ◌∙◌, append_assoc}
 use Rattle.std.proofs.lemmas.Bool.{and_from, and_parts}
 use Rattle.std.proofs.lemmas.List.{drop_at, take-append-drop}
 use Rattle.amqp_types.specs.Levels.{Level, plain, tidy}
 use Rattle.amqp_types.specs.Judging.{Judge, IsExact}
 use Rattle.amqp_types.specs.Sequences.{SpellsBoth}
-use Rattle.amqp_types.specs.Tidiness.{used_by, test_both, IsToldBy}
+use Rattle.amqp_types.specs.Tidiness.{used_by, test_both, IsDecidedBy}
 
 -- A plain encoding of which the test holds is tidy, and it holds of each tidy one, whatever follows.
 pub record IsTest {A : Type 0} (Spells : Level → List ℕ → A → Type 0) (test : List ℕ → Bool) : Type 0 where
   pub tidied : (bytes rest : List ℕ) (x : A) → Spells plain bytes x → test (bytes ++ rest) ≡ true → Spells tidy bytes x
   pub tested : (bytes rest : List ℕ) (x : A) → Spells tidy bytes x → test (bytes ++ rest) ≡ true
 
-pub told : {A : Type 0} (judge : Judge A) (Spells : Level → List ℕ → A → Type 0) (test : List ℕ → Bool) → IsExact judge (Spells plain) → IsTest Spells test → IsToldBy judge (Spells tidy) test
-told judge Spells test exact is = record {
+pub decides : {A : Type 0} (judge : Judge A) (Spells : Level → List ℕ → A → Type 0) (test : List ℕ → Bool) → IsExact judge (Spells plain) → IsTest Spells test → IsDecidedBy judge (Spells tidy) test
+decides judge Spells test exact is = record {
   spelled = λ bytes x n fits h right.
       let plainly = exact.spelled bytes x n fits h in
       let P : List ℕ → Type 0 = λ bs. test bs ≡ true in

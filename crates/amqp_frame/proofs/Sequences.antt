@@ -8,9 +8,9 @@ use Rattle.amqp_types.proofs.Exact.{none_begins}
 use Rattle.amqp_frame.specs.Frames.{Frame}
 use Rattle.amqp_frame.specs.Verdicts.{verdict}
 use Rattle.amqp_frame.specs.Spelling.{Spells, SpellsFrames}
-use Rattle.amqp_frame.specs.Fronts.{front, place, Precedes}
-use Rattle.amqp_frame.specs.Laws.{SpellsWithin, IsLongestRow}
-use Rattle.amqp_frame.proofs.Cuts.{IsStop, front-got, front-stop, front-none, place-none, stop-none, GoesOn, Precedes-none, verdict-append, verdict-exact, verdict-got_within}
+use Rattle.amqp_frame.specs.Fronts.{front, place, ComesBefore}
+use Rattle.amqp_frame.specs.Laws.{SpellsWithin, IsLongestSequence}
+use Rattle.amqp_frame.proofs.Cuts.{IsStop, front-got, front-stop, front-none, place-none, stop-none, GoesOn, ComesBefore-none, verdict-append, verdict-exact, verdict-got_within}
 use Rattle.amqp_frame.proofs.Spelled.{verdict-spelled, verdict-spelled_before}
 use Rattle.amqp_frame.proofs.Encoded.{verdict-spells}
 
@@ -27,38 +27,38 @@ no_frame_begins level bytes rest f g s t = none_begins (verdict level None) (Spe
 
 -- ---- a sequence is what is cut from the front, whatever follows it
 
-Precedes-first : (level : Level) (m : Option ℕ) (first rest : List ℕ) (f : Frame) (frames : List Frame) → verdict level m first ≡ took f (length first) → Precedes level m rest frames → Precedes level m (first ++ rest) (f ∷ frames)
-Precedes-first level m first rest f frames e p =
+ComesBefore-first : (level : Level) (m : Option ℕ) (first rest : List ℕ) (f : Frame) (frames : List Frame) → verdict level m first ≡ took f (length first) → ComesBefore level m rest frames → ComesBefore level m (first ++ rest) (f ∷ frames)
+ComesBefore-first level m first rest f frames e p =
     let found : (more : List ℕ) → verdict level m (first ++ more) ≡ took f (length first) = λ more. subst (λ (xs : List ℕ). verdict level m (xs ++ more) ≡ took f (length first)) (take_all (length first) first (omega arith)) (verdict-exact level m first more f (length first) e) in
     let goes : (more : List ℕ) → GoesOn level m (first ++ more) f more = λ more. subst (λ (xs : List ℕ). GoesOn level m (first ++ more) f xs) (drop_at first more (length first) refl) (front-got level m (first ++ more) f (length first) (found more)) in
     record {
-      row = λ more. rw (append_assoc first rest more) ((goes (rest ++ more)).row ∙ ap (λ (fs : List Frame). f ∷ fs) (p.row more));
+      sequence = λ more. rw (append_assoc first rest more) ((goes (rest ++ more)).sequence ∙ ap (λ (fs : List Frame). f ∷ fs) (p.sequence more));
       after = λ more. rw (append_assoc first rest more) ((goes (rest ++ more)).after ∙ p.after more);
     }
 
-pub SpellsFrames-precedes : (level : Level) (m : Option ℕ) (bytes : List ℕ) (frames : List Frame) → SpellsFrames level m bytes frames → Precedes level m bytes frames
-SpellsFrames-precedes level m bytes [] r = subst (λ (xs : List ℕ). Precedes level m xs []) (sym r) (Precedes-none level m)
+pub SpellsFrames-precedes : (level : Level) (m : Option ℕ) (bytes : List ℕ) (frames : List Frame) → SpellsFrames level m bytes frames → ComesBefore level m bytes frames
+SpellsFrames-precedes level m bytes [] r = subst (λ (xs : List ℕ). ComesBefore level m xs []) (sym r) (ComesBefore-none level m)
 SpellsFrames-precedes level m bytes (f ∷ fs) r =
     let first = r.0 in
     let found = verdict-spelled level m first f r.3 r.4 in
-    subst (λ (xs : List ℕ). Precedes level m xs (f ∷ fs)) (sym r.2) (Precedes-first level m first r.1 f fs found (SpellsFrames-precedes level m r.1 fs r.5))
+    subst (λ (xs : List ℕ). ComesBefore level m xs (f ∷ fs)) (sym r.2) (ComesBefore-first level m first r.1 f fs found (SpellsFrames-precedes level m r.1 fs r.5))
 
 -- the front of a sequence is the sequence, and nothing follows it
-pub row_front : (level : Level) (m : Option ℕ) (bytes : List ℕ) (frames : List Frame) → SpellsFrames level m bytes frames → front level m bytes ≡ frames
-row_front level m bytes frames r = ap (front level m) (sym (append-nil bytes)) ∙ (SpellsFrames-precedes level m bytes frames r).row [] ∙ ap (λ (fs : List Frame). frames ++ fs) (front-none level m) ∙ append-nil frames
+pub sequence_front : (level : Level) (m : Option ℕ) (bytes : List ℕ) (frames : List Frame) → SpellsFrames level m bytes frames → front level m bytes ≡ frames
+sequence_front level m bytes frames r = ap (front level m) (sym (append-nil bytes)) ∙ (SpellsFrames-precedes level m bytes frames r).sequence [] ∙ ap (λ (fs : List Frame). frames ++ fs) (front-none level m) ∙ append-nil frames
 
-pub row_place : (level : Level) (m : Option ℕ) (bytes : List ℕ) (frames : List Frame) → SpellsFrames level m bytes frames → place level m bytes ≡ []
-row_place level m bytes frames r = ap (place level m) (sym (append-nil bytes)) ∙ (SpellsFrames-precedes level m bytes frames r).after [] ∙ place-none level m
+pub sequence_place : (level : Level) (m : Option ℕ) (bytes : List ℕ) (frames : List Frame) → SpellsFrames level m bytes frames → place level m bytes ≡ []
+sequence_place level m bytes frames r = ap (place level m) (sym (append-nil bytes)) ∙ (SpellsFrames-precedes level m bytes frames r).after [] ∙ place-none level m
 
-pub one_row : (level : Level) (m : Option ℕ) (bytes : List ℕ) (fs gs : List Frame) → SpellsFrames level m bytes fs → SpellsFrames level m bytes gs → fs ≡ gs
-one_row level m bytes fs gs r s = sym (row_front level m bytes fs r) ∙ row_front level m bytes gs s
+pub one_sequence : (level : Level) (m : Option ℕ) (bytes : List ℕ) (fs gs : List Frame) → SpellsFrames level m bytes fs → SpellsFrames level m bytes gs → fs ≡ gs
+one_sequence level m bytes fs gs r s = sym (sequence_front level m bytes fs r) ∙ sequence_front level m bytes gs s
 
 -- ---- the bytes are what was cut, and the place
 
 pub record Splits (level : Level) (m : Option ℕ) (bytes : List ℕ) : Type 0 where
   pub used : List ℕ
   pub parts : bytes ≡ used ++ place level m bytes
-  pub row : Precedes level m used (front level m bytes)
+  pub sequence : ComesBefore level m used (front level m bytes)
   pub stop : IsStop (verdict level m (place level m bytes))
 
 splits_stop : (level : Level) (m : Option ℕ) (bytes : List ℕ) → IsStop (verdict level m bytes) → Splits level m bytes
@@ -67,7 +67,7 @@ splits_stop level m bytes s =
     record {
       used = [];
       parts = sym at.1;
-      row = subst (λ (fs : List Frame). Precedes level m [] fs) (sym at.0) (Precedes-none level m);
+      sequence = subst (λ (fs : List Frame). ComesBefore level m [] fs) (sym at.0) (ComesBefore-none level m);
       stop = subst (λ (xs : List ℕ). IsStop (verdict level m xs)) (sym at.1) s;
     }
 
@@ -87,7 +87,7 @@ splits_step level m n bytes few ih (took f k) e =
     record {
       used = take k bytes ++ rest.used;
       parts = parts_behind level m bytes rest.used f k goes rest.parts;
-      row = subst (λ (fs : List Frame). Precedes level m (take k bytes ++ rest.used) fs) (sym goes.row) (Precedes-first level m (take k bytes) rest.used f (front level m (drop k bytes)) first rest.row);
+      sequence = subst (λ (fs : List Frame). ComesBefore level m (take k bytes ++ rest.used) fs) (sym goes.sequence) (ComesBefore-first level m (take k bytes) rest.used f (front level m (drop k bytes)) first rest.sequence);
       stop = subst (λ (xs : List ℕ). IsStop (verdict level m xs)) (sym goes.after) rest.stop;
     }
 
@@ -103,20 +103,20 @@ place-length level m bytes = let s = splits_of level m bytes in omega (arith, ap
 
 -- ---- the front is a sequence, and the longest
 
-pub record FrontIsRow (level : Level) (m : Option ℕ) (bytes : List ℕ) : Type 0 where
+pub record FrontIsSequence (level : Level) (m : Option ℕ) (bytes : List ℕ) : Type 0 where
   pub used : List ℕ
   pub parts : bytes ≡ used ++ place level m bytes
-  pub row : SpellsFrames level m used (front level m bytes)
+  pub sequence : SpellsFrames level m used (front level m bytes)
 
-row_stop : (level : Level) (m : Option ℕ) (bytes : List ℕ) → IsStop (verdict level m bytes) → FrontIsRow level m bytes
-row_stop level m bytes s =
+sequence_stop : (level : Level) (m : Option ℕ) (bytes : List ℕ) → IsStop (verdict level m bytes) → FrontIsSequence level m bytes
+sequence_stop level m bytes s =
     let at = front-stop level m bytes s in
-    record { used = []; parts = sym at.1; row = subst (λ (fs : List Frame). SpellsFrames level m [] fs) (sym at.0) refl }
+    record { used = []; parts = sym at.1; sequence = subst (λ (fs : List Frame). SpellsFrames level m [] fs) (sym at.0) refl }
 
-row_step : (level : Level) (m : Option ℕ) (n : ℕ) (bytes : List ℕ) → IsBytes bytes → length bytes ≤ suc n → ((rest : List ℕ) → IsBytes rest → length rest ≤ n → FrontIsRow level m rest) → (j : Judged Frame) → verdict level m bytes ≡ j → FrontIsRow level m bytes
-row_step level m n bytes fits few ih past e = row_stop level m bytes (rw e tt)
-row_step level m n bytes fits few ih (fault bad) e = row_stop level m bytes (rw e tt)
-row_step level m n bytes fits few ih (took f k) e =
+sequence_step : (level : Level) (m : Option ℕ) (n : ℕ) (bytes : List ℕ) → IsBytes bytes → length bytes ≤ suc n → ((rest : List ℕ) → IsBytes rest → length rest ≤ n → FrontIsSequence level m rest) → (j : Judged Frame) → verdict level m bytes ≡ j → FrontIsSequence level m bytes
+sequence_step level m n bytes fits few ih past e = sequence_stop level m bytes (rw e tt)
+sequence_step level m n bytes fits few ih (fault bad) e = sequence_stop level m bytes (rw e tt)
+sequence_step level m n bytes fits few ih (took f k) e =
     let at = verdict-got_within level m bytes f k e in
     let rest = ih (drop k bytes) (IsBytes-drop k bytes fits) (omega (arith, length-drop k bytes)) in
     let goes = front-got level m bytes f k e in
@@ -124,30 +124,30 @@ row_step level m n bytes fits few ih (took f k) e =
     record {
       used = take k bytes ++ rest.used;
       parts = parts_behind level m bytes rest.used f k goes rest.parts;
-      row = subst (λ (fs : List Frame). SpellsFrames level m (take k bytes ++ rest.used) fs) (sym goes.row) (take k bytes, rest.used, refl, spelled.0, spelled.1, rest.row);
+      sequence = subst (λ (fs : List Frame). SpellsFrames level m (take k bytes ++ rest.used) fs) (sym goes.sequence) (take k bytes, rest.used, refl, spelled.0, spelled.1, rest.sequence);
     }
 
-row_by : (level : Level) (m : Option ℕ) (n : ℕ) (bytes : List ℕ) → IsBytes bytes → length bytes ≤ n → FrontIsRow level m bytes
-row_by level m zero bytes fits few = row_stop level m bytes (subst (λ (xs : List ℕ). IsStop (verdict level m xs)) (sym (nil_from_length bytes (omega arith))) (stop-none level m))
-row_by level m (suc n) bytes fits few = row_step level m n bytes fits few (λ rest. row_by level m n rest) (verdict level m bytes) refl
+sequence_by : (level : Level) (m : Option ℕ) (n : ℕ) (bytes : List ℕ) → IsBytes bytes → length bytes ≤ n → FrontIsSequence level m bytes
+sequence_by level m zero bytes fits few = sequence_stop level m bytes (subst (λ (xs : List ℕ). IsStop (verdict level m xs)) (sym (nil_from_length bytes (omega arith))) (stop-none level m))
+sequence_by level m (suc n) bytes fits few = sequence_step level m n bytes fits few (λ rest. sequence_by level m n rest) (verdict level m bytes) refl
 
-pub front-is_row : (level : Level) (m : Option ℕ) (bytes : List ℕ) → IsBytes bytes → FrontIsRow level m bytes
-front-is_row level m bytes fits = row_by level m (length bytes) bytes fits (omega arith)
+pub front-is_sequence : (level : Level) (m : Option ℕ) (bytes : List ℕ) → IsBytes bytes → FrontIsSequence level m bytes
+front-is_sequence level m bytes fits = sequence_by level m (length bytes) bytes fits (omega arith)
 
 -- where nothing follows the front, the bytes are it
-pub row_of_all : (level : Level) (m : Option ℕ) (bytes : List ℕ) → IsBytes bytes → place level m bytes ≡ [] → SpellsFrames level m bytes (front level m bytes)
-row_of_all level m bytes fits none =
-    let cut = front-is_row level m bytes fits in
+pub sequence_of_all : (level : Level) (m : Option ℕ) (bytes : List ℕ) → IsBytes bytes → place level m bytes ≡ [] → SpellsFrames level m bytes (front level m bytes)
+sequence_of_all level m bytes fits none =
+    let cut = front-is_sequence level m bytes fits in
     let same : cut.used ≡ bytes = sym (cut.parts ∙ ap (λ (xs : List ℕ). cut.used ++ xs) none ∙ append-nil cut.used) in
-    subst (λ (xs : List ℕ). SpellsFrames level m xs (front level m bytes)) same cut.row
+    subst (λ (xs : List ℕ). SpellsFrames level m xs (front level m bytes)) same cut.sequence
 
-pub longest_row : (level : Level) (m : Option ℕ) (bytes : List ℕ) → IsBytes bytes → IsLongestRow level m bytes (front level m bytes) (place level m bytes)
-longest_row level m bytes fits =
-    let cut = front-is_row level m bytes fits in
+pub longest_sequence : (level : Level) (m : Option ℕ) (bytes : List ℕ) → IsBytes bytes → IsLongestSequence level m bytes (front level m bytes) (place level m bytes)
+longest_sequence level m bytes fits =
+    let cut = front-is_sequence level m bytes fits in
     record {
       spelled = cut.used;
       parts = cut.parts;
-      row = cut.row;
+      sequence = cut.sequence;
       longest = λ other more fs e r.
           let p = SpellsFrames-precedes level m other fs r in
           let rest : place level m bytes ≡ place level m more = ap (place level m) e ∙ p.after more in
@@ -165,7 +165,7 @@ place_fault level m bytes rest bad e =
     let p = place level m bytes in
     let more = stops_before level m bytes rest bad e in
     let stop : place level m (p ++ rest) ≡ p ++ rest = (front-stop level m (p ++ rest) (rw more tt)).1 in
-    let same : place level m (bytes ++ rest) ≡ p ++ rest = ap (λ (xs : List ℕ). place level m (xs ++ rest)) s.parts ∙ ap (place level m) (append_assoc s.used p rest) ∙ s.row.after (p ++ rest) ∙ stop in
+    let same : place level m (bytes ++ rest) ≡ p ++ rest = ap (λ (xs : List ℕ). place level m (xs ++ rest)) s.parts ∙ ap (place level m) (append_assoc s.used p rest) ∙ s.sequence.after (p ++ rest) ∙ stop in
     ap (verdict level m) same ∙ more
 
 pub front_fault : (level : Level) (m : Option ℕ) (bytes rest : List ℕ) (bad : Fault) → verdict level m (place level m bytes) ≡ fault bad → front level m (bytes ++ rest) ≡ front level m bytes
@@ -174,4 +174,4 @@ front_fault level m bytes rest bad e =
     let p = place level m bytes in
     let more = stops_before level m bytes rest bad e in
     let stop : front level m (p ++ rest) ≡ [] = (front-stop level m (p ++ rest) (rw more tt)).0 in
-    ap (λ (xs : List ℕ). front level m (xs ++ rest)) s.parts ∙ ap (front level m) (append_assoc s.used p rest) ∙ s.row.row (p ++ rest) ∙ ap (λ (fs : List Frame). front level m bytes ++ fs) stop ∙ append-nil (front level m bytes)
+    ap (λ (xs : List ℕ). front level m (xs ++ rest)) s.parts ∙ ap (front level m) (append_assoc s.used p rest) ∙ s.sequence.sequence (p ++ rest) ∙ ap (λ (fs : List Frame). front level m bytes ++ fs) stop ∙ append-nil (front level m bytes)

@@ -3,14 +3,14 @@ use Rattle.std.proofs.Common.{ℕ, zero, suc, ◌+◌, [], ◌∷◌, refl, arit
 use Rattle.amqp_types.specs.Levels.{plain}
 use Rattle.amqp_frame.specs.Frames.{Frame}
 use Rattle.amqp_frame.specs.Spelling.{Spells}
-use Rattle.amqp_stream.specs.Made.{made_frame, made_from, IsRowOf}
+use Rattle.amqp_stream.specs.Made.{made_frame, made_from, IsSequenceOf}
 use Rattle.amqp_stream.proofs.MadeSizes.{made_frame-short}
 
 -- where each frame is encoded, the frames one after another are a sequence
-pub made_row : (frame : ℕ → Frame) → ((i : ℕ) → Spells plain (made_frame i) (frame i)) → (i n : ℕ) → IsRowOf n (made_from i n)
-made_row frame spelled i zero = record { frames = []; spelled = refl; count = refl }
-made_row frame spelled i (suc n) =
-    let more = made_row frame spelled (i + 1) n in
+pub made_sequence : (frame : ℕ → Frame) → ((i : ℕ) → Spells plain (made_frame i) (frame i)) → (i n : ℕ) → IsSequenceOf n (made_from i n)
+made_sequence frame spelled i zero = record { frames = []; spelled = refl; count = refl }
+made_sequence frame spelled i (suc n) =
+    let more = made_sequence frame spelled (i + 1) n in
     record {
       frames = frame i ∷ more.frames;
       spelled = (made_frame i, made_from (i + 1) n, refl, spelled i, omega (arith, made_frame-short i), more.spelled);

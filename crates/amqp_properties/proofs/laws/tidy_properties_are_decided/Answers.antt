@@ -1,0 +1,6 @@
+-- `tidy_properties_are_decided`: what it ensures.
+use Rattle.amqp_properties.proofs.Tidiness.{properties_decided}
+use Rattle.amqp_properties.proofs.laws.tidy_properties_are_decided.Goals as goal
+
+pub returns : goal.returns
+returns c = properties_decided
