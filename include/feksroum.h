@@ -6,9 +6,9 @@
  *
  * A frame is a protocol header, a method, a content header, a body or a heartbeat. It is read at a level:
  *
- *   FEKSROUM_PLAIN  whatever the standard's grammar allows, which is what peers send;
- *   FEKSROUM_TIDY   of these, the frames in which all that reading drops stands as it is written: reserved fields hold
- *                   their constants, a content header's weight and all spare bits are 0, heartbeats are empty.
+ *   FEKSROUM_PLAIN  each encoding of the grammar in docs/FORMAT.md, which is what peers send;
+ *   FEKSROUM_TIDY   of these, the frames in which all that reading drops is canonical: reserved fields hold their
+ *                   constants, a content header's weight and all spare bits are 0, heartbeats are empty.
  *
  * Each frame has one encoding that is written, its canonical bytes. They are never longer than any other encoding of it.
  *

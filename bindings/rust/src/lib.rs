@@ -32,6 +32,6 @@ pub enum Level {
     /// Whatever the standard's grammar allows, which is what peers send.
     #[default]
     Plain,
-    /// Frames alone in which all that reading drops stands as it is written.
+    /// Frames alone in which all that reading drops is canonical.
     Tidy,
 }

@@ -1,7 +1,6 @@
 -- One frame that is put, and the loop over the frames in front.
 use Rattle.std.proofs.Common.{◌≡◌, ◌≢◌, ℕ, ◌+◌, ◌<◌, ◌≤◌, ◌^◌, List, get_or, [], ◌∷◌, ◌++◌, length, drop, Some, Ok, Err, refl, sym, ap, subst, ◌∙◌, arith, append_assoc, append-nil}
 use Rattle.std.proofs.lemmas.List.{length-append, length-drop, drop-drop, drop_all}
-use Rattle.std.proofs.lemmas.List.Concat.{flat_map-append}
 use Rattle.amqp_types.specs.Levels.{Level}
 use Rattle.amqp_types.specs.Judging.{Fault, Judged, past, fault, took, not_tidy, short_payload, trailing_bytes}
 use Rattle.amqp_types.specs.Answers.{RefusesWhole}
@@ -20,6 +19,7 @@ use Rattle.amqp_frame.specs.Spelling.{proto}
 use Rattle.amqp_frame.specs.Verdicts.{IsPayloadError, judged, verdict, whole, whole_as}
 use Rattle.amqp_frame.proofs.Cuts.{IsStop, front-got, front-stop, front-none, place-none, verdict-got_within, verdict-whole}
 use Rattle.amqp_frame.proofs.OuterLook.{outer-in_bounds}
+use Rattle.amqp_frame.proofs.Strictness.{canon_frames-more}
 use Rattle.amqp_stream.specs.declared.errors.StreamError.{StreamError}
 use Rattle.amqp_stream.specs.declared.errors.StreamError.TheVariants as errors
 use Rattle.amqp_stream.specs.Errors.{error_for, stream_error_status, status_of}
@@ -141,9 +141,6 @@ pub record Going (level : Level) (m : ℕ) (bytes old now : List ℕ) (used done
 
 pub going_start : (level : Level) (m : ℕ) (bytes old : List ℕ) → Going level m bytes old old 0 0
 going_start level m bytes old = record { frames = []; sequence = refl; after = refl; put = puts_none old 0 [] refl; within = omega arith; shorter = omega arith }
-
-canon_frames-more : (frames : List Frame) (f : Frame) → canon_frames (frames ++ f ∷ []) ≡ canon_frames frames ++ canon f
-canon_frames-more frames f = flat_map-append canon frames (f ∷ []) ∙ ap (λ (xs : List ℕ). canon_frames frames ++ xs) (append-nil (canon f))
 
 pub going_on : {level : Level} {m : ℕ} {bytes old now new : List ℕ} {used done more end : ℕ} → length bytes ≤ length old → Going level m bytes old now used done → PutsFrom level m (drop used bytes) now new done more end → Going level m bytes old new (used + more) end
 going_on {level = level} {m = m} {bytes = bytes} {old = old} {now = now} {new = new} {used = used} {done = done} {more = more} {end = end} room g p =

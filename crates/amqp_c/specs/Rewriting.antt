@@ -12,7 +12,7 @@ use Rattle.amqp_frame.specs.Canonical.{canon}
 use Rattle.amqp_frame.specs.Verdicts.{is_at, verdict, whole, whole_as}
 use Rattle.amqp_frame.specs.Fronts.{place}
 use Rattle.amqp_stream.specs.declared.errors.StreamError.{StreamError}
-use Rattle.amqp_stream.specs.Errors.{error_for, stream_error_status, status_of}
+use Rattle.amqp_stream.specs.Errors.{error_for, status_of}
 use Rattle.amqp_stream.specs.Writing.{IsFaulty}
 use Rattle.amqp_stream.specs.Canonicalizing.{canon_of}
 use Rattle.amqp_stream.specs.Transcribing.{answer_to, place_verdict}

@@ -10,7 +10,8 @@ ghost use Rattle.amqp_c.specs.Statuses.{bad_argument, buffer_too_small};
 use crate::next::{frame_at, scan};
 use crate::statuses::{BAD_ARGUMENT, BUFFER_TOO_SMALL};
 use amqp_frame::{
-    AMQPFrameType, AMQPRawFrame, Mark, ProtocolVersion, header_bytes, judge_frame, put_canonical,
+    AMQPFrameType, AMQPRawFrame, EntryMark, ProtocolVersion, header_bytes, judge_frame,
+    put_canonical,
 };
 use amqp_stream::{StreamError, payload_error};
 use amqp_types::{Profile, put_bytes};
@@ -69,7 +70,7 @@ fn put_version(out: &mut [u8], at: usize, payload: &[u8]) -> Result<usize, Strea
 fn put_typed(
     out: &mut [u8],
     at: usize,
-    scratch: &mut [Mark],
+    scratch: &mut [EntryMark],
     raw: AMQPRawFrame<'_>,
 ) -> Result<usize, StreamError>
     requires few { length raw.payload.now < 2 ^ 32 }
@@ -103,7 +104,7 @@ fn with_type(frame_type: AMQPFrameType, raw: AMQPRawFrame<'_>) -> AMQPRawFrame<'
 fn put_plain(
     out: &mut [u8],
     at: usize,
-    scratch: &mut [Mark],
+    scratch: &mut [EntryMark],
     raw: AMQPRawFrame<'_>,
 ) -> Result<usize, StreamError>
     requires few { length raw.payload.now < 2 ^ 32 }
@@ -127,7 +128,7 @@ fn put_plain(
 fn put_tidy(
     out: &mut [u8],
     at: usize,
-    scratch: &mut [Mark],
+    scratch: &mut [EntryMark],
     raw: AMQPRawFrame<'_>,
 ) -> Result<usize, StreamError>
     requires few { length raw.payload.now < 2 ^ 32 }
@@ -148,7 +149,7 @@ fn put_at_level(
     profile: Profile,
     out: &mut [u8],
     at: usize,
-    scratch: &mut [Mark],
+    scratch: &mut [EntryMark],
     raw: AMQPRawFrame<'_>,
 ) -> Result<usize, StreamError>
     requires few { length raw.payload.now < 2 ^ 32 }
@@ -171,7 +172,7 @@ fn put_front(
     bytes: &[u8],
     out: &mut [u8],
     at: usize,
-    scratch: &mut [Mark],
+    scratch: &mut [EntryMark],
 ) -> Result<(usize, usize), StreamError>
     requires room { at + length bytes.now ≤ length out.old }
     ensures { PutsFront (level_of profile) max_payload bytes.now out.old out.new at result }
@@ -191,7 +192,7 @@ fn put_front(
 fn canonicalize(
     bytes: &[u8],
     out: &mut [u8],
-    scratch: &mut [Mark],
+    scratch: &mut [EntryMark],
     max_payload: u32,
     profile: Profile,
 ) -> Progress
@@ -227,7 +228,7 @@ fn canonicalize(
 fn canonicalize_plain(
     bytes: &[u8],
     out: &mut [u8],
-    scratch: &mut [Mark],
+    scratch: &mut [EntryMark],
     max_payload: u32,
 ) -> Progress
     requires room { length bytes.now ≤ length out.old }
@@ -241,7 +242,7 @@ fn canonicalize_plain(
 fn canonicalize_tidy(
     bytes: &[u8],
     out: &mut [u8],
-    scratch: &mut [Mark],
+    scratch: &mut [EntryMark],
     max_payload: u32,
 ) -> Progress
     requires room { length bytes.now ≤ length out.old }
@@ -254,7 +255,7 @@ fn canonicalize_tidy(
 fn canonicalize_at(
     bytes: &[u8],
     out: &mut [u8],
-    scratch: &mut [Mark],
+    scratch: &mut [EntryMark],
     max_payload: u32,
     profile: Profile,
 ) -> Progress
@@ -278,7 +279,7 @@ fn canonicalize_on_stack(
     requires room { length bytes.now ≤ length out.old }
     ensures { CanonicalizesPart (level_of profile) max_payload bytes.now out.old out.new result }
 {
-    let mut scratch = [Mark::default(); MARKS];
+    let mut scratch = [EntryMark::default(); MARKS];
     canonicalize_at(bytes, out, &mut scratch, max_payload, profile)
 }
 
@@ -289,7 +290,7 @@ fn canonicalize_on_stack(
 pub extern "C" fn feksroum_canonicalize(
     bytes: &[u8],
     out: &mut [u8],
-    scratch: &mut [Mark],
+    scratch: &mut [EntryMark],
     max_payload: u32,
     level: u8,
 ) -> Progress

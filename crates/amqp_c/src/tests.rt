@@ -7,7 +7,7 @@ use crate::lines::{feksroum_dump, feksroum_undump};
 use crate::next::feksroum_next;
 use crate::scratch::feksroum_scratch;
 use crate::statuses::feksroum_name;
-use amqp_frame::Mark;
+use amqp_frame::EntryMark;
 
 const LIMIT: u32 = 131_072;
 
@@ -124,7 +124,7 @@ fn streams_are_canonicalized(rt: HostRuntime) {
 #[test]
 fn a_scratch_may_be_lent(rt: HostRuntime) {
     assert!(rt; feksroum_scratch(29) == 14 && feksroum_scratch(0) == 0);
-    let mut scratch = [Mark::default(); 257];
+    let mut scratch = [EntryMark::default(); 257];
     let mut out = [99; 28];
     let progress = feksroum_canonicalize(&TWICE, &mut out, &mut scratch, LIMIT, 0);
     assert!(rt; progress.used == 28 && progress.status == 0);

@@ -9,7 +9,6 @@ use Rattle.amqp_types.specs.Judging.{Judged, Judge, took, past, fault, too_deep,
 use Rattle.amqp_types.specs.Sequences.{judge_map}
 use Rattle.amqp_types.specs.Answers.{AnswersFully}
 use Rattle.amqp_types.specs.Numbers.{NumberWidth, bytes1, bytes4, width_of, byte_count, judge_number}
-use Rattle.amqp_types.specs.Signed.{judge_signed}
 use Rattle.amqp_types.specs.Booleans.{judge_boolean}
 use Rattle.amqp_types.specs.Strings.{short_string_bytes, judge_short_string, judge_long_string}
 use Rattle.amqp_types.specs.Values.{FieldValue, Entry, SignedKind, UnsignedKind, BytesKind, short_short_int, short_int, long_int, long_long_int, short_short_uint, short_uint, long_uint, float, double, timestamp, long_string, byte_array, boolean_value, signed_value, unsigned_value, decimal_value, bytes_value, array_value, table_value, void_value, values_of, entries_of}
@@ -23,14 +22,13 @@ use Rattle.amqp_types.proofs.Bytes.{IsBytes-drop}
 use Rattle.amqp_types.proofs.FormLaws.{signed_only}
 use Rattle.amqp_types.proofs.Numbers.{number_exact}
 use Rattle.amqp_types.proofs.Texts.{short_string_exact, long_string_exact}
-use Rattle.amqp_types.proofs.Took.{bind_took, value_took}
 use Rattle.amqp_values.proofs.Filling.{nested_none, nested_more}
 use Rattle.amqp_canonical.specs.declared.values.Layout.TheVariants as layout
 use Rattle.amqp_canonical.specs.declared.values.ValueJudgement.{ValueJudgement}
 use Rattle.amqp_canonical.specs.Judgements.{layout_at, IsCanonicalBoolean, IsCanonicalAfterTag, IsCanonicalValue, IsCanonicalArray, IsCanonicalTable, DecodesAs, DecodesAsEntry, Judges}
 use Rattle.amqp_canonical.proofs.Refusing.{Fails, fully, fails_next}
 use Rattle.amqp_canonical.proofs.Children.{decided_as, both_decided, split_two, value_few}
-use Rattle.amqp_values.proofs.Exactly.{mapped_tag, tag_behind}
+use Rattle.amqp_values.proofs.Exactly.{tag_behind}
 
 -- ---- which tag a value has that was read after a tag
 

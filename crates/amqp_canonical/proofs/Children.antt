@@ -1,5 +1,5 @@
 -- Values and entries that were decoded, up to a place.
-use Rattle.std.proofs.Common.{◌≡◌, ℕ, zero, suc, ◌+◌, ◌<◌, ◌≤◌, ◌↔◌, ◌⊎◌, inl, inr, Bool, true, false, ◌&&◌, IsTrue, List, [], ◌∷◌, ◌++◌, length, take, drop, Result, Ok, Err, refl, sym, ap, ap₂, subst, ◌∙◌, append-nil, append_assoc, arith, true≢false}
+use Rattle.std.proofs.Common.{◌≡◌, ℕ, zero, suc, ◌+◌, ◌<◌, ◌≤◌, ◌↔◌, ◌⊎◌, inl, inr, Bool, true, false, ◌&&◌, IsTrue, List, [], ◌∷◌, ◌++◌, length, take, drop, Ok, refl, sym, ap, ap₂, subst, ◌∙◌, append-nil, append_assoc, arith, true≢false}
 use Rattle.std.proofs.lemmas.Cmp.{nat_list_cmp_total}
 use Rattle.std.proofs.lemmas.List.{length-append, length-take-le, length-drop, drop-drop}
 use Rattle.std.proofs.Math.Seq.{take-add}
@@ -9,7 +9,7 @@ use Rattle.std.specs.List.Sorted.{IsStrictlySortedBy}
 use Rattle.std.specs.Map.{keys_of}
 use Rattle.std.specs.Ordering.{nat_cmp}
 use Rattle.amqp_types.specs.Levels.{plain}
-use Rattle.amqp_types.specs.Judging.{Fault, took, IsBytes}
+use Rattle.amqp_types.specs.Judging.{took, IsBytes}
 use Rattle.amqp_types.specs.Strings.{short_string_bytes}
 use Rattle.amqp_types.specs.Settling.{IsRising}
 use Rattle.amqp_types.specs.Values.{FieldValue, Entry, values_of, entries_of}
@@ -21,6 +21,7 @@ use Rattle.amqp_values.proofs.Filling.{after, goes_on, ends, after_none}
 use Rattle.amqp_values.proofs.Filled.{entry_exact}
 use Rattle.amqp_values.proofs.Exactly.{value_exact}
 use Rattle.amqp_values.proofs.Bounded.{value_bounded}
+use Rattle.amqp_values.proofs.Settling.{none_risen}
 use Rattle.std.specs.declared.cmp.Ordering.{Ordering}
 use Rattle.std.specs.declared.cmp.Ordering.TheVariants.{Less, Equal, Greater}
 use Rattle.amqp_canonical.specs.Judgements.{IsAbove, IsBelow, AreCanonicalValues, AreCanonicalEntries, Fills}
@@ -153,10 +154,6 @@ unfolding IsStrictlySortedBy
 last_below [] p e s = s.0.0
 last_below (x ∷ es) p e s = last_below es p e s.1
 
-rising_none : IsStrictlySortedBy (slice_cmp nat_cmp) (keys_of {X = FieldValue} [])
-unfolding IsStrictlySortedBy
-rising_none = tt
-
 module _ (at : ℕ) (previous key : List ℕ) (v : FieldValue) (above : Bool) where
   abbrev IsRisingMore : List Entry → Type 0
   IsRisingMore things = IsRising (things ++ (key, v) ∷ [])
@@ -164,7 +161,7 @@ module _ (at : ℕ) (previous key : List ℕ) (v : FieldValue) (above : Bool) wh
   rises_more : (things : List Entry) → IsLast at previous things → IsAbove at previous key above → IsRising things → IsTrue above → IsRisingMore things
   rises_more things (inl none) (inl a) s t =
       let P : List Entry → Type 0 = λ es. IsRisingMore es in
-      subst P (sym none.1) (rising_last [] (key, v) rising_none tt)
+      subst P (sym none.1) (rising_last [] (key, v) none_risen tt)
   rises_more things (inl none) (inr a) s t = absurd (omega (arith, none.0, a.0))
   rises_more things (inr one) (inl a) s t = absurd (omega (arith, one.0, a.0))
   rises_more things (inr one) (inr a) s t =
@@ -198,7 +195,7 @@ entry_few room bytes e n fits h =
     omega (arith, joined, length-append (short_string_bytes s.one) (tagged_bytes s.two), b.shorter, ap length s.first_is.bytes_are, ap length s.bytes_are, length-append s.front s.behind, length-take-le n bytes one.1)
 
 pub entries_none : (room : ℕ) (content : List ℕ) → EntriesTo room content 0 [] true
-entries_none room content = record { things = []; rest = after_none (filled (judge_entry (judge_value room)) 0 content); decides = (λ t. (refl, rising_none), λ h. refl); shorter = omega arith; last = inl (refl, refl) }
+entries_none room content = record { things = []; rest = after_none (filled (judge_entry (judge_value room)) 0 content); decides = (λ t. (refl, none_risen), λ h. refl); shorter = omega arith; last = inl (refl, refl) }
 
 pub entries_next : (room : ℕ) (content : List ℕ) (at n : ℕ) (previous key : List ℕ) (v : FieldValue) (canonical d above : Bool) → IsBytes content → at < length content → judge_entry (judge_value room) (drop at content) ≡ took (key, v) n
     → 0 < n → n ≤ length (drop at content) → IsTrue d ↔ (take n (drop at content) ≡ short_string_bytes key ++ tagged_bytes v) → IsAbove at previous key above → EntriesTo room content at previous canonical → EntriesTo room content (at + n) key ((canonical && d) && above)

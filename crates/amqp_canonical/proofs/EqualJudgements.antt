@@ -1,7 +1,6 @@
 -- Shapes and results of decoding are equal exactly where contracts see the same.
-use Rattle.std.proofs.Common.{◌≡◌, true, true≢false, refl, sym, ap, subst, rules}
+use Rattle.std.proofs.Common.{◌≡◌, rules}
 use Rattle.std.specs.Bool.{Decides}
-use Rattle.std.specs.Cmp.{unsigned_Decides, booleans_Decides}
 use Rattle.amqp_canonical.specs.declared.shapes.Shape.{Shape}
 use Rattle.amqp_canonical.specs.contracts.shapes.ShapePartialEq.TheImpl as shape
 use Rattle.amqp_canonical.specs.declared.slots.Judgement.{Judgement}

@@ -11,7 +11,6 @@ use Rattle.amqp_types.specs.FormLaws.{IsLawful}
 use Rattle.amqp_types.specs.SlotLaws.{is_least, are_least}
 use Rattle.amqp_types.specs.declared.errors.ParserError.{ParserError}
 use Rattle.amqp_types.proofs.Sequences.{map_taken}
-use Rattle.amqp_types.proofs.FormLaws.{is_plain}
 use Rattle.amqp_values.proofs.SlotForms.{forms_lawful}
 use Rattle.amqp_values.proofs.SlotLaws.{both_true, slots_lawful, form_is_plain}
 use Rattle.amqp_canonical.specs.declared.shapes.Shape.{Shape}

@@ -8,21 +8,20 @@ use Rattle.std.proofs.lemmas.List.Sorted.{All-permutation}
 use Rattle.std.proofs.lemmas.Map.Lookups.{exact_bytes}
 use Rattle.std.proofs.lemmas.Map.Views.{tells_apart}
 use Rattle.std.specs.BTreeMap.{is_at}
-use Rattle.std.specs.Cmp.Lexicographic.{slice_cmp}
 use Rattle.std.specs.List.{AllByRecursion}
 use Rattle.std.specs.List.Sorted.{IsPermutation, IsStrictlySortedBy}
 use Rattle.std.specs.Map.{keys_of}
-use Rattle.std.specs.Ordering.{nat_cmp, is_eq}
+use Rattle.std.specs.Ordering.{is_eq}
 use Rattle.amqp_types.specs.Settling.{IsSettled, value_at, later, last_at}
 use Rattle.amqp_types.specs.Values.{FieldValue, Entry}
-use Rattle.amqp_values.proofs.Settling.{settled_is}
+use Rattle.amqp_values.proofs.Settling.{cmp, absent, settled_is}
 use Rattle.amqp_canonical.specs.Judgements.{IsBelow}
 use Rattle.amqp_canonical.specs.Writes.{IsRead}
 use Rattle.amqp_canonical.specs.Leads.{key_at}
 use Rattle.amqp_canonical.specs.Marks.{entry_at, marked_entry, entries_in, AreRead, AreMarks, AreInOrder, AreOfTable, Follows, blank, ties, last_of_ties}
 use Rattle.amqp_canonical.specs.Places.{Precedes, ArePlaced}
-use Rattle.amqp_canonical.specs.declared.marks.Mark.{Mark}
-use Rattle.amqp_canonical.proofs.Placed.{settled_in_order, cmp}
+use Rattle.amqp_canonical.specs.declared.marks.EntryMark.{EntryMark}
+use Rattle.amqp_canonical.proofs.Placed.{settled_in_order}
 use Rattle.amqp_canonical.proofs.ReadParts.{entry_key}
 
 -- what holds of each holds of each in a weaker form
@@ -67,10 +66,6 @@ first_up_to e (next ∷ es) h =
     keeps_up (is_at (cmp e.0) next.0) (λ k. IsUpTo e.0 k) e (last_of_ties (next ∷ es)) (inr refl) kept
 
 -- a key below all others has no value
-pub absent : (q : List ℕ) (es : List Entry) → AllByRecursion (λ k. IsBelow q k) (keys_of es) → value_at q es ≡ None
-absent q [] h = refl
-absent q (e ∷ es) h = ap (λ o. cond (is_eq o) (Some e.1) (value_at q es)) h.0 ∙ absent q es h.1
-
 -- a value that stands first stands last, where nothing is found after it
 first_or_later : (b : Bool) (v : FieldValue) (found : Option FieldValue) → (b ≡ true → found ≡ None) → cond b (Some v) found ≡ later found (cond b (Some v) None)
 first_or_later true v found h = ap (λ o. later o (Some v)) (sym (h refl))
@@ -134,59 +129,59 @@ settled_ties (e ∷ next ∷ es) h =
 -- ---- marks in order
 
 -- the key comes after that of the previous mark, or is the same at a later place
-abbrev After : (Mark → Entry) → Mark → Mark → Type 0
+abbrev After : (EntryMark → Entry) → EntryMark → EntryMark → Type 0
 After f m n = IsBelow (f m).0 (f n).0 ⊎ (((f m).0 ≡ (f n).0) × (m.place < n.place))
 
-abbrev LeadsTo : (Mark → Entry) → Mark → List Mark → Type 0
+abbrev LeadsTo : (EntryMark → Entry) → EntryMark → List EntryMark → Type 0
 LeadsTo f m [] = Unit {0}
 LeadsTo f m (n ∷ ms) = After f m n
 
-abbrev IsChain : (Mark → Entry) → List Mark → Type 0
+abbrev IsChain : (EntryMark → Entry) → List EntryMark → Type 0
 IsChain f [] = Unit {0}
 IsChain f (m ∷ ms) = LeadsTo f m ms × IsChain f ms
 
-after_next : (f : Mark → Entry) (m n x : Mark) → After f m n → After f n x → After f m x
+after_next : (f : EntryMark → Entry) (m n x : EntryMark) → After f m n → After f n x → After f m x
 after_next f m n x (inl less) (inl more) = inl (nat_list_cmp_total.trans (f m).0 (f n).0 (f x).0 less more)
 after_next f m n x (inl less) (inr same) = let P : List ℕ → Type 0 = λ k. IsBelow (f m).0 k in inl (subst P same.0 less)
 after_next f m n x (inr same) (inl more) = let P : List ℕ → Type 0 = λ k. IsBelow k (f x).0 in inl (subst P (sym same.0) more)
 after_next f m n x (inr same) (inr more) = inr (same.0 ∙ more.0, omega (arith, same.1, more.1))
 
-all_after : (f : Mark → Entry) (m : Mark) (ms : List Mark) → IsChain f (m ∷ ms) → AllByRecursion (After f m) ms
+all_after : (f : EntryMark → Entry) (m : EntryMark) (ms : List EntryMark) → IsChain f (m ∷ ms) → AllByRecursion (After f m) ms
 all_after f m [] h = tt
 all_after f m (n ∷ ms) h = (h.0, each_weaker (After f n) (After f m) (λ x a. after_next f m n x h.0 a) ms (all_after f n ms h.1))
 
-precedes : (f : Mark → Entry) (m n : Mark) → After f m n → Precedes (λ x. (f x).0) (λ x. x.place) m n
+precedes : (f : EntryMark → Entry) (m n : EntryMark) → After f m n → Precedes (λ x. (f x).0) (λ x. x.place) m n
 precedes f m n (inl less) same = let P : List ℕ → Type 0 = λ k. IsBelow (f m).0 k in let e : Less ≡ Equal = sym (subst P (sym same) less) ∙ tied_itself nat_list_cmp_total (f m).0 in absurd cc
 precedes f m n (inr later) same = later.1
 
-placed_chain : (f : Mark → Entry) (ms : List Mark) → IsChain f ms → ArePlaced (λ x. (f x).0) (λ x. x.place) ms
+placed_chain : (f : EntryMark → Entry) (ms : List EntryMark) → IsChain f ms → ArePlaced (λ x. (f x).0) (λ x. x.place) ms
 placed_chain f [] h = tt
 placed_chain f (m ∷ ms) h = (each_weaker (After f m) (Precedes (λ x. (f x).0) (λ x. x.place) m) (precedes f m) ms (all_after f m ms h), placed_chain f ms h.1)
 
-up_to_after : (f : Mark → Entry) (m n : Mark) → After f m n → IsUpTo (f m).0 (f n).0
+up_to_after : (f : EntryMark → Entry) (m n : EntryMark) → After f m n → IsUpTo (f m).0 (f n).0
 up_to_after f m n (inl less) = inl less
 up_to_after f m n (inr later) = inr later.0
 
-never_fall : (f : Mark → Entry) (ms : List Mark) → IsChain f ms → NeverFall (map f ms)
+never_fall : (f : EntryMark → Entry) (ms : List EntryMark) → IsChain f ms → NeverFall (map f ms)
 never_fall f [] h = tt
 never_fall f (m ∷ []) h = (tt, tt)
 never_fall f (m ∷ n ∷ ms) h = (up_to_after f m n h.0, never_fall f (n ∷ ms) h.1)
 
 -- ---- the marks of a table
 
-follows_after : (room : ℕ) (content : List ℕ) (m n : Mark) → IsRead (entry_at room content m.place) → IsRead (entry_at room content n.place) → Follows content m n → After (marked_entry room content) m n
+follows_after : (room : ℕ) (content : List ℕ) (m n : EntryMark) → IsRead (entry_at room content m.place) → IsRead (entry_at room content n.place) → Follows content m n → After (marked_entry room content) m n
 follows_after room content m n one two (inl less) =
     let P : List ℕ → List ℕ → Type 0 = λ a b. IsBelow a b in
     let Q : List ℕ → Type 0 = λ a. IsBelow a (marked_entry room content n).0 in
     inl (subst Q (entry_key room _ one) (subst (P (key_at content m)) (entry_key room _ two) less))
 follows_after room content m n one two (inr later) = inr (sym (entry_key room _ one) ∙ later.0 ∙ entry_key room _ two, later.1)
 
-chain_of : (room : ℕ) (content : List ℕ) (ms : List Mark) → AllByRecursion (λ m. IsRead (entry_at room content m.place)) ms → AreInOrder content ms → IsChain (marked_entry room content) ms
+chain_of : (room : ℕ) (content : List ℕ) (ms : List EntryMark) → AllByRecursion (λ m. IsRead (entry_at room content m.place)) ms → AreInOrder content ms → IsChain (marked_entry room content) ms
 chain_of room content [] read h = tt
 chain_of room content (m ∷ []) read h = (tt, tt)
 chain_of room content (m ∷ n ∷ ms) read h = (follows_after room content m n read.0 read.1.0 (h 0 (omega arith)), chain_of room content (n ∷ ms) read.1 (λ k less. h (suc k) (omega (arith, less))))
 
-pub marks_of_table : (room : ℕ) (content : List ℕ) (ms sorted : List Mark) → AreMarks room content ms → IsPermutation ms sorted → AreInOrder content sorted → AreOfTable room content sorted
+pub marks_of_table : (room : ℕ) (content : List ℕ) (ms sorted : List EntryMark) → AreMarks room content ms → IsPermutation ms sorted → AreInOrder content sorted → AreOfTable room content sorted
 marks_of_table room content ms sorted h moved order =
     let f = marked_entry room content in
     let read = All-permutation (λ m. IsRead (entry_at room content m.place)) ms sorted moved h.read in
@@ -199,17 +194,17 @@ marks_of_table room content ms sorted h moved order =
 
 -- ---- ties among marks
 
-ties_at : (f : Mark → Entry) (marks : List Mark) (k : ℕ) → k + 1 < length marks → is_at (cmp (f (get_or marks k blank)).0) (f (get_or marks (k + 1) blank)).0 ≡ ties (f (get_or marks k blank)) (map f (drop (k + 1) marks))
+ties_at : (f : EntryMark → Entry) (marks : List EntryMark) (k : ℕ) → k + 1 < length marks → is_at (cmp (f (get_or marks k blank)).0) (f (get_or marks (k + 1) blank)).0 ≡ ties (f (get_or marks k blank)) (map f (drop (k + 1) marks))
 ties_at f marks k more = let one = f (get_or marks k blank) in ap (λ ms. ties one (map f ms)) (sym (drop-cons marks (k + 1) blank more))
 
-pub tied_as : (room : ℕ) (content : List ℕ) (marks : List Mark) (k : ℕ) (o : Ordering) → AreRead room content marks → k + 1 < length marks → o ≡ cmp (key_at content (get_or marks k blank)) (key_at content (get_or marks (k + 1) blank))
+pub tied_as : (room : ℕ) (content : List ℕ) (marks : List EntryMark) (k : ℕ) (o : Ordering) → AreRead room content marks → k + 1 < length marks → o ≡ cmp (key_at content (get_or marks k blank)) (key_at content (get_or marks (k + 1) blank))
     → is_eq o ≡ ties (marked_entry room content (get_or marks k blank)) (map (marked_entry room content) (drop (k + 1) marks))
 tied_as room content marks k o read more is =
     let one = entry_key room _ (read k blank (omega arith)) in
     let two = entry_key room _ (read (k + 1) blank more) in
     ap is_eq is ∙ ap₂ (λ a b. is_eq (cmp a b)) one two ∙ ties_at (marked_entry room content) marks k more
 
-pub not_tied : (f : Mark → Entry) (e : Entry) (marks : List Mark) (k : ℕ) → k + 1 ≡ length marks → false ≡ ties e (map f (drop (k + 1) marks))
+pub not_tied : (f : EntryMark → Entry) (e : Entry) (marks : List EntryMark) (k : ℕ) → k + 1 ≡ length marks → false ≡ ties e (map f (drop (k + 1) marks))
 not_tied f e marks k last = ap (λ ms. ties e (map f ms)) (sym (drop_all (k + 1) marks (omega arith)))
 
 pub not_equal : (o : Ordering) → (o ≡ Equal → ⊥) → is_eq o ≡ false

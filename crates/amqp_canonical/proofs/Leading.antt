@@ -17,7 +17,7 @@ use Rattle.amqp_canonical.specs.Judgements.{IsBelow}
 use Rattle.amqp_canonical.specs.Leads.{leading, key_at}
 use Rattle.amqp_canonical.specs.Marks.{Follows, IsMarkOf}
 use Rattle.amqp_canonical.specs.Writes.{key_in}
-use Rattle.amqp_canonical.specs.declared.marks.Mark.{Mark}
+use Rattle.amqp_canonical.specs.declared.marks.EntryMark.{EntryMark}
 
 -- n bytes are below the n-th power
 leading-below : (n : ℕ) (key : List ℕ) → IsBytes key → leading n key < 256 ^ n
@@ -126,16 +126,16 @@ key_fits : (bytes : List ℕ) → IsBytes bytes → IsBytes (key_in bytes)
 key_fits [] fits = fits
 key_fits (n ∷ bytes) fits = IsBytes-take n bytes (λ k. fits (suc k))
 
-pub lead_tells : (content : List ℕ) (previous mark : Mark) → IsBytes content → IsMarkOf content previous → IsMarkOf content mark → previous.lead < mark.lead → Follows content previous mark
+pub lead_tells : (content : List ℕ) (previous mark : EntryMark) → IsBytes content → IsMarkOf content previous → IsMarkOf content mark → previous.lead < mark.lead → Follows content previous mark
 lead_tells content previous mark fits p m less =
     inl (leading-tells 8 (key_at content previous) (key_at content mark) (key_fits (drop previous.place content) (IsBytes-drop previous.place content fits)) (key_fits (drop mark.place content) (IsBytes-drop mark.place content fits)) (omega (arith, p.first, m.first, less)))
 
-pub more_tells : (content : List ℕ) (previous mark : Mark) → IsBytes content → IsMarkOf content previous → IsMarkOf content mark → previous.lead ≡ mark.lead → previous.more < mark.more → Follows content previous mark
+pub more_tells : (content : List ℕ) (previous mark : EntryMark) → IsBytes content → IsMarkOf content previous → IsMarkOf content mark → previous.lead ≡ mark.lead → previous.more < mark.more → Follows content previous mark
 more_tells content previous mark fits p m same less =
     inl (later-tells 8 2 (key_at content previous) (key_at content mark) (key_fits (drop previous.place content) (IsBytes-drop previous.place content fits)) (key_fits (drop mark.place content) (IsBytes-drop mark.place content fits)) (sym p.first ∙ same ∙ m.first) (omega (arith, p.next, m.next, less)))
 
 -- marks of one key have the same numbers
-pub same_lead : (content : List ℕ) (a b : Mark) → IsMarkOf content a → IsMarkOf content b → key_at content a ≡ key_at content b → (a.lead ≡ b.lead) × (a.more ≡ b.more)
+pub same_lead : (content : List ℕ) (a b : EntryMark) → IsMarkOf content a → IsMarkOf content b → key_at content a ≡ key_at content b → (a.lead ≡ b.lead) × (a.more ≡ b.more)
 same_lead content a b p q same = (p.first ∙ ap (leading 8) same ∙ sym q.first, p.next ∙ ap (λ k. leading 2 (drop 8 k)) same ∙ sym q.next)
 
 -- keys that differ
@@ -150,5 +150,5 @@ same_test a b false h = elim (cases_Bool (is_eq (slice_cmp nat_cmp a b))) [
   | inr apart ↦ sym apart
 ]
 
-pub all_marked : (content : List ℕ) (marks : List Mark) (mark : Mark) → All (IsMarkOf content) marks → IsMarkOf content mark → All (IsMarkOf content) (marks ++ mark ∷ [])
+pub all_marked : (content : List ℕ) (marks : List EntryMark) (mark : EntryMark) → All (IsMarkOf content) marks → IsMarkOf content mark → All (IsMarkOf content) (marks ++ mark ∷ [])
 all_marked content marks mark h one = All-append (IsMarkOf content) marks (mark ∷ []) h (All-cons (IsMarkOf content) mark [] one (All-nil (IsMarkOf content)))

@@ -10,7 +10,7 @@ use Rattle.amqp_types.proofs.Bytes.{IsBytes-drop}
 use Rattle.amqp_canonical.specs.Writes.{IsRead, IsFilled, items_of}
 use Rattle.amqp_canonical.specs.Marks.{entry_at, judged_entry, marked_entry, entries_in, AreEntries, AreRead, AreMarks}
 use Rattle.amqp_canonical.specs.Places.{Precedes, ArePlaced}
-use Rattle.amqp_canonical.specs.declared.marks.Mark.{Mark}
+use Rattle.amqp_canonical.specs.declared.marks.EntryMark.{EntryMark}
 use Rattle.amqp_canonical.proofs.Placed.{all_push, placed_last}
 use Rattle.amqp_canonical.proofs.InOrder.{each_weaker}
 use Rattle.amqp_canonical.proofs.ReadParts.{is_read, first_entry, none_filled}
@@ -61,7 +61,7 @@ entries_end room content at front long h =
 
 -- ---- and are marked
 
-pub record MarkedTo (room : ℕ) (content : List ℕ) (at : ℕ) (marks : List Mark) : Type 0 where
+pub record MarkedTo (room : ℕ) (content : List ℕ) (at : ℕ) (marks : List EntryMark) : Type 0 where
   pub read : AreRead room content marks
   pub entries : EntriesTo room content at (map (marked_entry room content) marks)
   pub placed : ArePlaced (λ mark. (marked_entry room content mark).0) (λ mark. mark.place) marks
@@ -70,7 +70,7 @@ pub record MarkedTo (room : ℕ) (content : List ℕ) (at : ℕ) (marks : List M
 pub marked_none : (room : ℕ) (content : List ℕ) → AreEntries room content → MarkedTo room content 0 []
 marked_none room content h = record { read = All-nil _; entries = entries_none room content h; placed = tt; below = tt }
 
-pub marked_next : (room : ℕ) (content : List ℕ) (at size : ℕ) (marks : List Mark) (mark : Mark) → IsBytes content → at < length content → (IsRead (entry_at room content at) → size ≡ used_by (entry_at room content at)) → mark.place ≡ at → MarkedTo room content at marks
+pub marked_next : (room : ℕ) (content : List ℕ) (at size : ℕ) (marks : List EntryMark) (mark : EntryMark) → IsBytes content → at < length content → (IsRead (entry_at room content at) → size ≡ used_by (entry_at room content at)) → mark.place ≡ at → MarkedTo room content at marks
     → MarkedTo room content (at + size) (marks ++ mark ∷ [])
 marked_next room content at size marks mark fits more sized is h =
     let f = marked_entry room content in
@@ -86,5 +86,5 @@ marked_next room content at size marks mark fits more sized is h =
       below = all_push (λ m. m.place < at + size) marks mark (each_weaker (λ m. m.place < at) (λ m. m.place < at + size) (λ m less. omega (arith, less)) marks h.below) (omega (arith, is, here.some));
     }
 
-pub marked_end : (room : ℕ) (content : List ℕ) (at : ℕ) (marks : List Mark) → length content ≤ at → MarkedTo room content at marks → AreMarks room content marks
+pub marked_end : (room : ℕ) (content : List ℕ) (at : ℕ) (marks : List EntryMark) → length content ≤ at → MarkedTo room content at marks → AreMarks room content marks
 marked_end room content at marks long h = record { read = h.read; entries = entries_end room content at _ long h.entries; placed = h.placed }

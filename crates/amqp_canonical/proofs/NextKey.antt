@@ -10,15 +10,14 @@ use Rattle.std.specs.Map.{keys_of}
 use Rattle.std.specs.Ordering.{is_eq, ordering_reverse}
 use Rattle.amqp_types.specs.Settling.{IsRising, value_at, later, last_at, settled}
 use Rattle.amqp_types.specs.Values.{FieldValue, Entry}
-use Rattle.amqp_values.proofs.Settling.{settles}
+use Rattle.amqp_values.proofs.Settling.{cmp, first_value, settles, absent}
 use Rattle.amqp_canonical.specs.Judgements.{IsBelow}
 use Rattle.amqp_canonical.specs.Writes.{IsRead, key_in}
 use Rattle.amqp_canonical.specs.Marks.{entry_at, judged_entry, entries_in, AreEntries, IsAfter, IsNext, HasNoNext, ComesFirst, FindsNext}
-use Rattle.amqp_canonical.proofs.InOrder.{each_weaker, absent, later-None}
+use Rattle.amqp_canonical.proofs.InOrder.{each_weaker, later-None}
 use Rattle.amqp_canonical.proofs.Marking.{EntriesTo, EntryHere, entries_none, entries_end}
 use Rattle.amqp_canonical.proofs.ReadParts.{entry_key}
 use Rattle.amqp_canonical.proofs.Children.{all_last}
-use Rattle.amqp_canonical.proofs.Placed.{cmp}
 
 -- ---- one more entry at the end
 
@@ -213,9 +212,6 @@ value_left es last done left q h after =
     let all = settles es in
     sym (value_ahead last q done left after h.behind) ∙ ap (λ t. value_at q t) h.parts ∙ all.last q
 
-own_first : (e : Entry) (es : List Entry) → value_at e.0 (e ∷ es) ≡ Some e.1
-own_first e es = ap (λ o. cond (is_eq o) (Some e.1) (value_at e.0 es)) (tied_itself nat_list_cmp_total e.0)
-
 -- the first entry that is left has the next key
 module _ (es : List Entry) (last : Option (List ℕ)) (done : List Entry) (e : Entry) (rest : List Entry) (k : List ℕ) (v : FieldValue) (h : IsLeft es last done (e ∷ rest)) (n : IsNext last es k v) where
   is_first_by : (o : Ordering) → cmp k e.0 ≡ o → e ≡ (k, v)
@@ -231,12 +227,12 @@ module _ (es : List Entry) (last : Option (List ℕ)) (done : List Entry) (e : E
       let same : k ≡ e.0 = exact_bytes k e.0 is in
       let P : List ℕ → Type 0 = λ q. value_at q (e ∷ rest) ≡ Some v in
       let at : value_at e.0 (e ∷ rest) ≡ Some v = subst P same (value_left es last done (e ∷ rest) k h n.after ∙ n.value) in
-      let value : Some e.1 ≡ Some v = sym (own_first e rest) ∙ at in
+      let value : Some e.1 ≡ Some v = sym (first_value e rest) ∙ at in
       let second : e.1 ≡ v = cc in
       λ i. (sym same i, second i)
   is_first_by Greater is =
       let less : IsBelow e.0 k = nat_list_cmp_total.antisymm e.0 k ∙ ap ordering_reverse is in
-      absurd (n.least e.0 e.1 h.ahead.0 (sym (value_left es last done (e ∷ rest) e.0 h h.ahead.0) ∙ own_first e rest) less)
+      absurd (n.least e.0 e.1 h.ahead.0 (sym (value_left es last done (e ∷ rest) e.0 h h.ahead.0) ∙ first_value e rest) less)
 
   is_first : e ≡ (k, v)
   is_first = is_first_by (cmp k e.0) refl
@@ -268,7 +264,7 @@ next_left es last done (e ∷ rest) k v h n =
 
 pub none_left : (es : List Entry) (last : Option (List ℕ)) (done left : List Entry) → IsLeft es last done left → HasNoNext last es → left ≡ []
 none_left es last done [] h none = refl
-none_left es last done (e ∷ rest) h none = absurd (none e.0 e.1 h.ahead.0 (sym (value_left es last done (e ∷ rest) e.0 h h.ahead.0) ∙ own_first e rest))
+none_left es last done (e ∷ rest) h none = absurd (none e.0 e.1 h.ahead.0 (sym (value_left es last done (e ∷ rest) e.0 h h.ahead.0) ∙ first_value e rest))
 
 -- ---- steps of the search
 

@@ -4,13 +4,13 @@ use Rattle.std.proofs.lemmas.List.{length-map, drop-drop}
 use Rattle.std.specs.Prelude.{is_some, unwrap_or}
 use Rattle.std.specs.Int.{bit_at}
 use Rattle.amqp_types.specs.Levels.{plain}
-use Rattle.amqp_types.specs.Judging.{Judged, Judge, Fault, took, past, fault, unknown_class, unknown_method, ◌>>=◌, IsBytes}
+use Rattle.amqp_types.specs.Judging.{Judged, Judge, took, unknown_class, unknown_method, ◌>>=◌, IsBytes}
 use Rattle.amqp_types.specs.Sequences.{judge_map}
 use Rattle.amqp_types.specs.Numbers.{NumberWidth, bytes2, bytes8, byte_count, number_bytes, judge_number}
 use Rattle.amqp_types.specs.Flags.{flag_at}
-use Rattle.amqp_types.specs.Slots.{Item, number_item, Form, number_form, flags_form, short_string_form, long_string_form, table_form, Slot, kept_slot, reserved_slot}
+use Rattle.amqp_types.specs.Slots.{Item, number_item, Form, number_form, Slot, kept_slot, reserved_slot}
 use Rattle.amqp_types.specs.SlotJudging.{judge_form, judge_dropped, judge_slot, judge_slots}
-use Rattle.amqp_types.specs.SlotBytes.{item_count, form_bytes, slots_bytes}
+use Rattle.amqp_types.specs.SlotBytes.{form_bytes, slots_bytes}
 use Rattle.amqp_types.specs.Rows.{rows_of, slots_at}
 use Rattle.amqp_types.specs.Methods.{method, known, judge_method, judge_in_class, judge_payload, method_bytes, payload_bytes}
 use Rattle.amqp_types.specs.Properties.{Property, properties, later_properties}

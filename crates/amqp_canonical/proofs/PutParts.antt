@@ -11,7 +11,7 @@ use Rattle.amqp_types.specs.Strings.{with_length, judge_long_string}
 use Rattle.amqp_types.specs.Settling.{settled}
 use Rattle.amqp_types.specs.Values.{FieldValue, Entry, array_value, table_value, values_of, entries_of}
 use Rattle.amqp_types.specs.ValueBytes.{value_bytes, tagged_bytes, array_bytes, table_bytes, values_bytes, entries_bytes, any_value_long, any_entry_long}
-use Rattle.amqp_types.specs.ValueJudging.{whole, read_map, filled, judge_entry, judge_array, judge_table, judge_behind, judge_value, nested}
+use Rattle.amqp_types.specs.ValueJudging.{took_all, read_map, filled, judge_entry, judge_array, judge_table, judge_behind, judge_value, nested}
 use Rattle.amqp_types.specs.ValueSpelling.{SpellsValue}
 use Rattle.amqp_types.specs.Tags.{tag_byte}
 use Rattle.amqp_types.specs.Writing.{written, Puts}
@@ -133,23 +133,23 @@ pub record Holds {A : Type 0} (canonical : A → List ℕ) (j : Judged A) (read 
   pub bytes_are : canonical_of canonical j ≡ with_length content
   pub fits : length content < 2 ^ 32
 
-array_whole : (r : Result (List FieldValue) Fault) (n : ℕ) → IsRead (whole n r) → IsFilled r × (canonical_of array_bytes (whole n r) ≡ with_length (array_content (items_of r)))
+array_whole : (r : Result (List FieldValue) Fault) (n : ℕ) → IsRead (took_all n r) → IsFilled r × (canonical_of array_bytes (took_all n r) ≡ with_length (array_content (items_of r)))
 array_whole (Ok vs) n h = (tt, refl)
 array_whole (Err bad) n h = absurd h
 
-table_whole : (r : Result (List Entry) Fault) (n : ℕ) → IsRead (whole n (read_map settled r)) → IsFilled r × (canonical_of table_bytes (whole n (read_map settled r)) ≡ with_length (table_content (settled (items_of r))))
+table_whole : (r : Result (List Entry) Fault) (n : ℕ) → IsRead (took_all n (read_map settled r)) → IsFilled r × (canonical_of table_bytes (took_all n (read_map settled r)) ≡ with_length (table_content (settled (items_of r))))
 unfolding table_bytes
 table_whole (Ok es) n h = (tt, refl)
 table_whole (Err bad) n h = absurd h
 
-array_parts : (value : Judge FieldValue) (j : Judged (List ℕ)) → IsRead (j >>= λ c. whole c.1 (filled value 0 c.0))
-    → IsFilled (filled value 0 (canonical_of (λ c. c) j)) × (canonical_of array_bytes (j >>= λ c. whole c.1 (filled value 0 c.0)) ≡ with_length (array_content (items_of (filled value 0 (canonical_of (λ c. c) j)))))
+array_parts : (value : Judge FieldValue) (j : Judged (List ℕ)) → IsRead (j >>= λ c. took_all c.1 (filled value 0 c.0))
+    → IsFilled (filled value 0 (canonical_of (λ c. c) j)) × (canonical_of array_bytes (j >>= λ c. took_all c.1 (filled value 0 c.0)) ≡ with_length (array_content (items_of (filled value 0 (canonical_of (λ c. c) j)))))
 array_parts value (took c n) h = array_whole (filled value 0 c) n h
 array_parts value past h = absurd h
 array_parts value (fault bad) h = absurd h
 
-table_parts : (value : Judge FieldValue) (j : Judged (List ℕ)) → IsRead (j >>= λ c. whole c.1 (read_map settled (filled (judge_entry value) 0 c.0)))
-    → IsFilled (filled (judge_entry value) 0 (canonical_of (λ c. c) j)) × (canonical_of table_bytes (j >>= λ c. whole c.1 (read_map settled (filled (judge_entry value) 0 c.0))) ≡ with_length (table_content (settled (items_of (filled (judge_entry value) 0 (canonical_of (λ c. c) j))))))
+table_parts : (value : Judge FieldValue) (j : Judged (List ℕ)) → IsRead (j >>= λ c. took_all c.1 (read_map settled (filled (judge_entry value) 0 c.0)))
+    → IsFilled (filled (judge_entry value) 0 (canonical_of (λ c. c) j)) × (canonical_of table_bytes (j >>= λ c. took_all c.1 (read_map settled (filled (judge_entry value) 0 c.0))) ≡ with_length (table_content (settled (items_of (filled (judge_entry value) 0 (canonical_of (λ c. c) j))))))
 table_parts value (took c n) h = table_whole (filled (judge_entry value) 0 c) n h
 table_parts value past h = absurd h
 table_parts value (fault bad) h = absurd h
@@ -188,7 +188,7 @@ pub array_holds : (room : ℕ) (bytes content : List ℕ) → IsBytes bytes → 
 unfolding judge_array
 array_holds room bytes content fits is h =
     let j = judge_long_string bytes in
-    let long = first_part j (λ c. whole c.1 (filled (judge_value room) 0 c.0)) h in
+    let long = first_part j (λ c. took_all c.1 (filled (judge_value room) 0 c.0)) h in
     let p = array_parts (judge_value room) j h in
     let P : List ℕ → Type 0 = λ c. Holds array_bytes (judge_array (judge_value room) bytes) (IsFilled (filled (judge_value room) 0 c)) (array_content (items_of (filled (judge_value room) 0 c))) in
     subst P (sym (is long)) (record { filled_is = p.0; bytes_are = p.1; fits = array_fits room bytes fits h _ p.1 })
@@ -198,7 +198,7 @@ pub table_holds : (room : ℕ) (bytes content : List ℕ) → IsBytes bytes → 
 unfolding judge_table
 table_holds room bytes content fits is h =
     let j = judge_long_string bytes in
-    let long = first_part j (λ c. whole c.1 (read_map settled (filled (judge_entry (judge_value room)) 0 c.0))) h in
+    let long = first_part j (λ c. took_all c.1 (read_map settled (filled (judge_entry (judge_value room)) 0 c.0))) h in
     let p = table_parts (judge_value room) j h in
     let P : List ℕ → Type 0 = λ c. Holds table_bytes (judge_table (judge_value room) bytes) (AreEntries room c) (table_content (settled (entries_in room c))) in
     subst P (sym (is long)) (record { filled_is = p.0; bytes_are = p.1; fits = table_fits room bytes fits h _ p.1 })

@@ -4,7 +4,7 @@ use Rattle.std.specs.Result.{IsErrAnd}
 use Rattle.amqp_types.specs.Judging.{Judged, Fault, ◌>>=◌}
 use Rattle.amqp_types.specs.Values.{Entry}
 use Rattle.amqp_types.specs.Answers.{AnswersFully, Refuses, RefusesWhole}
-use Rattle.amqp_types.specs.ValueJudging.{whole}
+use Rattle.amqp_types.specs.ValueJudging.{took_all, inside_error}
 use Rattle.amqp_types.specs.declared.errors.ParserError.{ParserError}
 use Rattle.amqp_types.specs.declared.errors.ParserError.TheVariants as errors
 use Rattle.amqp_types.proofs.Judged.{refuses_next}
@@ -30,10 +30,28 @@ fully view errors.UnknownTag j h = (λ e. cc, h)
 fully view errors.TooDeep j h = (λ e. cc, h)
 fully view errors.NoMemory j h = absurd h
 
+-- a refusal inside is not out of memory either
+inside_refused : (error : ParserError) → MayRefuse error → MayRefuse (inside_error error)
+inside_refused errors.Incomplete h = λ e. cc
+inside_refused errors.UnknownFrameType h = h
+inside_refused errors.BadProtocolHeader h = h
+inside_refused errors.BadFrameEnd h = h
+inside_refused errors.UnknownClass h = h
+inside_refused errors.UnknownMethod h = h
+inside_refused errors.ShortPayload h = h
+inside_refused errors.TrailingBytes h = h
+inside_refused errors.NotUtf8 h = h
+inside_refused errors.UnknownTag h = h
+inside_refused errors.TooDeep h = h
+inside_refused errors.NoMemory h = h
+
+pub refused_inside : (error inside : ParserError) → inside ≡ inside_error error → MayRefuse error → MayRefuse inside
+refused_inside error inside is h = subst (λ e. MayRefuse e) (sym is) (inside_refused error h)
+
 pub fails_next : {A B : Type 0} (e : ParserError) (j : Judged A) (f : A × ℕ → Judged B) → Fails e j → Fails e (j >>= f)
 fails_next e j f h = (h.0, refuses_next e j f h.1)
 
-pub fails_whole : {A : Type 0} (e : ParserError) (n : ℕ) (r : Result A Fault) → MayRefuse e × RefusesWhole e r → Fails e (whole n r)
+pub fails_whole : {A : Type 0} (e : ParserError) (n : ℕ) (r : Result A Fault) → MayRefuse e × RefusesWhole e r → Fails e (took_all n r)
 fails_whole e n r h = (h.0, refuses_whole e n r h.1)
 
 pub err_judged : {A : Type 0} (IsCanonical : List ℕ → A → Type 0) (bytes : List ℕ) (r : Result ValueJudgement ParserError) (e : ParserError) (j : Judged A) → IsErrAnd r (λ x. x ≡ e) → Fails e j → Judges IsCanonical bytes r j

@@ -6,7 +6,7 @@ use Rattle.amqp_types.specs.Sequences.{judge_map}
 use Rattle.amqp_types.specs.Booleans.{judge_boolean}
 use Rattle.amqp_types.specs.Strings.{judge_long_string}
 use Rattle.amqp_types.specs.Values.{FieldValue, BytesKind, boolean_value, bytes_value, array_value, table_value, long_string, byte_array, values_of, entries_of}
-use Rattle.amqp_types.specs.ValueJudging.{whole, read_map, filled, judge_entry, judge_array, judge_table, judge_behind}
+use Rattle.amqp_types.specs.ValueJudging.{took_all, read_map, filled, judge_entry, judge_array, judge_table, judge_behind}
 use Rattle.amqp_types.specs.Settling.{settled}
 use Rattle.amqp_types.specs.declared.tag.FieldTag.{FieldTag}
 use Rattle.amqp_types.specs.declared.tag.FieldTag.TheVariants as tag
@@ -28,7 +28,7 @@ fixed_by false nest t bytes n is fits size h =
     let long : n ≤ length bytes = grind (arith, nat_tests) in
     (long, fixed_took nest t bytes n fits size long)
 
--- what was read of one size stands as it is written
+-- what was read of one size is canonical
 pub fixed_taken : (nest : Option (Judge FieldValue)) (t : FieldTag) (bytes : List ℕ) (n : ℕ) → IsBytes bytes → layout_at t ≡ layout.Fixed n → IsRead (judge_behind nest t bytes) → (n ≤ length bytes) × IsTaken bytes n (judge_behind nest t bytes)
 fixed_taken nest t bytes n = fixed_by (nat_lt (length bytes) n) nest t bytes n refl
 
@@ -53,11 +53,11 @@ made_length make bytes (took x n) h r = let k = h tt in record { read = k.0; use
 made_length make bytes past h r = absurd r
 made_length make bytes (fault bad) h r = absurd r
 
-whole_used : {A : Type 0} (n : ℕ) (r : Result A Fault) → IsRead (whole n r) → n ≡ used_by (whole n r)
+whole_used : {A : Type 0} (n : ℕ) (r : Result A Fault) → IsRead (took_all n r) → n ≡ used_by (took_all n r)
 whole_used n (Ok x) h = refl
 whole_used n (Err bad) h = absurd h
 
-whole_length : {A : Type 0} (f : List ℕ → Result A Fault) (j : Judged (List ℕ)) → IsRead (j >>= λ c. whole c.1 (f c.0)) → IsRead j × (used_by j ≡ used_by (j >>= λ c. whole c.1 (f c.0)))
+whole_length : {A : Type 0} (f : List ℕ → Result A Fault) (j : Judged (List ℕ)) → IsRead (j >>= λ c. took_all c.1 (f c.0)) → IsRead j × (used_by j ≡ used_by (j >>= λ c. took_all c.1 (f c.0)))
 whole_length f (took content n) r = (tt, whole_used n (f content) r)
 whole_length f past r = absurd r
 whole_length f (fault bad) r = absurd r

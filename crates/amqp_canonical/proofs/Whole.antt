@@ -1,18 +1,17 @@
 -- What fills an array or a table, and the length in front of it.
-use Rattle.std.proofs.Common.{◌≡◌, ℕ, Bool, List, [], ◌∷◌, ◌++◌, length, take, drop, Result, Ok, Err, refl, sym, ap, subst, ◌∙◌, append-nil, append_assoc, arith}
+use Rattle.std.proofs.Common.{◌≡◌, ℕ, Bool, List, [], ◌∷◌, ◌++◌, length, take, drop, Result, Ok, Err, refl, sym, ap, subst, ◌∙◌, arith}
 use Rattle.std.proofs.lemmas.List.{length-append, drop_at}
 use Rattle.amqp_types.specs.Levels.{plain, strict}
 use Rattle.amqp_types.specs.Judging.{Fault, Judged, Judge, took, ◌>>=◌, IsBytes, IsExact}
 use Rattle.amqp_types.specs.Answers.{AnswersFully, RefusesWhole}
-use Rattle.amqp_types.specs.Settling.{IsRising, settled, settled_on}
+use Rattle.amqp_types.specs.Settling.{IsRising, settled}
 use Rattle.amqp_types.specs.Strings.{with_length, judge_long_string}
-use Rattle.amqp_types.specs.Values.{FieldValue, Entry, values_of, entries_of}
+use Rattle.amqp_types.specs.Values.{Entry, values_of, entries_of}
 use Rattle.amqp_types.specs.ValueBytes.{values_bytes, entries_bytes}
-use Rattle.amqp_types.specs.ValueJudging.{whole, read_map, filled, judge_value, judge_entry, judge_array, judge_table}
+use Rattle.amqp_types.specs.ValueJudging.{took_all, read_map, filled, judge_value, judge_entry, judge_array, judge_table}
 use Rattle.amqp_types.specs.ValueSpelling.{SpellsEach, SpellsEntry, SpellsValue}
 use Rattle.amqp_types.specs.declared.errors.ParserError.{ParserError}
 use Rattle.amqp_types.proofs.Texts.{long_string_exact}
-use Rattle.amqp_values.proofs.Parts.{insert_last}
 use Rattle.amqp_values.proofs.Settling.{settles}
 use Rattle.amqp_values.proofs.Filling.{filled_next, RefusesWhole-map}
 use Rattle.amqp_values.proofs.Filled.{HasBytes, entry_exact, table_exact, entry_some}
@@ -41,7 +40,7 @@ array_unread room bytes view e h = fails_next e (judge_long_string bytes) _ (ful
 pub array_fails : (room : ℕ) (bytes content : List ℕ) (n : ℕ) (e : ParserError) → judge_long_string bytes ≡ took content n → MayRefuse e × RefusesWhole e (filled (judge_value room) 0 content) → Fails e (judge_array (judge_value room) bytes)
 unfolding judge_array
 array_fails room bytes content n e is h =
-    let P : Judged (List ℕ) → Type 0 = λ j. Fails e (j >>= λ c. whole c.1 (filled (judge_value room) 0 c.0)) in
+    let P : Judged (List ℕ) → Type 0 = λ j. Fails e (j >>= λ c. took_all c.1 (filled (judge_value room) 0 c.0)) in
     subst P (sym is) (fails_whole e n (filled (judge_value room) 0 content) h)
 
 pub array_took : (room : ℕ) (bytes content : List ℕ) (n : ℕ) (canonical : Bool) → IsBytes bytes → judge_long_string bytes ≡ took content n → Fills AreCanonicalValues canonical content (filled (judge_value room) 0 content)
@@ -51,7 +50,7 @@ array_took room bytes content n canonical fits is h =
     let front = framed bytes content n fits is in
     record {
       thing = h.thing;
-      is = ap (λ j. j >>= λ c. whole c.1 (filled (judge_value room) 0 c.0)) is ∙ ap (whole n) h.is;
+      is = ap (λ j. j >>= λ c. took_all c.1 (filled (judge_value room) 0 c.0)) is ∙ ap (took_all n) h.is;
       decides = decided_as canonical _ _ h.decides (λ e. front ∙ ap with_length e) (λ q. same_inner content (values_bytes (values_of h.thing)) (sym front ∙ q));
     }
 
@@ -65,7 +64,7 @@ pub table_fails : (room : ℕ) (bytes content : List ℕ) (n : ℕ) (e : ParserE
 unfolding judge_table
 table_fails room bytes content n e is h =
     let read = filled (judge_entry (judge_value room)) 0 content in
-    let P : Judged (List ℕ) → Type 0 = λ j. Fails e (j >>= λ c. whole c.1 (read_map settled (filled (judge_entry (judge_value room)) 0 c.0))) in
+    let P : Judged (List ℕ) → Type 0 = λ j. Fails e (j >>= λ c. took_all c.1 (read_map settled (filled (judge_entry (judge_value room)) 0 c.0))) in
     subst P (sym is) (fails_whole e n (read_map settled read) (h.0, RefusesWhole-map e settled read h.1))
 
 filled_taken : {A : Type 0} (item : Judge A) (Spells : List ℕ → A → Type 0) → IsExact item Spells → HasBytes Spells → (bytes : List ℕ) (xs : List A) → SpellsEach Spells bytes xs → filled item 0 bytes ≡ Ok xs
@@ -103,7 +102,7 @@ table_took room bytes content n canonical fits is h =
     let front = framed bytes content n fits is in
     let es = h.thing in
     let judged : judge_table (judge_value room) bytes ≡ took (settled es) n =
-    ap (λ j. j >>= λ c. whole c.1 (read_map settled (filled (judge_entry (judge_value room)) 0 c.0))) is ∙ ap (λ r. whole n (read_map settled r)) h.is in
+    ap (λ j. j >>= λ c. took_all c.1 (read_map settled (filled (judge_entry (judge_value room)) 0 c.0))) is ∙ ap (λ r. took_all n (read_map settled r)) h.is in
     let R : List Entry → Type 0 = λ xs. IsRising xs in
     record {
       thing = settled es;

@@ -11,7 +11,7 @@ use Rattle.amqp_types.specs.Writing.{Puts}
 use Rattle.amqp_types.proofs.Bytes.{IsBytes-drop}
 use Rattle.amqp_canonical.specs.Writes.{IsRead, IsFilled, items_of, canonical_of, array_content, table_content, entry_bytes}
 use Rattle.amqp_canonical.specs.Marks.{entry_at, judged_entry, entries_in, AreRead, marked_entry, last_of_ties, ties, blank, FindsNext}
-use Rattle.amqp_canonical.specs.declared.marks.Mark.{Mark}
+use Rattle.amqp_canonical.specs.declared.marks.EntryMark.{EntryMark}
 use Rattle.amqp_canonical.proofs.NextKey.{IsLeft, left_none, next_left, none_left, view}
 use Rattle.amqp_canonical.proofs.Putting.{PutTo, IsEach, put_none, put_room, put_within, put_next, put_end}
 use Rattle.amqp_canonical.proofs.ReadParts.{is_read, took_of, first_value, none_filled}
@@ -83,18 +83,18 @@ values_end room content start old new at end long h =
 -- ---- marked entries
 
 -- the entries from a mark on, of neighbours with one key the last
-abbrev kept_from : ℕ → List ℕ → List Mark → ℕ → List Entry
+abbrev kept_from : ℕ → List ℕ → List EntryMark → ℕ → List Entry
 kept_from room content marks k = last_of_ties (map (marked_entry room content) (drop k marks))
 
-pub record EntriesPut (room : ℕ) (content : List ℕ) (marks : List Mark) (k : ℕ) (old new : List ℕ) (at end : ℕ) : Type 0 where
+pub record EntriesPut (room : ℕ) (content : List ℕ) (marks : List EntryMark) (k : ℕ) (old new : List ℕ) (at end : ℕ) : Type 0 where
   pub done : List Entry
   pub put : PutTo table_content (kept_from room content marks 0) done (kept_from room content marks k) old new at end
 
-pub entries_none : (room : ℕ) (content : List ℕ) (marks : List Mark) (buf : List ℕ) (at : ℕ) → EntriesPut room content marks 0 buf buf at at
+pub entries_none : (room : ℕ) (content : List ℕ) (marks : List EntryMark) (buf : List ℕ) (at : ℕ) → EntriesPut room content marks 0 buf buf at at
 entries_none room content marks buf at = record { done = []; put = put_none table_content entry_bytes each_entry (kept_from room content marks 0) buf at }
 
 -- the entries from a mark on are those after it, and its own where it is not tied
-kept_here : (room : ℕ) (content : List ℕ) (marks : List Mark) (k : ℕ) (tied : Bool) → k < length marks → tied ≡ ties (marked_entry room content (get_or marks k blank)) (map (marked_entry room content) (drop (k + 1) marks))
+kept_here : (room : ℕ) (content : List ℕ) (marks : List EntryMark) (k : ℕ) (tied : Bool) → k < length marks → tied ≡ ties (marked_entry room content (get_or marks k blank)) (map (marked_entry room content) (drop (k + 1) marks))
     → kept_from room content marks k ≡ cond tied (kept_from room content marks (k + 1)) (marked_entry room content (get_or marks k blank) ∷ kept_from room content marks (k + 1))
 kept_here room content marks k tied more is =
     let f = marked_entry room content in
@@ -103,7 +103,7 @@ kept_here room content marks k tied more is =
     ap (λ ms. last_of_ties (map f ms)) (drop-cons marks k blank more ∙ ap (λ j. get_or marks k blank ∷ drop j marks) next)
     ∙ ap (λ b. cond b (kept_from room content marks (k + 1)) (e ∷ kept_from room content marks (k + 1))) (sym is)
 
-pub entries_tied : (room : ℕ) (content : List ℕ) (marks : List Mark) (k : ℕ) (old new : List ℕ) (at end : ℕ) → k < length marks → true ≡ ties (marked_entry room content (get_or marks k blank)) (map (marked_entry room content) (drop (k + 1) marks))
+pub entries_tied : (room : ℕ) (content : List ℕ) (marks : List EntryMark) (k : ℕ) (old new : List ℕ) (at end : ℕ) → k < length marks → true ≡ ties (marked_entry room content (get_or marks k blank)) (map (marked_entry room content) (drop (k + 1) marks))
     → EntriesPut room content marks k old new at end → EntriesPut room content marks (k + 1) old new at end
 entries_tied room content marks k old new at end more is h =
     let Q : List Entry → Type 0 = λ es. PutTo table_content (kept_from room content marks 0) h.done es old new at end in
@@ -120,7 +120,7 @@ bytes_here room content place read =
     let one = took_of (entry_at room content place) read in
     ap (λ j. canonical_of entry_bytes j) one.2 ∙ sym (ap (λ j. entry_bytes (judged_entry j)) one.2)
 
-pub entry_kept : (room : ℕ) (content : List ℕ) (marks : List Mark) (k : ℕ) (old mid : List ℕ) (at end : ℕ) → AreRead room content marks → k < length marks → false ≡ ties (marked_entry room content (get_or marks k blank)) (map (marked_entry room content) (drop (k + 1) marks))
+pub entry_kept : (room : ℕ) (content : List ℕ) (marks : List EntryMark) (k : ℕ) (old mid : List ℕ) (at end : ℕ) → AreRead room content marks → k < length marks → false ≡ ties (marked_entry room content (get_or marks k blank)) (map (marked_entry room content) (drop (k + 1) marks))
     → at + length (table_content (kept_from room content marks 0)) ≤ length old → EntriesPut room content marks k old mid at end
     → EntryFits (canonical_of entry_bytes (entry_at room content (get_or marks k blank).place)) mid end (λ new place. EntriesPut room content marks (k + 1) old new at place)
 entry_kept room content marks k old mid at end read more is fits h =
@@ -137,7 +137,7 @@ entry_kept room content marks k old mid at end read more is fits h =
           record { done = h.done ++ e ∷ []; put = put_next table_content entry_bytes each_entry all h.done rest e old mid at end fits first new place (subst R same put) };
     }
 
-pub entries_end : (room : ℕ) (content : List ℕ) (marks : List Mark) (k : ℕ) (old new : List ℕ) (at end : ℕ) → length marks ≤ k → EntriesPut room content marks k old new at end → Puts old new at (table_content (kept_from room content marks 0)) end
+pub entries_end : (room : ℕ) (content : List ℕ) (marks : List EntryMark) (k : ℕ) (old new : List ℕ) (at end : ℕ) → length marks ≤ k → EntriesPut room content marks k old new at end → Puts old new at (table_content (kept_from room content marks 0)) end
 entries_end room content marks k old new at end long h =
     let all = kept_from room content marks 0 in
     let Q : List Entry → Type 0 = λ es. PutTo table_content all h.done es old new at end in

@@ -12,7 +12,7 @@ use Rattle.amqp_canonical.specs.Judgements.{IsBelow}
 use Rattle.amqp_canonical.specs.Leads.{leading, key_at}
 use Rattle.amqp_canonical.specs.Writes.{IsRead, IsCopied, IsFilled, entry_bytes, items_of}
 use Rattle.amqp_canonical.specs.Places.{ArePlaced}
-use Rattle.amqp_canonical.specs.declared.marks.Mark.{Mark}
+use Rattle.amqp_canonical.specs.declared.marks.EntryMark.{EntryMark}
 
 -- the entry at a place of a table's content
 abbrev pub entry_at : ℕ → List ℕ → ℕ → Judged Entry
@@ -25,7 +25,7 @@ judged_entry past = ([], void_value)
 judged_entry (fault bad) = ([], void_value)
 
 -- the entry at a mark's place
-abbrev pub marked_entry : ℕ → List ℕ → Mark → Entry
+abbrev pub marked_entry : ℕ → List ℕ → EntryMark → Entry
 marked_entry room content mark = judged_entry (entry_at room content mark.place)
 
 -- all entries of a table's content
@@ -40,17 +40,17 @@ AreEntries room content = IsFilled (filled (judge_entry (judge_value room)) 0 co
 
 -- The mark's numbers are the first bytes of the key at its place, and a size that is not 0 is that of the entry there, which
 -- is copied.
-pub record IsMarkOf (content : List ℕ) (mark : Mark) : Type 0 where
+pub record IsMarkOf (content : List ℕ) (mark : EntryMark) : Type 0 where
   pub first : mark.lead ≡ leading 8 (key_at content mark)
   pub next : mark.more ≡ leading 2 (drop 8 (key_at content mark))
   pub copied : mark.size ≢ 0 → (room : ℕ) → IsRead (entry_at room content mark.place) → IsCopied entry_bytes (drop mark.place content) mark.size (entry_at room content mark.place)
 
 -- an entry was decoded at each mark's place
-abbrev pub AreRead : ℕ → List ℕ → List Mark → Type 0
+abbrev pub AreRead : ℕ → List ℕ → List EntryMark → Type 0
 AreRead room content marks = All (λ mark. IsRead (entry_at room content mark.place)) marks
 
 -- the marks are those of all entries, as they stand
-pub record AreMarks (room : ℕ) (content : List ℕ) (marks : List Mark) : Type 0 where
+pub record AreMarks (room : ℕ) (content : List ℕ) (marks : List EntryMark) : Type 0 where
   pub read : AreRead room content marks
   pub entries : map (marked_entry room content) marks ≡ entries_in room content
   pub placed : ArePlaced (λ mark. (marked_entry room content mark).0) (λ mark. mark.place) marks
@@ -58,15 +58,15 @@ pub record AreMarks (room : ℕ) (content : List ℕ) (marks : List Mark) : Type
 -- ---- marks in order
 
 -- the key comes after the previous one, or is the same at a later place
-abbrev pub Follows : List ℕ → Mark → Mark → Type 0
+abbrev pub Follows : List ℕ → EntryMark → EntryMark → Type 0
 Follows content previous mark = IsBelow (key_at content previous) (key_at content mark) ⊎ ((key_at content previous ≡ key_at content mark) × (previous.place < mark.place))
 
 -- what is found where there is no mark
-abbrev pub blank : Mark
+abbrev pub blank : EntryMark
 blank = record { lead = 0; place = 0; more = 0; size = 0 }
 
 -- each follows the one before it
-abbrev pub AreInOrder : List ℕ → List Mark → Type 0
+abbrev pub AreInOrder : List ℕ → List EntryMark → Type 0
 AreInOrder content marks = (k : ℕ) → suc k < length marks → Follows content (slice_index_or marks k blank) (slice_index_or marks (suc k) blank)
 
 -- the next entry has the same key
@@ -80,7 +80,7 @@ last_of_ties [] = []
 last_of_ties (e ∷ es) = if ties e es then last_of_ties es else e ∷ last_of_ties es
 
 -- The marks stand at entries, and of neighbours with one key the last ones are the table that the content is.
-pub record AreOfTable (room : ℕ) (content : List ℕ) (marks : List Mark) : Type 0 where
+pub record AreOfTable (room : ℕ) (content : List ℕ) (marks : List EntryMark) : Type 0 where
   pub read : AreRead room content marks
   pub table : last_of_ties (map (marked_entry room content) marks) ≡ settled (entries_in room content)
 

@@ -25,7 +25,7 @@ pub use laws::{
     canonical_content_headers_are_strict, canonical_payloads_are_strict,
     canonical_slots_are_strict, canonical_values_are_strict,
 };
-pub use marks::Mark;
+pub use marks::EntryMark;
 pub use payload_writing::{put_content_header, put_payload, put_properties};
 pub use payloads::judge_payload;
 pub use selection::next_entry;

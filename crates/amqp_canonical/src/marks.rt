@@ -14,7 +14,7 @@ use std::cmp::Ordering;
 /// bytes and is aligned to 8, and zeros are one, so a caller there can pass a slice of zeros.
 #[repr(C)]
 #[derive(Clone, Copy, Debug)]
-pub struct Mark {
+pub struct EntryMark {
     /// The first eight bytes of the key as a number, with zeros after a shorter key.
     lead: u64,
 
@@ -29,12 +29,12 @@ pub struct Mark {
     pub(crate) size: u16,
 }
 
-impl Default for Mark {
+impl Default for EntryMark {
     /// A mark of zeros, as a scratch is filled before it is passed.
-    fn default() -> Mark
+    fn default() -> EntryMark
         ensures { result ≡ blank }
     {
-        Mark {
+        EntryMark {
             lead: 0,
             place: 0,
             more: 0,
@@ -44,7 +44,7 @@ impl Default for Mark {
 }
 
 /// The bytes from a mark's place on.
-pub(crate) fn marked(content: &[u8], mark: Mark) -> &[u8]
+pub(crate) fn marked(content: &[u8], mark: EntryMark) -> &[u8]
     ensures { result.now ≡ drop mark.place content.now }
 {
     bytes_from(content, mark.place as usize)
@@ -64,7 +64,7 @@ fn size_copied(span: Span) -> u16
 
 /// Marks the entries that fill a table, as they stand, and returns how many there are. None where there are more than
 /// marks.
-fn mark_entries(marks: &mut [Mark], content: &[u8]) -> Option<usize>
+fn mark_entries(marks: &mut [EntryMark], content: &[u8]) -> Option<usize>
     ensures len { length marks.new ≡ length marks.old }
     ensures within { IfSome result (λ count. count ≤ length marks.new) }
     ensures each { IfSome result (λ count. All (IsMarkOf content.now) (take count marks.new)) }
@@ -82,7 +82,7 @@ fn mark_entries(marks: &mut [Mark], content: &[u8]) -> Option<usize>
         let entry = &content[at..];
         let (key, _) = split_key(entry);
         let span = entry_span(entry);
-        marks[count] = Mark {
+        marks[count] = EntryMark {
             lead: first_eight(key),
             place: at as u32,
             more: next_two(key),
@@ -96,7 +96,7 @@ fn mark_entries(marks: &mut [Mark], content: &[u8]) -> Option<usize>
 
 /// How two marks stand by their keys, and where those are equal, by their places.
 #[inline(never)]
-fn order_keys(content: &[u8], a: Mark, b: Mark) -> Ordering {
+fn order_keys(content: &[u8], a: EntryMark, b: EntryMark) -> Ordering {
     let (a_key, _) = split_key(marked(content, a));
     let (b_key, _) = split_key(marked(content, b));
     match a_key.cmp(b_key) {
@@ -107,7 +107,7 @@ fn order_keys(content: &[u8], a: Mark, b: Mark) -> Ordering {
 
 /// How two marks stand, by the first bytes of their keys where these differ.
 #[inline(always)]
-fn order(content: &[u8], a: &Mark, b: &Mark) -> Ordering {
+fn order(content: &[u8], a: &EntryMark, b: &EntryMark) -> Ordering {
     if a.lead != b.lead {
         return a.lead.cmp(&b.lead);
     }
@@ -118,7 +118,7 @@ fn order(content: &[u8], a: &Mark, b: &Mark) -> Ordering {
 }
 
 /// Sorts marks. Split for the proof: nothing rests on which order that is, since it is tested after.
-fn sort(marks: &mut [Mark], content: &[u8])
+fn sort(marks: &mut [EntryMark], content: &[u8])
     ensures { IsPermutation marks.old marks.new }
 {
     marks.sort_unstable_by(|a, b| order(content, a, b));
@@ -126,7 +126,7 @@ fn sort(marks: &mut [Mark], content: &[u8])
 
 /// Whether an entry comes after the previous one, by their keys, and where those are equal, by their places.
 #[inline(never)]
-fn key_follows(content: &[u8], previous: Mark, mark: Mark) -> bool
+fn key_follows(content: &[u8], previous: EntryMark, mark: EntryMark) -> bool
     ensures { IsTrue result → Follows content.now previous mark }
 {
     let (previous_key, _) = split_key(marked(content, previous));
@@ -140,7 +140,7 @@ fn key_follows(content: &[u8], previous: Mark, mark: Mark) -> bool
 
 /// Whether an entry comes after the previous one, by the first bytes of their keys where these differ.
 #[inline(always)]
-fn follows(content: &[u8], previous: &Mark, mark: &Mark) -> bool
+fn follows(content: &[u8], previous: &EntryMark, mark: &EntryMark) -> bool
     requires { IsMarkOf content.now previous.now × IsMarkOf content.now mark.now }
     ensures { IsTrue result → Follows content.now previous.now mark.now }
 {
@@ -154,7 +154,7 @@ fn follows(content: &[u8], previous: &Mark, mark: &Mark) -> bool
 }
 
 /// Whether each mark follows the one before it.
-fn are_in_order(marks: &[Mark], content: &[u8]) -> bool
+fn are_in_order(marks: &[EntryMark], content: &[u8]) -> bool
     requires { All (IsMarkOf content.now) marks.now }
     ensures { IsTrue result → AreInOrder content.now marks.now }
 {
@@ -169,7 +169,7 @@ fn are_in_order(marks: &[Mark], content: &[u8]) -> bool
 }
 
 /// Puts marks in order, and returns whether they are.
-fn put_in_order(marks: &mut [Mark], content: &[u8]) -> bool
+fn put_in_order(marks: &mut [EntryMark], content: &[u8]) -> bool
     requires { All (IsMarkOf content.now) marks.old }
     ensures permuted { IsPermutation marks.old marks.new }
     ensures order { IsTrue result → AreInOrder content.now marks.new }
@@ -180,7 +180,7 @@ fn put_in_order(marks: &mut [Mark], content: &[u8]) -> bool
 
 /// Marks the entries that fill a table in ascending key order, and returns how many there are. None where there are
 /// more than marks.
-pub(crate) fn mark_in_order(marks: &mut [Mark], content: &[u8]) -> Option<usize>
+pub(crate) fn mark_in_order(marks: &mut [EntryMark], content: &[u8]) -> Option<usize>
     ensures within { IfSome result (λ count. count ≤ length marks.new) }
     ensures each { IfSome result (λ count. All (IsMarkOf content.now) (take count marks.new)) }
     ensures table { IfSome result (λ count. (room : ℕ) → AreEntries room content.now → AreOfTable room content.now (take count marks.new)) }
@@ -195,7 +195,7 @@ pub(crate) fn mark_in_order(marks: &mut [Mark], content: &[u8]) -> Option<usize>
 
 /// Whether two keys are the same.
 #[inline(never)]
-fn is_same_key(content: &[u8], mark: Mark, next: Mark) -> bool
+fn is_same_key(content: &[u8], mark: EntryMark, next: EntryMark) -> bool
     ensures { IsTrue result ↔ (key_at content.now mark ≡ key_at content.now next) }
 {
     let (key, _) = split_key(marked(content, mark));
@@ -205,7 +205,7 @@ fn is_same_key(content: &[u8], mark: Mark, next: Mark) -> bool
 
 /// Whether the next mark has the same key as this one.
 #[inline(always)]
-pub(crate) fn is_tied(marks: &[Mark], content: &[u8], k: usize) -> bool
+pub(crate) fn is_tied(marks: &[EntryMark], content: &[u8], k: usize) -> bool
     requires here { k < length marks.now }
     requires each { All (IsMarkOf content.now) marks.now }
     ensures { (room : ℕ) → AreRead room content.now marks.now

@@ -12,7 +12,7 @@ ghost use Rattle.amqp_types.specs.Writing.{Puts};
 ghost use Rattle.amqp_canonical.specs.Writes.{IsRead, canonical_of};
 
 use crate::headers::has_bit;
-use crate::marks::Mark;
+use crate::marks::EntryMark;
 use crate::shapes::{header_shapes, property_shapes, shapes_of};
 use crate::slot_writing::{put_form, put_slots, slot_size};
 use crate::spans::bytes_from;
@@ -30,7 +30,7 @@ fn short_at(i: &[u8]) -> u16
 
 /// Puts the canonical bytes of a class id, a method id and the fields of that method at a place of a slice, and returns
 /// the place after them (AMQP 0-9-1, section 4.2.4).
-pub fn put_payload(buf: &mut [u8], at: usize, scratch: &mut [Mark], i: &[u8]) -> usize
+pub fn put_payload(buf: &mut [u8], at: usize, scratch: &mut [EntryMark], i: &[u8]) -> usize
     requires read { IsRead (judge_payload i.now) }
     requires room { at + length (canonical_of payload_bytes (judge_payload i.now)) ≤ length buf.old }
     ensures { Puts buf.old buf.new at (canonical_of payload_bytes (judge_payload i.now)) result }
@@ -46,7 +46,7 @@ pub fn put_payload(buf: &mut [u8], at: usize, scratch: &mut [Mark], i: &[u8]) ->
 }
 
 /// Puts the canonical bytes of the properties whose bits are set in the mask, one after another.
-fn put_set(buf: &mut [u8], at: usize, scratch: &mut [Mark], mask: u16, i: &[u8]) -> usize
+fn put_set(buf: &mut [u8], at: usize, scratch: &mut [EntryMark], mask: u16, i: &[u8]) -> usize
     requires read { IsRead (judge_set mask properties i.now) }
     requires room { at + length (canonical_of (set_bytes properties) (judge_set mask properties i.now)) ≤ length buf.old }
     ensures { Puts buf.old buf.new at (canonical_of (set_bytes properties) (judge_set mask properties i.now)) result }
@@ -65,7 +65,7 @@ fn put_set(buf: &mut [u8], at: usize, scratch: &mut [Mark], mask: u16, i: &[u8])
 
 /// Puts the canonical bytes of a mask and of the properties whose bits are set in it. The two bits that no property has
 /// are put as zero.
-pub fn put_properties(buf: &mut [u8], at: usize, scratch: &mut [Mark], i: &[u8]) -> usize
+pub fn put_properties(buf: &mut [u8], at: usize, scratch: &mut [EntryMark], i: &[u8]) -> usize
     requires read { IsRead (judge_properties i.now) }
     requires room { at + length (canonical_of properties_bytes (judge_properties i.now)) ≤ length buf.old }
     ensures { Puts buf.old buf.new at (canonical_of properties_bytes (judge_properties i.now)) result }
@@ -77,7 +77,7 @@ pub fn put_properties(buf: &mut [u8], at: usize, scratch: &mut [Mark], i: &[u8])
 
 /// Puts the canonical bytes of a content header at a place of a slice, and returns the place after them: a class id, a
 /// weight of 0, the size of the body, and the properties (AMQP 0-9-1, section 4.2.6.1).
-pub fn put_content_header(buf: &mut [u8], at: usize, scratch: &mut [Mark], i: &[u8]) -> usize
+pub fn put_content_header(buf: &mut [u8], at: usize, scratch: &mut [EntryMark], i: &[u8]) -> usize
     requires read { IsRead (judge_content_header i.now) }
     requires room { at + length (canonical_of content_header_bytes (judge_content_header i.now)) ≤ length buf.old }
     ensures { Puts buf.old buf.new at (canonical_of content_header_bytes (judge_content_header i.now)) result }

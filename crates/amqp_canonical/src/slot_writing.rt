@@ -9,7 +9,7 @@ ghost use Rattle.amqp_canonical.specs.Shapes.{form_of, slot_of, slots_of};
 ghost use Rattle.amqp_canonical.specs.Writes.{IsRead, canonical_of, slot_bytes};
 ghost use Rattle.amqp_types.specs.Tidiness.{used_by};
 
-use crate::marks::Mark;
+use crate::marks::EntryMark;
 use crate::shapes::Shape;
 use crate::spans::{bytes_from, long_size, split_key};
 use crate::writing::put_table;
@@ -43,7 +43,7 @@ fn lowest_bits(count: u8, byte: u8) -> u8
 pub(crate) fn put_form(
     buf: &mut [u8],
     at: usize,
-    scratch: &mut [Mark],
+    scratch: &mut [EntryMark],
     shape: Shape,
     i: &[u8],
 ) -> usize
@@ -60,7 +60,7 @@ pub(crate) fn put_form(
 }
 
 /// Puts the canonical bytes of a field at a place of a slice, and returns the place after them.
-fn put_slot(buf: &mut [u8], at: usize, scratch: &mut [Mark], shape: Shape, i: &[u8]) -> usize
+fn put_slot(buf: &mut [u8], at: usize, scratch: &mut [EntryMark], shape: Shape, i: &[u8]) -> usize
     requires read { IsRead (judge_slot (slot_of shape) i.now) }
     requires room { at + length (canonical_of (slot_bytes (slot_of shape)) (judge_slot (slot_of shape) i.now)) ≤ length buf.old }
     ensures { Puts buf.old buf.new at (canonical_of (slot_bytes (slot_of shape)) (judge_slot (slot_of shape) i.now)) result }
@@ -79,7 +79,7 @@ fn put_slot(buf: &mut [u8], at: usize, scratch: &mut [Mark], shape: Shape, i: &[
 pub fn put_slots(
     buf: &mut [u8],
     at: usize,
-    scratch: &mut [Mark],
+    scratch: &mut [EntryMark],
     shapes: &[Shape],
     i: &[u8],
 ) -> usize

@@ -2,7 +2,7 @@
 
 ghost use Rattle.std.specs.Prelude.{◌≡◌, ◌≤◌, ◌<◌, ◌↔◌, Some, true, false, length, IfOk, IfSome, IsTrue};
 ghost use Rattle.amqp_types.specs.Booleans.{judge_boolean};
-ghost use Rattle.amqp_types.specs.ValueJudging.{filled, nested, inside_error, judge_entry, judge_array, judge_table, judge_behind, judge_value};
+ghost use Rattle.amqp_types.specs.ValueJudging.{filled, nested, judge_entry, judge_array, judge_table, judge_behind, judge_value};
 ghost use Rattle.amqp_canonical.specs.Judgements.{layout_at, layout_after_byte, IsShort, IsAbove, IsBelow, MayRefuse, IsCanonicalBoolean, IsCanonicalAfterTag, IsCanonicalValue, AreCanonicalValues, AreCanonicalEntries, IsCanonicalArray, IsCanonicalTable, Judges, JudgesEntry, JudgesWhole};
 
 use crate::texts::short_text;
@@ -117,18 +117,6 @@ pub(crate) fn layout_after(byte: u8) -> Option<TagByte>
         TAG_FIELD_ARRAY => written(Layout::Values),
         TAG_FIELD_TABLE => written(Layout::Entries),
         _ => None,
-    }
-}
-
-/// An error of what stands inside a table or an array whose bytes are all there.
-fn inside(error: ParserError) -> ParserError
-    requires { MayRefuse error }
-    ensures is { result ≡ inside_error error }
-    ensures memory { MayRefuse result }
-{
-    match error {
-        ParserError::Incomplete => ParserError::ShortPayload,
-        error => error,
     }
 }
 
@@ -261,7 +249,7 @@ fn judge_values(content: &[u8], room: usize) -> Result<bool, ParserError>
     while at < content.len() {
         let item = match judge_value(&content[at..], room) {
             Ok(item) => item,
-            Err(error) => return Err(inside(error)),
+            Err(error) => return Err(error.inside()),
         };
         canonical = canonical & item.canonical;
         at += item.used;
@@ -282,7 +270,7 @@ fn judge_entries(content: &[u8], room: usize) -> Result<bool, ParserError>
     while canonical && at < content.len() {
         let (item, key) = match judge_entry(&content[at..], room) {
             Ok(found) => found,
-            Err(error) => return Err(inside(error)),
+            Err(error) => return Err(error.inside()),
         };
         canonical = item.canonical & is_next(at, key, previous);
         previous = key;
@@ -292,7 +280,7 @@ fn judge_entries(content: &[u8], room: usize) -> Result<bool, ParserError>
     while at < content.len() {
         at += match judge_entry(&content[at..], room) {
             Ok((item, _)) => item.used,
-            Err(error) => return Err(inside(error)),
+            Err(error) => return Err(error.inside()),
         };
     }
     Ok(canonical)

@@ -8,7 +8,7 @@ ghost use Rattle.amqp_types.specs.Writing.{Puts};
 ghost use Rattle.amqp_canonical.specs.Writes.{IsRead, IsFilled, array_content, canonical_of, entry_bytes, items_of, table_content};
 ghost use Rattle.amqp_canonical.specs.Marks.{AreEntries, IsMarkOf, entries_in, entry_at, last_of_ties, marked_entry};
 
-use crate::marks::{Mark, is_tied, mark_in_order};
+use crate::marks::{EntryMark, is_tied, mark_in_order};
 use crate::selection::next_entry;
 use crate::spans::{bytes_from, content_of, size_in, split_key, value_size};
 use crate::values::{Layout, layout_of};
@@ -17,7 +17,13 @@ use amqp_types::{FieldTag, put_boolean, put_bytes, put_long_uint};
 /// Puts the canonical bytes of a value at a place of a slice, and returns the place after them. Tables and arrays may
 /// nest `room` deep in it. Its tag stands in front of it, in the bytes that were decoded and in those that are put.
 #[cycle(write)]
-pub fn put_value(buf: &mut [u8], at: usize, scratch: &mut [Mark], i: &[u8], room: usize) -> usize
+pub fn put_value(
+    buf: &mut [u8],
+    at: usize,
+    scratch: &mut [EntryMark],
+    i: &[u8],
+    room: usize,
+) -> usize
     requires read { IsRead (judge_value room i.now) }
     requires room { at + length (canonical_of tagged_bytes (judge_value room i.now)) ≤ length buf.old }
     ensures { Puts buf.old buf.new at (canonical_of tagged_bytes (judge_value room i.now)) result }
@@ -39,7 +45,7 @@ pub fn put_value(buf: &mut [u8], at: usize, scratch: &mut [Mark], i: &[u8], room
 fn put_after_tag(
     buf: &mut [u8],
     at: usize,
-    scratch: &mut [Mark],
+    scratch: &mut [EntryMark],
     tag: FieldTag,
     i: &[u8],
     room: usize,
@@ -63,7 +69,13 @@ fn put_after_tag(
 /// Puts the canonical bytes of an array at a place of a slice, and returns the place after them. Tables and arrays may
 /// nest `room` deep in its values.
 #[cycle(write)]
-pub fn put_array(buf: &mut [u8], at: usize, scratch: &mut [Mark], i: &[u8], room: usize) -> usize
+pub fn put_array(
+    buf: &mut [u8],
+    at: usize,
+    scratch: &mut [EntryMark],
+    i: &[u8],
+    room: usize,
+) -> usize
     requires read { IsRead (judge_array (judge_value room) i.now) }
     requires room { at + length (canonical_of array_bytes (judge_array (judge_value room) i.now)) ≤ length buf.old }
     ensures { Puts buf.old buf.new at (canonical_of array_bytes (judge_array (judge_value room) i.now)) result }
@@ -76,7 +88,13 @@ pub fn put_array(buf: &mut [u8], at: usize, scratch: &mut [Mark], i: &[u8], room
 /// Puts the canonical bytes of a table at a place of a slice, and returns the place after them. Tables and arrays may
 /// nest `room` deep in its values.
 #[cycle(write)]
-pub fn put_table(buf: &mut [u8], at: usize, scratch: &mut [Mark], i: &[u8], room: usize) -> usize
+pub fn put_table(
+    buf: &mut [u8],
+    at: usize,
+    scratch: &mut [EntryMark],
+    i: &[u8],
+    room: usize,
+) -> usize
     requires read { IsRead (judge_table (judge_value room) i.now) }
     requires room { at + length (canonical_of table_bytes (judge_table (judge_value room) i.now)) ≤ length buf.old }
     ensures { Puts buf.old buf.new at (canonical_of table_bytes (judge_table (judge_value room) i.now)) result }
@@ -88,7 +106,13 @@ pub fn put_table(buf: &mut [u8], at: usize, scratch: &mut [Mark], i: &[u8], room
 
 /// Puts the canonical bytes of the values that fill an array.
 #[cycle(write)]
-fn put_values(buf: &mut [u8], at: usize, scratch: &mut [Mark], content: &[u8], room: usize) -> usize
+fn put_values(
+    buf: &mut [u8],
+    at: usize,
+    scratch: &mut [EntryMark],
+    content: &[u8],
+    room: usize,
+) -> usize
     requires read { IsFilled (filled (judge_value room) 0 content.now) }
     requires room { at + length (array_content (items_of (filled (judge_value room) 0 content.now))) ≤ length buf.old }
     ensures { Puts buf.old buf.new at (array_content (items_of (filled (judge_value room) 0 content.now))) result }
@@ -108,7 +132,7 @@ fn put_values(buf: &mut [u8], at: usize, scratch: &mut [Mark], content: &[u8], r
 fn put_entries(
     buf: &mut [u8],
     at: usize,
-    scratch: &mut [Mark],
+    scratch: &mut [EntryMark],
     content: &[u8],
     room: usize,
 ) -> usize
@@ -130,9 +154,9 @@ fn put_entries(
 fn put_marked(
     buf: &mut [u8],
     at: usize,
-    scratch: &mut [Mark],
+    scratch: &mut [EntryMark],
     content: &[u8],
-    marks: &[Mark],
+    marks: &[EntryMark],
     room: usize,
 ) -> usize
     requires read { All (λ mark. IsRead (entry_at room content.now mark.place)) marks.now }
@@ -157,9 +181,9 @@ fn put_marked(
 fn put_mark(
     buf: &mut [u8],
     at: usize,
-    scratch: &mut [Mark],
+    scratch: &mut [EntryMark],
     content: &[u8],
-    mark: &Mark,
+    mark: &EntryMark,
     room: usize,
 ) -> usize
     requires read { IsRead (entry_at room content.now mark.now.place) }
@@ -181,7 +205,7 @@ fn put_mark(
 fn put_selected(
     buf: &mut [u8],
     at: usize,
-    scratch: &mut [Mark],
+    scratch: &mut [EntryMark],
     content: &[u8],
     room: usize,
 ) -> usize
@@ -200,7 +224,7 @@ fn put_selected(
 
 /// Puts the canonical bytes of an entry, its key and then its value.
 #[cycle(write)]
-fn put_entry(buf: &mut [u8], at: usize, scratch: &mut [Mark], i: &[u8], room: usize) -> usize
+fn put_entry(buf: &mut [u8], at: usize, scratch: &mut [EntryMark], i: &[u8], room: usize) -> usize
     requires read { IsRead (judge_entry (judge_value room) i.now) }
     requires room { at + length (canonical_of entry_bytes (judge_entry (judge_value room) i.now)) ≤ length buf.old }
     ensures { Puts buf.old buf.new at (canonical_of entry_bytes (judge_entry (judge_value room) i.now)) result }

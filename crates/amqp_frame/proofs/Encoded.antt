@@ -14,16 +14,16 @@ use Rattle.amqp_types.specs.ValueJudging.{read_map}
 use Rattle.amqp_types.specs.Methods.{Method, judge_payload}
 use Rattle.amqp_types.specs.ContentHeaders.{ContentHeader, judge_content_header}
 use Rattle.amqp_types.proofs.Bytes.{IsBytes-take, IsBytes-drop}
+use Rattle.amqp_types.specs.Constants.{protocol_byte, protocol_mark}
 use Rattle.amqp_frame.specs.declared.frame_type.AMQPFrameType.{AMQPFrameType}
 use Rattle.amqp_frame.specs.declared.frame_type.AMQPFrameType.TheVariants as kinds
-use Rattle.amqp_frame.specs.Frames.{Frame, Proto, Meth, Head, Body, Beat, BadBeat, Raw}
+use Rattle.amqp_frame.specs.Frames.{Frame, Proto, Meth, Head, Body, Beat, BadBeat, Raw, raw_as}
 use Rattle.amqp_frame.specs.Outer.{type_of, begins_as, is_above, payload_length, judge_version, version_at, ended_payload, judge_raw, behind_type, outer}
 use Rattle.amqp_frame.specs.Canonical.{payload_of}
 use Rattle.amqp_frame.specs.Verdicts.{all_of, whole_as, is_tidy_as, is_written_for, is_at, judged, judged_frame, verdict}
 use Rattle.amqp_frame.specs.Spelling.{head, framed, proto, byte_of, IsBeatPayload, IsFramed, IsBeat, Spells, IsWithin}
-use Rattle.amqp_frame.proofs.OuterLook.{mark, typed, outer-typed, outer-none, behind_byte-took}
+use Rattle.amqp_frame.proofs.OuterLook.{typed, outer-typed, outer-none, behind_byte-took}
 use Rattle.amqp_frame.proofs.Typed.{method_at, method_spells, header_at, header_spells}
-use Rattle.amqp_frame.proofs.Spelled.{raw_as}
 use Rattle.amqp_frame.proofs.Sizes.{framed_length}
 
 -- ---- type bytes
@@ -119,9 +119,9 @@ framed-made m kind b (c1 ∷ c0 ∷ n3 ∷ n2 ∷ n1 ∷ n0 ∷ tail) raw n fits
 -- after its `A`
 record IsHeader (bytes : List ℕ) (raw : Raw) (n : ℕ) : Type 0 where
   raw_is : raw ≡ raw_as kinds.ProtocolHeader 0 (get_or bytes 4 0 ∷ get_or bytes 5 0 ∷ get_or bytes 6 0 ∷ [])
-  spelled : 65 ∷ take n bytes ≡ proto (get_or bytes 4 0) (get_or bytes 5 0) (get_or bytes 6 0)
+  spelled : protocol_byte ∷ take n bytes ≡ proto (get_or bytes 4 0) (get_or bytes 5 0) (get_or bytes 6 0)
 
-header-bytes : (bytes : List ℕ) (raw : Raw) (n : ℕ) → 7 ≤ length bytes → begins_as bytes mark ≡ true → raw ≡ raw_as kinds.ProtocolHeader 0 (get_or bytes 4 0 ∷ get_or bytes 5 0 ∷ get_or bytes 6 0 ∷ []) → n ≡ 7 → IsHeader bytes raw n
+header-bytes : (bytes : List ℕ) (raw : Raw) (n : ℕ) → 7 ≤ length bytes → begins_as bytes protocol_mark ≡ true → raw ≡ raw_as kinds.ProtocolHeader 0 (get_or bytes 4 0 ∷ get_or bytes 5 0 ∷ get_or bytes 6 0 ∷ []) → n ≡ 7 → IsHeader bytes raw n
 header-bytes [] raw n enough h e k = absurd (omega arith)
 header-bytes (a ∷ []) raw n enough h e k = absurd (omega arith)
 header-bytes (a ∷ b ∷ []) raw n enough h e k = absurd (omega arith)
@@ -141,7 +141,7 @@ header-bytes (a ∷ b ∷ c ∷ d ∷ x ∷ y ∷ z ∷ tail) raw n enough h e k
 
 version_at-made : (bytes : List ℕ) (raw : Raw) (n : ℕ) → version_at bytes ≡ took raw n → IsHeader bytes raw n
 unfolding judge_version
-version_at-made bytes raw n e = elim (cases_Bool (begins_as bytes mark)) [
+version_at-made bytes raw n e = elim (cases_Bool (begins_as bytes protocol_mark)) [
   | inl holds ↦ elim (cases_lt (length bytes) 7) [
     | inl few ↦ absurd (let h = rw (holds, lt-ltb (length bytes) 7 few) at e in cc)
     | inr enough ↦ let h = rw (holds, le-ltb (length bytes) 7 enough) at e in let raw-is : raw ≡ raw_as kinds.ProtocolHeader 0 (get_or bytes 4 0 ∷ get_or bytes 5 0 ∷ get_or bytes 6 0 ∷ []) = cc in let n-is : n ≡ 7 = cc in header-bytes bytes raw n enough holds raw-is n-is

@@ -29,10 +29,9 @@ use Rattle.amqp_canonical.specs.SlotJudgements.{TakesTidily, JudgesPayload, Judg
 use Rattle.amqp_frame.specs.declared.frame_type.AMQPFrameType.{AMQPFrameType}
 use Rattle.amqp_frame.specs.declared.frame_type.AMQPFrameType.TheVariants as kinds
 use Rattle.amqp_frame.specs.declared.judging.FrameJudgement.{FrameJudgement}
-use Rattle.amqp_frame.specs.Frames.{Frame, Proto, Meth, Head, Body, beat_on}
+use Rattle.amqp_frame.specs.Frames.{Frame, Proto, Meth, Head, Body, beat_on, raw_as}
 use Rattle.amqp_frame.specs.Canonical.{payload_of}
 use Rattle.amqp_frame.specs.Spelling.{Spells, bytes_as}
-use Rattle.amqp_frame.proofs.Spelled.{raw_as}
 use Rattle.amqp_frame.proofs.Tidied.{frame_decided}
 use Rattle.amqp_frame.specs.Judgements.{IsAll, JudgesAll, IsJudged, JudgesFrame}
 use Rattle.amqp_frame.specs.Verdicts.{all_of, whole_as, is_tidy_as}

@@ -4,6 +4,7 @@ use Rattle.std.proofs.lemmas.Bool.{cases_lt, cases_Bool, le-ltb, lt-ltb, ltb-fal
 use Rattle.std.proofs.lemmas.List.{length-append, take-append-le, drop-append-le, length-drop, length-take-le, take-append-drop, get_or_append_left}
 use Rattle.std.specs.Int.{w32, from_be_bytes}
 use Rattle.amqp_types.specs.Judging.{Judged, past, fault, took, ◌>>=◌, too_large, unknown_frame_type}
+use Rattle.amqp_types.specs.Constants.{protocol_mark}
 use Rattle.amqp_frame.specs.declared.frame_type.AMQPFrameType.{AMQPFrameType}
 use Rattle.amqp_frame.specs.declared.frame_type.AMQPFrameType.TheVariants as kinds
 use Rattle.amqp_frame.specs.Frames.{Raw}
@@ -80,24 +81,20 @@ begins_as-false (b ∷ bytes) more (w ∷ wanted) h = elim (eqb b w) as (λ t. (
   | false ↦ λ e. refl
 ] h
 
--- what stands after the `A` of a protocol header
-abbrev pub mark : List ℕ
-mark = 77 ∷ 81 ∷ 80 ∷ 0 ∷ []
-
 judge_version-append : (bytes more : List ℕ) → judge_version bytes ≢ past → judge_version (bytes ++ more) ≡ judge_version bytes
 unfolding judge_version
-judge_version-append bytes more h = elim (cases_Bool (begins_as bytes mark)) [
+judge_version-append bytes more h = elim (cases_Bool (begins_as bytes protocol_mark)) [
   | inl holds ↦ elim (cases_lt (length bytes) 7) [
     | inl few ↦ absurd (h (rw (holds, lt-ltb (length bytes) 7 few) refl))
     | inr enough ↦
-        let holds-more : begins_as (bytes ++ more) mark ≡ true = begins_as-append bytes more mark (omega arith) ∙ holds in
+        let holds-more : begins_as (bytes ++ more) protocol_mark ≡ true = begins_as-append bytes more protocol_mark (omega arith) ∙ holds in
         let enough-more : ltb (length (bytes ++ more)) 7 ≡ false = le-ltb _ _ (omega (arith, length-append bytes more)) in
         let major : get_or (bytes ++ more) 4 0 ≡ get_or bytes 4 0 = get_or_append_left bytes more 0 4 (omega arith) in
         let minor : get_or (bytes ++ more) 5 0 ≡ get_or bytes 5 0 = get_or_append_left bytes more 0 5 (omega arith) in
         let revision : get_or (bytes ++ more) 6 0 ≡ get_or bytes 6 0 = get_or_append_left bytes more 0 6 (omega arith) in
         rw (holds-more, enough-more, major, minor, revision, holds, le-ltb (length bytes) 7 enough) refl
   ]
-  | inr fails ↦ rw (begins_as-false bytes more mark fails, fails) refl
+  | inr fails ↦ rw (begins_as-false bytes more protocol_mark fails, fails) refl
 ]
 
 version_at-append : (bytes more : List ℕ) → version_at bytes ≢ past → version_at (bytes ++ more) ≡ version_at bytes
@@ -169,7 +166,7 @@ below_limit (Some m) n k h e = let same : m ≡ k = cc in subst (λ x. n ≤ x) 
 
 version_at-fits : (m : Option ℕ) (bytes : List ℕ) → Fits_in m bytes (version_at bytes)
 unfolding judge_version
-version_at-fits m bytes = elim (cases_Bool (begins_as bytes mark)) [
+version_at-fits m bytes = elim (cases_Bool (begins_as bytes protocol_mark)) [
   | inl holds ↦ elim (cases_lt (length bytes) 7) [
     | inl few ↦ rw (holds, lt-ltb (length bytes) 7 few) (λ k e. omega arith)
     | inr enough ↦ rw (holds, le-ltb (length bytes) 7 enough) (record { least = omega arith; within = enough; payload = λ k e. omega arith; limit = λ k e. omega arith })
@@ -268,7 +265,7 @@ raw_never_large kind bytes e = (subst IsNotLarge e (judge_raw-not_large kind byt
 
 version_at-not_large : (bytes : List ℕ) → IsNotLarge (version_at bytes)
 unfolding judge_version
-version_at-not_large bytes = elim (cases_Bool (begins_as bytes mark)) [
+version_at-not_large bytes = elim (cases_Bool (begins_as bytes protocol_mark)) [
   | inl holds ↦ elim (cases_lt (length bytes) 7) [
     | inl few ↦ rw (holds, lt-ltb (length bytes) 7 few) tt
     | inr enough ↦ rw (holds, le-ltb (length bytes) 7 enough) tt
@@ -301,7 +298,7 @@ never_large (b ∷ bytes) e = (subst IsNotLarge (sym (outer-typed None b bytes) 
 
 version_at-enough : (bytes : List ℕ) → 7 ≤ length bytes → version_at bytes ≢ past
 unfolding judge_version
-version_at-enough bytes enough = elim (cases_Bool (begins_as bytes mark)) [
+version_at-enough bytes enough = elim (cases_Bool (begins_as bytes protocol_mark)) [
   | inl holds ↦ rw (holds, le-ltb (length bytes) 7 enough) (λ e. absurd cc)
   | inr fails ↦ rw fails (λ e. absurd cc)
 ]

@@ -1,15 +1,14 @@
 -- The ids and sizes of a frame stand at the front of its payload.
-use Rattle.std.proofs.Common.{◌≡◌, ℕ, ◌≤◌, ◌<◌, ◌^◌, List, [], ◌∷◌, ◌++◌, length, drop, Option, Result, Ok, Err, refl, sym, ap, ap₂, ◌∙◌, arith, inl, inr}
+use Rattle.std.proofs.Common.{◌≡◌, ℕ, ◌≤◌, ◌<◌, ◌^◌, List, [], ◌∷◌, ◌++◌, length, drop, Result, Ok, Err, refl, sym, ap, ap₂, ◌∙◌, arith, inl, inr}
 use Rattle.std.specs.Prelude.{IsOk}
 use Rattle.std.proofs.lemmas.Bool.{cases_eq, eq-eqb, ne_eqb}
 use Rattle.std.proofs.lemmas.Nat.{from_be_bytes-to_be_bytes_2, from_be_bytes-to_be_bytes_8}
-use Rattle.amqp_types.specs.Levels.{plain}
+use Rattle.amqp_types.specs.Levels.{Level, plain}
 use Rattle.amqp_types.specs.Judging.{Fault, IsBytes}
 use Rattle.amqp_types.specs.Numbers.{bytes2, bytes8, number_bytes}
-use Rattle.amqp_types.specs.Slots.{Item, number_item}
+use Rattle.amqp_types.specs.Slots.{number_item}
 use Rattle.amqp_types.specs.Methods.{Method, judge_payload}
 use Rattle.amqp_types.specs.MethodSpelling.{SpellsPayload}
-use Rattle.amqp_types.specs.PropertySpelling.{SpellsProperties}
 use Rattle.amqp_types.specs.ContentHeaders.{ContentHeader, header_slots, header_of_parts, judge_content_header, SpellsContentHeader}
 use Rattle.amqp_types.specs.Tidiness.{short_at}
 use Rattle.amqp_frame.specs.declared.frame_type.AMQPFrameType.{AMQPFrameType}
@@ -51,24 +50,21 @@ ids_spelled payload m h =
 
 -- ---- content headers
 
--- A payload of a content header is its class id, a weight, the size of the body, and properties.
-pub record HasFront (payload : List ℕ) (header : ContentHeader) : Type 0 where
+-- A payload of a content header is its class id, a weight, the size of the body, and properties, at each level.
+pub record HasFront {level : Level} {payload : List ℕ} {header : ContentHeader} (h : SpellsContentHeader level payload header) : Type 0 where
   pub class : ℕ
   pub weight : ℕ
   pub size : ℕ
-  pub behind : List ℕ
-  pub options : List (Option Item)
-  pub class_is : header.class_id ≡ class
-  pub size_is : header.body_size ≡ size
   pub class_fits : class < 2 ^ 16
   pub weight_fits : weight < 2 ^ 16
   pub size_fits : size < 2 ^ 64
-  pub bytes_are : payload ≡ number_bytes bytes2 class ++ (number_bytes bytes2 weight ++ (number_bytes bytes8 size ++ behind))
-  pub set : SpellsProperties plain behind options
+  pub items_are : h.one ≡ number_item class ∷ number_item size ∷ []
+  pub header_is : header ≡ record { class_id = class; body_size = size; options = h.two }
+  pub bytes_are : payload ≡ number_bytes bytes2 class ++ (number_bytes bytes2 weight ++ (number_bytes bytes8 size ++ h.behind))
 
-pub header_front : (payload : List ℕ) (header : ContentHeader) → SpellsContentHeader plain payload header → HasFront payload header
+pub header_front : {level : Level} {payload : List ℕ} {header : ContentHeader} (h : SpellsContentHeader level payload header) → HasFront h
 unfolding header_slots
-header_front payload header h =
+header_front h =
     let class = h.first_is in
     let weight = class.second_is in
     let size = weight.second_is in
@@ -77,20 +73,16 @@ header_front payload header h =
     let three = size.first_is in
     let items : h.one ≡ number_item one.thing ∷ number_item three.thing ∷ [] = class.joined ∙ ap₂ (λ xs ys. xs ++ ys) one.made (weight.joined ∙ ap₂ (λ xs ys. xs ++ ys) two.none (size.joined ∙ ap₂ (λ xs ys. xs ++ ys) three.made size.second_is.1)) in
     let front = class.bytes_are ∙ ap₂ (λ xs ys. xs ++ ys) one.spelled.bytes_are (weight.bytes_are ∙ ap₂ (λ xs ys. xs ++ ys) two.spelled.spelled.bytes_are (size.bytes_are ∙ ap₂ (λ xs ys. xs ++ ys) three.spelled.bytes_are size.second_is.0)) in
-    let made = h.joined ∙ ap (λ xs. header_of_parts xs h.two) items in
     record {
       class = one.thing;
       weight = two.spelled.thing;
       size = three.thing;
-      behind = h.behind;
-      options = h.two;
-      class_is = ap (λ (x : ContentHeader). x.class_id) made;
-      size_is = ap (λ (x : ContentHeader). x.body_size) made;
       class_fits = one.spelled.fits;
       weight_fits = two.spelled.spelled.fits;
       size_fits = three.spelled.fits;
+      items_are = items;
+      header_is = h.joined ∙ ap (λ xs. header_of_parts xs h.two) items;
       bytes_are = h.bytes_are ∙ ap (λ bs. bs ++ h.behind) front;
-      set = h.second_is;
     }
 
 -- ---- whole payloads
@@ -121,9 +113,9 @@ header_outlined : (channel : ℕ) (payload : List ℕ) (frame : Frame) → IsByt
 unfolding whole_as
 header_outlined channel payload frame fits h =
     let read = read_as (λ x. Head channel x) (all_of judge_content_header payload) frame h in
-    let front = header_front payload read.0 (header_spells plain payload read.0 fits read.1 refl) in
-    let class : short_at 0 payload ≡ read.0.class_id = ap (short_at 0) front.bytes_are ∙ from_be_bytes-to_be_bytes_2 front.class front.class_fits ∙ sym front.class_is in
-    let size : long_long_at 4 payload ≡ read.0.body_size = ap (long_long_at 4) front.bytes_are ∙ from_be_bytes-to_be_bytes_8 front.size front.size_fits ∙ sym front.size_is in
+    let front = header_front (header_spells plain payload read.0 fits read.1 refl) in
+    let class : short_at 0 payload ≡ read.0.class_id = ap (short_at 0) front.bytes_are ∙ from_be_bytes-to_be_bytes_2 front.class front.class_fits ∙ sym (ap (λ (x : ContentHeader). x.class_id) front.header_is) in
+    let size : long_long_at 4 payload ≡ read.0.body_size = ap (long_long_at 4) front.bytes_are ∙ from_be_bytes-to_be_bytes_8 front.size front.size_fits ∙ sym (ap (λ (x : ContentHeader). x.body_size) front.header_is) in
     record { enough = omega (arith, ap length front.bytes_are); outline_is = ap₂ (λ c s. outlines.Header channel c s) class size ∙ ap outline_of read.2 }
 
 beat_outline : (channel : ℕ) → outlines.Heartbeat channel ≡ outline_of (beat_on channel)

@@ -15,7 +15,7 @@ use Rattle.amqp_types.specs.Methods.{Method}
 use Rattle.amqp_types.specs.Numbers.{bytes2, bytes4, number_bytes}
 use Rattle.amqp_frame.specs.declared.frame_type.AMQPFrameType.{AMQPFrameType}
 use Rattle.amqp_frame.specs.declared.frame_type.AMQPFrameType.TheVariants as kinds
-use Rattle.amqp_frame.specs.Frames.{Frame, Proto, Meth, Head, Body, Beat, BadBeat, Raw, beat_on}
+use Rattle.amqp_frame.specs.Frames.{Frame, Proto, Meth, Head, Body, Beat, BadBeat, Raw, raw_as, beat_on}
 use Rattle.amqp_frame.specs.Outer.{type_of, is_above, payload_length, judge_version, judge_raw, ended_payload, behind_type, outer}
 use Rattle.amqp_frame.specs.Canonical.{payload_of}
 use Rattle.amqp_frame.specs.Verdicts.{whole_as, is_tidy_as, is_written_for, is_at, judged, judged_frame, verdict}
@@ -24,9 +24,6 @@ use Rattle.amqp_frame.proofs.OuterLook.{typed, behind_byte, outer-typed}
 use Rattle.amqp_frame.proofs.Cuts.{verdict-exact}
 use Rattle.amqp_frame.proofs.Typed.{method_whole, method_is_at, header_whole, header_is_at}
 use Rattle.amqp_frame.proofs.Sizes.{framed_length}
-
-abbrev pub raw_as : AMQPFrameType → ℕ → List ℕ → Raw
-raw_as kind channel payload = record { kind = kind; channel = channel; payload = payload }
 
 above-none : (m : Option ℕ) (n : ℕ) (bytes : List ℕ) → length bytes ≡ n + 8 → IsWithin m bytes → is_above n m ≡ false
 above-none None n bytes e h = refl

@@ -1,7 +1,8 @@
 -- The levels, the one strict encoding, and that it is shortest.
-use Rattle.std.proofs.Common.{◌≡◌, subst, sym, ◌↔◌, ℕ, ◌-◌, ◌^◌, ◌<◌, ◌≤◌, Bool, true, false, ◌||◌, List, [], ◌∷◌, ◌++◌, length, Option, Some, None, Ok, refl, ap, ap₂, ◌∙◌, arith}
+use Rattle.std.proofs.Common.{◌≡◌, subst, sym, ◌↔◌, ℕ, ◌-◌, ◌^◌, ◌<◌, ◌≤◌, Bool, false, List, [], ◌∷◌, ◌++◌, length, Option, Some, None, Ok, refl, ap, ap₂, ◌∙◌, arith, append-nil}
 use Rattle.std.proofs.lemmas.Bool.{le-ltb}
 use Rattle.std.proofs.lemmas.List.{length-append}
+use Rattle.std.proofs.lemmas.List.Concat.{flat_map-append}
 use Rattle.amqp_types.specs.Levels.{Level, plain, tidy, strict}
 use Rattle.amqp_types.specs.Judging.{Judge, IsBytes}
 use Rattle.amqp_types.specs.Sizes.{measured}
@@ -161,6 +162,10 @@ within_short (Some m) short bytes h w = omega arith
 pub sequence_is_plain : (level : Level) (m : Option ℕ) (bytes : List ℕ) (frames : List Frame) → SpellsFrames level m bytes frames → SpellsFrames plain m bytes frames
 sequence_is_plain level m bytes [] r = r
 sequence_is_plain level m bytes (f ∷ fs) r = (r.0, r.1, r.2, frame_is_plain level r.0 f r.3, r.4, sequence_is_plain level m r.1 fs r.5)
+
+-- one more frame at the end
+pub canon_frames-more : (frames : List Frame) (f : Frame) → canon_frames (frames ++ f ∷ []) ≡ canon_frames frames ++ canon f
+canon_frames-more frames f = flat_map-append canon frames (f ∷ []) ∙ ap (λ (xs : List ℕ). canon_frames frames ++ xs) (append-nil (canon f))
 
 canon_frames_strict : (m : Option ℕ) (bytes : List ℕ) (frames : List Frame) → SpellsFrames plain m bytes frames → SpellsFrames strict m (canon_frames frames) frames
 canon_frames_strict m bytes [] r = refl

@@ -4,12 +4,12 @@ use Rattle.amqp_types.specs.Levels.{tidy}
 use Rattle.amqp_types.specs.Judging.{took, IsBytes}
 use Rattle.amqp_frame.specs.declared.frame_type.AMQPFrameType.{AMQPFrameType}
 use Rattle.amqp_frame.specs.declared.frame_type.AMQPFrameType.TheVariants as kinds
-use Rattle.amqp_frame.specs.Frames.{Frame, Proto}
+use Rattle.amqp_frame.specs.Frames.{Frame, Proto, raw_as}
 use Rattle.amqp_frame.specs.Outer.{outer}
 use Rattle.amqp_frame.specs.Spelling.{framed, proto, byte_of, bytes_as, IsFramed, Spells}
 use Rattle.amqp_frame.specs.Verdicts.{whole_as, is_tidy_as, is_at, judged, judged_frame, verdict}
 use Rattle.amqp_frame.proofs.Encoded.{spells_as, judged_frame-is}
-use Rattle.amqp_frame.proofs.Spelled.{raw_as, outer-method, outer-header, outer-body, outer-beat, verdict-spelled}
+use Rattle.amqp_frame.proofs.Spelled.{outer-method, outer-header, outer-body, outer-beat, verdict-spelled}
 
 outer-bytes : (kind : AMQPFrameType) (channel : ℕ) (payload : List ℕ) → kind ≢ kinds.ProtocolHeader → channel < 2 ^ 16 → length payload < 2 ^ 32 → outer None (bytes_as kind channel payload) ≡ took (raw_as kind channel payload) (length (bytes_as kind channel payload))
 outer-bytes kinds.ProtocolHeader channel payload other on few = absurd (other refl)

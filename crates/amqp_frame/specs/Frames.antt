@@ -26,6 +26,10 @@ pub record Raw : Type 0 where
   pub channel : ℕ
   pub payload : List ℕ
 
+-- a whole frame by its type, channel and payload
+abbrev pub raw_as : AMQPFrameType → ℕ → List ℕ → Raw
+raw_as kind channel payload = record { kind = kind; channel = channel; payload = payload }
+
 -- a content header as contracts see it
 abbrev pub header_of : AMQPContentHeader → ContentHeader
 header_of header = record { class_id = header.class_id; body_size = header.body_size; options = options header.properties }

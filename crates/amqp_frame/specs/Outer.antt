@@ -6,7 +6,7 @@ use Rattle.amqp_frame.specs.declared.frame_type.AMQPFrameType.{AMQPFrameType}
 use Rattle.amqp_frame.specs.declared.frame_type.AMQPFrameType.TheVariants as kinds
 use Rattle.amqp_frame.specs.declared.version.ProtocolVersion.{ProtocolVersion}
 use Rattle.amqp_frame.specs.Frames.{Raw}
-use Rattle.amqp_types.specs.Constants.{protocol_byte, method_byte, header_byte, body_byte, heartbeat_byte, end_byte}
+use Rattle.amqp_types.specs.Constants.{protocol_byte, method_byte, header_byte, body_byte, heartbeat_byte, end_byte, protocol_mark}
 
 -- the type that a frame's first byte names
 abbrev pub type_of : ℕ → Option AMQPFrameType
@@ -40,7 +40,7 @@ version major minor revision = record { major = major; minor = minor; revision =
 -- what follows the `A` of a protocol header: `MQP`, 0, and three version bytes
 unfoldable pub judge_version : Judge ProtocolVersion
 judge_version bytes =
-    if begins_as bytes (77 ∷ 81 ∷ 80 ∷ 0 ∷ []) then
+    if begins_as bytes protocol_mark then
     (if nat_lt (length bytes) 7 then past else took (version (slice_index bytes 4) (slice_index bytes 5) (slice_index bytes 6)) 7)
     else fault bad_protocol_header
 

@@ -7,7 +7,7 @@ use Rattle.amqp_types.specs.ContentHeaders.{SpellsContentHeader}
 use Rattle.amqp_frame.specs.declared.frame_type.AMQPFrameType.{AMQPFrameType}
 use Rattle.amqp_frame.specs.declared.frame_type.AMQPFrameType.TheVariants as kinds
 use Rattle.amqp_frame.specs.Frames.{Frame, Proto, Meth, Head, Body, Beat, BadBeat, Raw}
-use Rattle.amqp_types.specs.Constants.{protocol_byte, method_byte, header_byte, body_byte, heartbeat_byte, end_byte}
+use Rattle.amqp_types.specs.Constants.{protocol_byte, method_byte, header_byte, body_byte, heartbeat_byte, end_byte, protocol_mark}
 
 -- type, channel and length, which come before n bytes of payload
 abbrev pub head : ℕ → ℕ → ℕ → List ℕ
@@ -19,7 +19,7 @@ framed type channel payload = head type channel (length payload) ++ (payload ++ 
 
 -- a protocol header: `AMQP`, 0 and the version
 abbrev pub proto : ℕ → ℕ → ℕ → List ℕ
-proto major minor revision = protocol_byte ∷ 77 ∷ 81 ∷ 80 ∷ 0 ∷ major ∷ minor ∷ revision ∷ []
+proto major minor revision = protocol_byte ∷ (protocol_mark ++ major ∷ minor ∷ revision ∷ [])
 
 -- the first byte of a frame
 abbrev pub byte_of : AMQPFrameType → ℕ
@@ -31,7 +31,7 @@ byte_of kinds.Heartbeat = heartbeat_byte
 
 -- the bytes of a frame of this type with this payload, which of a protocol header is the version
 abbrev pub bytes_as : AMQPFrameType → ℕ → List ℕ → List ℕ
-bytes_as kinds.ProtocolHeader channel payload = protocol_byte ∷ 77 ∷ 81 ∷ 80 ∷ 0 ∷ payload
+bytes_as kinds.ProtocolHeader channel payload = protocol_byte ∷ (protocol_mark ++ payload)
 bytes_as kinds.Method channel payload = framed (byte_of kinds.Method) channel payload
 bytes_as kinds.Header channel payload = framed (byte_of kinds.Header) channel payload
 bytes_as kinds.Body channel payload = framed (byte_of kinds.Body) channel payload

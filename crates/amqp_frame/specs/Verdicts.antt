@@ -14,7 +14,6 @@ use Rattle.amqp_frame.specs.declared.frame_type.AMQPFrameType.TheVariants as kin
 use Rattle.amqp_frame.specs.Frames.{Frame, Proto, Meth, Head, Body, Raw, beat_on}
 use Rattle.amqp_frame.specs.Canonical.{payload_of}
 use Rattle.amqp_frame.specs.Outer.{outer}
-use Rattle.amqp_canonical.specs.Writes.{IsRead}
 
 -- What a payload of n bytes encodes, all of which are there: what is incomplete is short, and bytes after what was taken trail.
 abbrev pub filling : {A : Type 0} → ℕ → Judged A → Result A Fault
@@ -50,7 +49,7 @@ IsPayloadError errors.BadProtocolHeader = ⊥
 IsPayloadError errors.BadFrameEnd = ⊥
 IsPayloadError error = Unit {0}
 
--- what decoding drops of a whole payload stands as it is written
+-- what decoding drops of a whole payload is canonical
 unfoldable pub is_tidy_as : AMQPFrameType → List ℕ → Bool
 is_tidy_as kinds.ProtocolHeader payload = true
 is_tidy_as kinds.Method payload = is_tidy_payload payload

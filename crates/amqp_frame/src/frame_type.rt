@@ -18,6 +18,3 @@ pub enum AMQPFrameType {
     /// 8.
     Heartbeat,
 }
-
-/// The first byte of a protocol header, the letter `A` of `AMQP` (AMQP 0-9-1, section 4.2.2).
-pub const PROTOCOL_BYTE: u8 = 65;

@@ -12,12 +12,11 @@ ghost use Rattle.amqp_types.specs.Constants.{header_byte, heartbeat_byte, method
 
 use crate::content_header::{AMQPContentHeader, put_content_header, size_content_header};
 use crate::frame::AMQPFrame;
-use crate::frame_type::PROTOCOL_BYTE;
 use crate::version::ProtocolVersion;
 use amqp_protocol::{AMQPClass, put_class, size_class};
 use amqp_types::{
     ChannelId, ChunkSize, FRAME_BODY, FRAME_END, FRAME_HEADER, FRAME_HEARTBEAT, FRAME_METHOD,
-    GenError, grow, put_bytes, put_long_uint, put_short_uint,
+    GenError, PROTOCOL_BYTE, grow, put_bytes, put_long_uint, put_short_uint,
 };
 use std::alloc::Global;
 

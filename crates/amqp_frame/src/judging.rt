@@ -9,7 +9,6 @@ ghost use Rattle.amqp_frame.specs.Frames.{raw_of};
 ghost use Rattle.amqp_frame.specs.Judgements.{JudgesAll, JudgesFrame};
 
 use crate::frame_type::AMQPFrameType;
-use crate::parsing::inside;
 use crate::raw_frame::AMQPRawFrame;
 use amqp_canonical::{judge_content_header, judge_payload};
 use amqp_types::{ChannelId, ParserError};
@@ -31,7 +30,7 @@ fn judge_method(payload: &[u8]) -> Result<FrameJudgement, ParserError>
     ensures { JudgesAll judge_payload payload_bytes is_tidy_payload payload.now result }
 {
     match judge_payload(payload) {
-        Err(error) => Err(inside(error)),
+        Err(error) => Err(error.inside()),
         Ok(found) if found.used < payload.len() => Err(ParserError::TrailingBytes),
         Ok(found) => Ok(FrameJudgement {
             canonical: found.canonical,
@@ -45,7 +44,7 @@ fn judge_header(payload: &[u8]) -> Result<FrameJudgement, ParserError>
     ensures { JudgesAll judge_content_header content_header_bytes is_tidy_content_header payload.now result }
 {
     match judge_content_header(payload) {
-        Err(error) => Err(inside(error)),
+        Err(error) => Err(error.inside()),
         Ok(found) if found.used < payload.len() => Err(ParserError::TrailingBytes),
         Ok(found) => Ok(FrameJudgement {
             canonical: found.canonical,

@@ -18,8 +18,8 @@ mod rewriting;
 mod tidiness;
 mod version;
 
-pub use amqp_canonical::Mark;
-pub use amqp_types::{GenError, ParserError};
+pub use amqp_canonical::EntryMark;
+pub use amqp_types::{GenError, PROTOCOL_BYTE, ParserError};
 pub use channel::AMQPChannel;
 pub use content_header::{AMQPContentHeader, parse_content_header};
 pub use equality::{
@@ -27,7 +27,7 @@ pub use equality::{
     equal_layouts, equal_looks, equal_outlines, equal_raw_frames, equal_versions,
 };
 pub use frame::{AMQPFrame, release};
-pub use frame_type::{AMQPFrameType, PROTOCOL_BYTE};
+pub use frame_type::AMQPFrameType;
 pub use generation::{
     frame_head, frame_size, gen_frame, gen_frame_slice, header_bytes, heartbeat_bytes, put_around,
     put_frame, put_framed,

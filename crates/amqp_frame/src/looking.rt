@@ -5,8 +5,10 @@ ghost use Rattle.amqp_frame.specs.declared.frame_type.AMQPFrameType.TheVariants 
 ghost use Rattle.amqp_frame.specs.Looks.{looked, looked_behind, LiesInside, IsBehind, IsPlaced, IsPlacedAt};
 ghost use Rattle.amqp_frame.specs.Outer.{outer, judge_raw, version_at, begins_as};
 
-use crate::frame_type::{AMQPFrameType, PROTOCOL_BYTE};
-use amqp_types::{ChannelId, FRAME_BODY, FRAME_END, FRAME_HEADER, FRAME_HEARTBEAT, FRAME_METHOD};
+use crate::frame_type::AMQPFrameType;
+use amqp_types::{
+    ChannelId, FRAME_BODY, FRAME_END, FRAME_HEADER, FRAME_HEARTBEAT, FRAME_METHOD, PROTOCOL_BYTE,
+};
 
 /// Where the parts of a frame lie, counted from its first byte.
 #[derive(Clone, Copy, Debug, PartialEq, Eq)]

@@ -3,7 +3,6 @@
 ghost use Rattle.std.specs.Prelude.{◌≡◌, ◌≤◌, ◌<◌, ◌+◌, ◌^◌, length, None, Err, IfOk, IfErr};
 ghost use Rattle.amqp_types.specs.Levels.{plain};
 ghost use Rattle.amqp_types.specs.Answers.{Answers, AnswersFully, AnswersWhole};
-ghost use Rattle.amqp_types.specs.ValueJudging.{inside_error};
 ghost use Rattle.amqp_types.specs.ValueLaws.{IsNoLonger as IsSizedWithin};
 ghost use Rattle.amqp_types.specs.Methods.{judge_payload};
 ghost use Rattle.amqp_types.specs.ContentHeaders.{judge_content_header};
@@ -18,14 +17,14 @@ use crate::channel::AMQPChannel;
 use crate::content_header::AMQPContentHeader;
 pub use crate::content_header::parse_content_header;
 use crate::frame::AMQPFrame;
-use crate::frame_type::{AMQPFrameType, PROTOCOL_BYTE};
+use crate::frame_type::AMQPFrameType;
 use crate::looking::{Look, agrees, look_at, look_raw};
 use crate::raw_frame::AMQPRawFrame;
 use crate::version::ProtocolVersion;
 use amqp_protocol::{AMQPClass, parse_class};
 use amqp_types::{
-    ByteArray, ChannelId, FRAME_BODY, FRAME_HEADER, FRAME_HEARTBEAT, FRAME_METHOD, ParserError,
-    parse_id,
+    ByteArray, ChannelId, FRAME_BODY, FRAME_HEADER, FRAME_HEARTBEAT, FRAME_METHOD, PROTOCOL_BYTE,
+    ParserError, parse_id,
 };
 use std::alloc::Global;
 
@@ -117,23 +116,13 @@ fn heartbeat(channel_id: ChannelId) -> AMQPFrame
     }
 }
 
-/// An error of what stands inside a payload whose bytes are all there.
-pub(crate) fn inside(error: ParserError) -> ParserError
-    ensures { result ≡ inside_error error }
-{
-    match error {
-        ParserError::Incomplete => ParserError::ShortPayload,
-        error => error,
-    }
-}
-
 /// Decodes the method that fills a payload.
 #[tactic(auto, using(crate::proofs::Payloads::refused_all))]
 fn parse_method(alloc: Global, payload: &[u8]) -> Result<AMQPClass, ParserError>
     ensures { AnswersWhole method_of result (all_of judge_payload payload.now) }
 {
     match parse_class(alloc, payload) {
-        Err(error) => Err(inside(error)),
+        Err(error) => Err(error.inside()),
         Ok((used, _)) if used < payload.len() => Err(ParserError::TrailingBytes),
         Ok((_, class)) => Ok(class),
     }
@@ -145,7 +134,7 @@ fn parse_header(alloc: Global, payload: &[u8]) -> Result<AMQPContentHeader, Pars
     ensures { AnswersWhole header_of result (all_of judge_content_header payload.now) }
 {
     match parse_content_header(alloc, payload) {
-        Err(error) => Err(inside(error)),
+        Err(error) => Err(error.inside()),
         Ok((used, _)) if used < payload.len() => Err(ParserError::TrailingBytes),
         Ok((_, header)) => Ok(header),
     }

@@ -16,14 +16,14 @@ use crate::frame_type::AMQPFrameType;
 use crate::generation::{heartbeat_bytes, put_around, put_framed};
 use crate::judging::{FrameJudgement, judge_frame};
 use crate::raw_frame::AMQPRawFrame;
-use amqp_canonical::{Mark, put_content_header, put_payload};
+use amqp_canonical::{EntryMark, put_content_header, put_payload};
 use amqp_types::{ChannelId, FRAME_BODY, FRAME_HEADER, FRAME_METHOD, ParserError, put_bytes};
 
 /// Puts the canonical bytes of a method's frame.
 fn put_method(
     buf: &mut [u8],
     at: usize,
-    scratch: &mut [Mark],
+    scratch: &mut [EntryMark],
     channel_id: ChannelId,
     payload: &[u8],
 ) -> usize
@@ -40,7 +40,7 @@ fn put_method(
 fn put_header(
     buf: &mut [u8],
     at: usize,
-    scratch: &mut [Mark],
+    scratch: &mut [EntryMark],
     channel_id: ChannelId,
     payload: &[u8],
 ) -> usize
@@ -58,7 +58,7 @@ fn put_header(
 fn put_judged(
     buf: &mut [u8],
     at: usize,
-    scratch: &mut [Mark],
+    scratch: &mut [EntryMark],
     frame_type: AMQPFrameType,
     channel_id: ChannelId,
     payload: &[u8],
@@ -95,7 +95,7 @@ fn put_judged(
 pub fn put_canonical(
     buf: &mut [u8],
     at: usize,
-    scratch: &mut [Mark],
+    scratch: &mut [EntryMark],
     raw: AMQPRawFrame<'_>,
 ) -> Result<usize, ParserError>
     requires few { length raw.payload.now < 2 ^ 32 }

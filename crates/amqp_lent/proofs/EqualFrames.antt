@@ -1,11 +1,9 @@
 -- Borrowed frames are equal exactly where their parts are the same.
-use Rattle.std.proofs.Common.{◌≡◌, true, true≢false, refl, sym, ap, rules}
+use Rattle.std.proofs.Common.{◌≡◌, true, true≢false, refl, sym, ap}
 use Rattle.std.specs.Bool.{Decides}
 use Rattle.std.specs.Cmp.{unsigned_Decides}
 use Rattle.std.specs.Cmp.Lexicographic.{bytes_decides}
 use Rattle.amqp_values.proofs.Deciding.{both}
-use Rattle.amqp_frame.specs.declared.version.ProtocolVersion.{ProtocolVersion}
-use Rattle.amqp_frame.specs.contracts.version.ProtocolVersionPartialEq.TheImpl as version
 use Rattle.amqp_lent.specs.declared.frame.LentFrame.{LentFrame}
 use Rattle.amqp_lent.specs.declared.frame.LentFrame.TheVariants as frames
 use Rattle.amqp_lent.specs.contracts.frame.LentFramePartialEq.TheImpl as frame

@@ -6,7 +6,7 @@ use Rattle.amqp_types.specs.Settling.{settled}
 use Rattle.amqp_types.specs.Strings.{judge_short_string, judge_long_string}
 use Rattle.amqp_types.specs.Tags.{tag_at}
 use Rattle.amqp_types.specs.Values.{FieldValue, Entry}
-use Rattle.amqp_types.specs.ValueJudging.{whole, read_map, filled, judge_entry, judge_array, judge_table, judge_behind, judge_value, nested}
+use Rattle.amqp_types.specs.ValueJudging.{took_all, read_map, filled, judge_entry, judge_array, judge_table, judge_behind, judge_value, nested}
 use Rattle.amqp_types.specs.declared.errors.ParserError.{ParserError}
 use Rattle.amqp_types.specs.declared.errors.ParserError.TheVariants as errors
 use Rattle.amqp_types.specs.declared.tag.FieldTag.{FieldTag}
@@ -44,11 +44,11 @@ taken_of j x n h = sym (ap (λ k. taken k) h)
 
 -- ---- what arrays and tables hold
 
-whole_filled : {A : Type 0} (r : Result (List A) Fault) (n : ℕ) → IsRead (whole n r) → IsFilled r × (whole n r ≡ took (items_of r) n)
+whole_filled : {A : Type 0} (r : Result (List A) Fault) (n : ℕ) → IsRead (took_all n r) → IsFilled r × (took_all n r ≡ took (items_of r) n)
 whole_filled (Ok xs) n h = (tt, refl)
 whole_filled (Err bad) n h = absurd h
 
-whole_settled : (r : Result (List Entry) Fault) (n : ℕ) → IsRead (whole n (read_map settled r)) → IsFilled r × (whole n (read_map settled r) ≡ took (settled (items_of r)) n)
+whole_settled : (r : Result (List Entry) Fault) (n : ℕ) → IsRead (took_all n (read_map settled r)) → IsFilled r × (took_all n (read_map settled r) ≡ took (settled (items_of r)) n)
 whole_settled (Ok xs) n h = (tt, refl)
 whole_settled (Err bad) n h = absurd h
 
@@ -57,7 +57,7 @@ pub array_taken : (room : ℕ) (bytes content : List ℕ) (n : ℕ) → judge_lo
     → IsFilled (filled (judge_value room) 0 content) × (judge_array (judge_value room) bytes ≡ took (items_of (filled (judge_value room) 0 content)) n)
 unfolding judge_array
 array_taken room bytes content n is h =
-    let all = ap (λ j. j >>= λ c. whole c.1 (filled (judge_value room) 0 c.0)) is in
+    let all = ap (λ j. j >>= λ c. took_all c.1 (filled (judge_value room) 0 c.0)) is in
     let P : Judged (List FieldValue) → Type 0 = λ j. IsRead j in
     let one = whole_filled (filled (judge_value room) 0 content) n (subst P all h) in
     (one.0, all ∙ one.1)
@@ -66,7 +66,7 @@ pub table_taken : (room : ℕ) (bytes content : List ℕ) (n : ℕ) → judge_lo
     → AreEntries room content × (judge_table (judge_value room) bytes ≡ took (settled (entries_in room content)) n)
 unfolding judge_table
 table_taken room bytes content n is h =
-    let all = ap (λ j. j >>= λ c. whole c.1 (read_map settled (filled (judge_entry (judge_value room)) 0 c.0))) is in
+    let all = ap (λ j. j >>= λ c. took_all c.1 (read_map settled (filled (judge_entry (judge_value room)) 0 c.0))) is in
     let P : Judged (List Entry) → Type 0 = λ j. IsRead j in
     let one = whole_settled (filled (judge_entry (judge_value room)) 0 content) n (subst P all h) in
     (one.0, all ∙ one.1)

@@ -4,27 +4,22 @@ use Rattle.amqp_types.specs.Judging.{Fault}
 use Rattle.amqp_types.specs.Answers.{RefusesWhole}
 use Rattle.amqp_types.specs.declared.errors.ParserError.{ParserError}
 use Rattle.amqp_types.specs.declared.errors.ParserError.TheVariants as errors
-use Rattle.amqp_frame.specs.declared.frame_type.AMQPFrameType.{AMQPFrameType}
 use Rattle.amqp_frame.specs.declared.frame_type.AMQPFrameType.TheVariants as kinds
 use Rattle.amqp_frame.specs.declared.version.ProtocolVersion.{ProtocolVersion}
-use Rattle.amqp_frame.specs.Frames.{Frame, Raw}
+use Rattle.amqp_frame.specs.Frames.{Frame, Raw, raw_as}
 use Rattle.amqp_frame.specs.Verdicts.{whole}
 use Rattle.amqp_lent.specs.Payloads.{header_payload, method_payload}
 use Rattle.amqp_lent.specs.declared.frame.LentFrame.{LentFrame}
 use Rattle.amqp_lent.specs.declared.frame.LentFrame.TheVariants as frames
 
--- a frame by its type, channel and payload
-abbrev pub raw : AMQPFrameType → ℕ → List ℕ → Raw
-raw kind channel payload = record { kind = kind; channel = channel; payload = payload }
-
 -- type, channel and payload; the channel is 0 where none is held
 abbrev pub raw_of : LentFrame → Raw
-raw_of (frames.ProtocolHeader version) = raw kinds.ProtocolHeader 0 (version.major ∷ version.minor ∷ version.revision ∷ [])
-raw_of (frames.Method channel class id slots) = raw kinds.Method channel (method_payload class id slots.now)
-raw_of (frames.Header channel class size properties) = raw kinds.Header channel (header_payload class size properties.now)
-raw_of (frames.Body channel content) = raw kinds.Body channel content.now
-raw_of frames.Heartbeat = raw kinds.Heartbeat 0 []
-raw_of (frames.InvalidHeartbeat channel) = raw kinds.Heartbeat channel []
+raw_of (frames.ProtocolHeader version) = raw_as kinds.ProtocolHeader 0 (version.major ∷ version.minor ∷ version.revision ∷ [])
+raw_of (frames.Method channel class id slots) = raw_as kinds.Method channel (method_payload class id slots.now)
+raw_of (frames.Header channel class size properties) = raw_as kinds.Header channel (header_payload class size properties.now)
+raw_of (frames.Body channel content) = raw_as kinds.Body channel content.now
+raw_of frames.Heartbeat = raw_as kinds.Heartbeat 0 []
+raw_of (frames.InvalidHeartbeat channel) = raw_as kinds.Heartbeat channel []
 
 -- the payload of a borrowed frame
 abbrev pub payload_of : LentFrame → List ℕ

@@ -2,9 +2,9 @@
 
 ghost use Rattle.std.specs.Prelude.{◌≡◌, ◌≤◌, [], length, IfOk, IsOk};
 ghost use Rattle.amqp_frame.specs.declared.frame_type.AMQPFrameType.TheVariants as kinds;
-ghost use Rattle.amqp_frame.specs.Frames.{raw_of};
+ghost use Rattle.amqp_frame.specs.Frames.{raw_of, raw_as};
 ghost use Rattle.amqp_frame.specs.Verdicts.{whole, whole_as};
-ghost use Rattle.amqp_lent.specs.Frames.{Lends, payload_of, raw, raw_of as raw_of_lent};
+ghost use Rattle.amqp_lent.specs.Frames.{Lends, payload_of, raw_of as raw_of_lent};
 
 use crate::payload_parts::{header_parts, method_parts};
 use amqp_frame::{AMQPFrameType, AMQPRawFrame, ProtocolVersion, judge_frame};
@@ -59,7 +59,7 @@ pub enum LentFrame<'a> {
 /// The method in a payload.
 fn method_in<'a>(channel: ChannelId, payload: &'a [u8]) -> LentFrame<'a>
     requires { 4 ≤ length payload.now }
-    ensures { raw_of_lent result ≡ raw kinds.Method channel payload.now }
+    ensures { raw_of_lent result ≡ raw_as kinds.Method channel payload.now }
 {
     let (class_id, method_id, slots) = method_parts(payload);
     LentFrame::Method {
@@ -88,7 +88,7 @@ fn header_in<'a>(channel: ChannelId, payload: &'a [u8]) -> LentFrame<'a>
 /// The protocol header with this version.
 fn version_in<'a>(payload: &'a [u8]) -> LentFrame<'a>
     requires { length payload.now ≡ 3 }
-    ensures { raw_of_lent result ≡ raw kinds.ProtocolHeader 0 payload.now }
+    ensures { raw_of_lent result ≡ raw_as kinds.ProtocolHeader 0 payload.now }
 {
     LentFrame::ProtocolHeader(ProtocolVersion {
         major: payload[0],
@@ -99,7 +99,7 @@ fn version_in<'a>(payload: &'a [u8]) -> LentFrame<'a>
 
 /// The heartbeat on a channel.
 fn heartbeat_on<'a>(channel: ChannelId) -> LentFrame<'a>
-    ensures { raw_of_lent result ≡ raw kinds.Heartbeat channel [] }
+    ensures { raw_of_lent result ≡ raw_as kinds.Heartbeat channel [] }
 {
     if channel == 0 {
         LentFrame::Heartbeat

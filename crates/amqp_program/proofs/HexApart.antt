@@ -1,16 +1,15 @@
 -- Lower-case hex is read back, so bytes with equal hex are equal, and so are the frames of two accepted texts with equal output.
-use Rattle.std.proofs.Common.{◌≡◌, ℕ, List, [], ◌∷◌, ◌++◌, Option, Some, sym, ap, subst, ◌∙◌, rules}
+use Rattle.std.proofs.Common.{ℕ, List, [], ◌∷◌, ◌++◌, Some, sym, ap, subst, ◌∙◌}
 use Rattle.std.proofs.lemmas.List.{append_cancel_right}
 use Rattle.std.specs.Io.BufRead.{strip_last}
 use Rattle.hex.specs.Hex.{decode_of, encode_lower}
 use Rattle.hex.proofs.HexLemmas.{decode_of-encode_lower, decode_of-ok, decode_of-same}
 use Rattle.amqp_types.specs.Judging.{IsBytes}
-use Rattle.amqp_types.specs.Levels.{Level, plain, tidy, strict}
+use Rattle.amqp_types.specs.Levels.{Level}
 use Rattle.amqp_frame.specs.Frames.{Frame}
-use Rattle.amqp_frame.specs.Fronts.{front}
 use Rattle.amqp_frame.specs.Spelling.{SpellsFrames}
 use Rattle.amqp_frame.proofs.Sequences.{sequence_front}
-use Rattle.amqp_frame.proofs.Strictness.{sequence_strict_tidy, sequence_tidy_plain, same_frames, sequence_is_plain}
+use Rattle.amqp_frame.proofs.Strictness.{same_frames, sequence_is_plain}
 use Rattle.amqp_stream.specs.Ends.{Supply}
 use Rattle.amqp_stream.specs.Canonicalizing.{canon_of}
 use Rattle.amqp_text.proofs.CanonBytes.{canonical_bytes}

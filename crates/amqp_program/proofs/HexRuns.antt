@@ -21,7 +21,7 @@ use Rattle.amqp_stream.specs.Canonicalizing.{canon_of, AnswersExactly}
 use Rattle.amqp_stream.specs.declared.sink.SinkFault.{SinkFault}
 use Rattle.amqp_stream.proofs.Adding.{Gains-none}
 use Rattle.amqp_stream.proofs.Exactly.{split_of, all_taken}
-use Rattle.amqp_program.specs.declared.text.TextError.TheVariants as errors
+use Rattle.amqp_program.specs.declared.text.InputError.TheVariants as errors
 use Rattle.amqp_program.specs.Texts.{longest, ReadsText}
 use Rattle.amqp_program.specs.Reports.{Printed, printed, report, report_of, report_at, max_payload}
 use Rattle.amqp_program.specs.Runs.{IsWhole, HexEnds, no_memory, read_failed, too_long, write_failed, reported, AcceptsHex, IsValidHex, IsDoneOrNoMemory, RunsHex}

@@ -3,7 +3,7 @@ use Rattle.std.proofs.Common.{◌≡◌, ℕ, ◌+◌, ◌<◌, ◌≤◌, List,
 use Rattle.std.proofs.lemmas.List.{length-append}
 use Rattle.amqp_stream.specs.Ends.{Supply, Takes, Rises, IsEmpty}
 use Rattle.amqp_stream.proofs.Adding.{Takes-then, Rises-later}
-use Rattle.amqp_program.specs.declared.text.TextError.TheVariants as errors
+use Rattle.amqp_program.specs.declared.text.InputError.TheVariants as errors
 use Rattle.amqp_program.specs.Texts.{longest, ReadsText}
 
 -- what was read so far: each read took a byte at least

@@ -5,7 +5,7 @@ use Rattle.std.specs.Io.BufRead.{strip_last}
 use Rattle.amqp_types.specs.Levels.{Level, plain}
 use Rattle.amqp_stream.specs.declared.errors.StreamError.{StreamError}
 use Rattle.amqp_stream.specs.declared.errors.StreamError.TheVariants as errors
-use Rattle.amqp_stream.specs.Errors.{stream_error_status, status_of}
+use Rattle.amqp_stream.specs.Errors.{status_of}
 use Rattle.amqp_stream.specs.Ends.{Supply, Store, Takes, Gains, Rises, IsEmpty}
 use Rattle.amqp_stream.specs.Transcribing.{Transcribes, TranscribesExactly, IsSequence, NeverBegan, IsValid, NoFaults}
 use Rattle.amqp_stream.specs.Canonicalizing.{canon_of, Canonicalizes, AnswersExactly}

@@ -8,6 +8,8 @@ ghost use Rattle.amqp_program.specs.declared.command.Command.TheVariants as comm
 ghost use Rattle.amqp_program.specs.Commands.{after_select, command_named, command_of, command_with, has_padding, count_named, recut_by};
 ghost use Rattle.amqp_program.specs.Reports.{max_payload};
 
+use crate::report::MAX_PAYLOAD;
+
 /// What the words ask for.
 #[derive(Clone, Copy, Debug, PartialEq, Eq)]
 pub enum Command {
@@ -46,8 +48,8 @@ pub enum Command {
 /// The most frames that are made.
 const MAX_FRAMES: u32 = 100_000;
 
-/// The largest size that bodies are cut into, in bytes.
-const MAX_SIZE: u32 = 131_072;
+/// The largest size that bodies are cut into, in bytes: that of the largest payload.
+const MAX_SIZE: u32 = MAX_PAYLOAD;
 
 /// Whether a word begins with a plus, or with a zero and more after it.
 fn is_padded(word: &str) -> bool

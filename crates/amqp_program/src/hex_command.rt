@@ -6,7 +6,7 @@ ghost use Rattle.amqp_stream.specs.Writing.{AsksTidy};
 ghost use Rattle.amqp_program.specs.Runs.{RunsHex};
 
 use crate::report::report_of;
-use crate::text::{TextError, read_text};
+use crate::text::{InputError, read_text};
 use amqp_stream::{Sink, Source, write_all};
 use amqp_types::Profile;
 use std::alloc::Global;
@@ -24,9 +24,9 @@ pub fn run_hex<S: Source, K: Sink>(
 {
     let text = match read_text(alloc, source) {
         Ok(text) => text,
-        Err(TextError::ReadFault) => return 4,
-        Err(TextError::TooLong) => return 6,
-        Err(TextError::NoMemory) => return 3,
+        Err(InputError::ReadFault) => return 4,
+        Err(InputError::TooLong) => return 6,
+        Err(InputError::NoMemory) => return 3,
     };
     let Ok(report) = report_of(alloc, profile, text.as_slice()) else {
         return 3;

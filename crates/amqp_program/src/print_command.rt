@@ -13,7 +13,7 @@ pub const HELP: &str = "feksroum: reads AMQP 0-9-1 frames and writes their canon
   feksroum raw        reads bytes, and writes canonical bytes as it reads; a fault is reported
                       by the status alone
   feksroum tidy       as hex, and takes tidy frames alone: those in which all that reading
-                      drops stands as it is written
+                      drops is canonical
   feksroum lent       as raw, by the codec whose errors have no out of memory: memory is taken
                       before the first read alone
   feksroum dump       reads bytes, and writes a line of text for each frame

@@ -8,7 +8,7 @@ use std::alloc::Global;
 
 /// Why no text was read.
 #[derive(Clone, Copy, Debug, PartialEq, Eq)]
-pub enum TextError {
+pub enum InputError {
     /// A read failed.
     ReadFault,
 
@@ -23,23 +23,23 @@ pub enum TextError {
 pub const LONGEST_TEXT: usize = 16_777_216;
 
 /// Reads all of a source as text.
-pub fn read_text<S: Source>(alloc: Global, source: &mut S) -> Result<Vec<u8>, TextError>
+pub fn read_text<S: Source>(alloc: Global, source: &mut S) -> Result<Vec<u8>, InputError>
     ensures { ReadsText (S.supply source.old) (S.supply source.new) (text_read result) }
 {
     let mut text = Vec::new(alloc);
     let mut chunk = [0u8; 4096];
     loop {
         match source.read(&mut chunk) {
-            Err(_) => return Err(TextError::ReadFault),
+            Err(_) => return Err(InputError::ReadFault),
             Ok(count) => {
                 if count == 0 {
                     return Ok(text);
                 }
                 if count > LONGEST_TEXT - text.len() {
-                    return Err(TextError::TooLong);
+                    return Err(InputError::TooLong);
                 }
                 if text.extend_from_slice(&chunk[..count]).is_err() {
-                    return Err(TextError::NoMemory);
+                    return Err(InputError::NoMemory);
                 }
             }
         }

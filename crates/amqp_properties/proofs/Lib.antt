@@ -1,4 +1,5 @@
 -- The lemmas of amqp_properties.
+pub mod AllProperties
 pub mod Steps
 pub mod Masks
 pub mod Options

@@ -15,7 +15,6 @@ use Rattle.amqp_types.specs.PropertyBytes.{optional_bytes, set_bytes, is_deep_op
 use Rattle.amqp_types.specs.PropertySpelling.{SpellsOptional, SpellsSet}
 use Rattle.amqp_types.specs.PropertyLaws.{gives_one, give_one, SetsAreLawful}
 use Rattle.amqp_types.proofs.Lawful.{mapped_lawful, both_lawful}
-use Rattle.amqp_types.proofs.FormLaws.{is_plain}
 use Rattle.amqp_values.proofs.SlotForms.{forms_lawful, form_gives}
 use Rattle.amqp_values.proofs.SlotLaws.{both_true, either, form_is_plain}
 use Rattle.amqp_properties.proofs.Masks.{set_flags}

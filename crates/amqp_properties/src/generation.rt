@@ -14,7 +14,7 @@ use amqp_values::{Field, GenError, gen_fields, put_fields, size_fields};
 use std::alloc::Global;
 
 /// The mask, and the properties that are set.
-#[tactic(auto, unfolding(amqp_values::specs::Fields::fields_bytes, amqp_values::specs::Fields::fields_size, amqp_values::specs::Fields::any_deep_field, amqp_values::specs::Fields::any_long_field, amqp_types::specs::PropertyBytes::properties_bytes, amqp_types::specs::PropertyBytes::properties_size, amqp_types::specs::Properties::properties, amqp_types::specs::PropertyBytes::set_bytes, amqp_types::specs::PropertyBytes::any_deep_option, amqp_types::specs::PropertyBytes::any_long_option))]
+#[tactic(auto, unfolding(crate::proofs::AllProperties::all_properties))]
 fn properties_fields(properties: &AMQPProperties) -> [Field<'_>; 15]
     ensures { Lists result (properties_size (options properties.now)) (properties_bytes (options properties.now)) }
 {

@@ -1,6 +1,6 @@
 //! How clients log in.
 
-ghost use Rattle.std.specs.Prelude.{◌≡◌, ◌++◌, ◌∷◌, ◌≤◌, ◌<◌, ◌^◌, ◌+◌, length, Err, IfOk, OnOk, codes};
+ghost use Rattle.std.specs.Prelude.{◌≡◌, ◌++◌, ◌∷◌, ◌≤◌, ◌<◌, ◌^◌, ◌+◌, ◌↔◌, length, Err, IfOk, IsTrue, OnOk, codes};
 ghost use Rattle.amqp_protocol.specs.Logins.{login_entry, login_bytes, demo_answer};
 
 use amqp_types::{LongString, MakeError, NoMemory, TAG_LONG_STRING};
@@ -68,19 +68,19 @@ impl Model for Credentials {
 /// The greatest number of bytes in a long string.
 const MOST_BYTES: usize = 4_294_967_295;
 
-/// A long string of these bytes.
-fn long_string(alloc: Global, bytes: &[u8]) -> Result<LongString, MakeError>
-    ensures ok { IfOk result (λ string. string ≡ bytes.now) }
-    ensures fits { OnOk result (length bytes.now < 2 ^ 32) }
-    ensures too_long { result ≡ Err MakeError.TooLong → 2 ^ 32 ≤ length bytes.now }
+/// How many bytes of the entries of AMQPlain are neither user name nor password: two keys with their lengths, two tags
+/// and two lengths.
+const ENTRIES_BYTES: usize = 25;
+
+/// What the response to the challenge of `RabbitCrDemo` says before the password.
+const DEMO_WORDS: &[u8] = b"My password is ";
+
+/// Whether a user name, a password and this many bytes around them fit a long string.
+fn fits(around: usize, username: &[u8], password: &[u8]) -> bool
+    requires { around < 2 ^ 32 }
+    ensures { IsTrue result ↔ around + (length username.now + length password.now) < 2 ^ 32 }
 {
-    if bytes.len() > MOST_BYTES {
-        return Err(MakeError::TooLong);
-    }
-    match LongString::new(alloc, bytes) {
-        Ok(string) => Ok(string),
-        Err(_) => Err(MakeError::NoMemory),
-    }
+    username.len() <= MOST_BYTES - around && password.len() <= MOST_BYTES - around - username.len()
 }
 
 /// Appends an entry whose value is a long string.
@@ -100,31 +100,43 @@ fn append_entry(out: &mut Vec<u8>, key: &str, content: &[u8]) -> Result<(), Allo
 /// User name and password as entries of a table.
 fn amqplain(alloc: Global, username: &[u8], password: &[u8]) -> Result<LongString, MakeError>
     ensures ok { IfOk result (λ string. string ≡ login_entry (codes "LOGIN") username.now ++ login_entry (codes "PASSWORD") password.now) }
-    ensures fits { OnOk result (length (login_entry (codes "LOGIN") username.now ++ login_entry (codes "PASSWORD") password.now) < 2 ^ 32) }
     ensures too_long { result ≡ Err MakeError.TooLong
-        → 2 ^ 32 ≤ length (login_entry (codes "LOGIN") username.now ++ login_entry (codes "PASSWORD") password.now) }
+        ↔ 2 ^ 32 ≤ length (login_entry (codes "LOGIN") username.now ++ login_entry (codes "PASSWORD") password.now) }
 {
-    if username.len() > MOST_BYTES || password.len() > MOST_BYTES {
+    if !fits(ENTRIES_BYTES, username, password) {
         return Err(MakeError::TooLong);
     }
     let mut out = Vec::new(alloc);
     append_entry(&mut out, "LOGIN", username)?;
     append_entry(&mut out, "PASSWORD", password)?;
-    long_string(alloc, &out)
+    Ok(LongString::new(alloc, &out)?)
 }
 
 /// User name and password, each after a zero byte.
 fn plain(alloc: Global, username: &[u8], password: &[u8]) -> Result<LongString, MakeError>
     ensures ok { IfOk result (λ string. string ≡ 0 ∷ (username.now ++ (0 ∷ password.now))) }
-    ensures fits { OnOk result (length (0 ∷ (username.now ++ (0 ∷ password.now))) < 2 ^ 32) }
-    ensures too_long { result ≡ Err MakeError.TooLong → 2 ^ 32 ≤ length (0 ∷ (username.now ++ (0 ∷ password.now))) }
+    ensures too_long { result ≡ Err MakeError.TooLong ↔ 2 ^ 32 ≤ length (0 ∷ (username.now ++ (0 ∷ password.now))) }
 {
+    if !fits(2, username, password) {
+        return Err(MakeError::TooLong);
+    }
     let mut out = Vec::new(alloc);
     out.extend_from_slice(&[0])?;
     out.extend_from_slice(username)?;
     out.extend_from_slice(&[0])?;
     out.extend_from_slice(password)?;
-    long_string(alloc, &out)
+    Ok(LongString::new(alloc, &out)?)
+}
+
+/// The user name alone.
+fn name_alone(alloc: Global, username: &[u8]) -> Result<LongString, MakeError>
+    ensures ok { IfOk result (λ string. string ≡ username.now) }
+    ensures too_long { result ≡ Err MakeError.TooLong ↔ 2 ^ 32 ≤ length username.now }
+{
+    if !fits(0, username, &[]) {
+        return Err(MakeError::TooLong);
+    }
+    Ok(LongString::new(alloc, username)?)
 }
 
 impl Credentials {
@@ -182,8 +194,7 @@ impl Credentials {
         mechanism: SASLMechanism,
     ) -> Result<LongString, MakeError>
         ensures ok { IfOk result (λ string. string ≡ login_bytes mechanism self.now) }
-        ensures fits { OnOk result (length (login_bytes mechanism self.now) < 2 ^ 32) }
-        ensures too_long { result ≡ Err MakeError.TooLong → 2 ^ 32 ≤ length (login_bytes mechanism self.now) }
+        ensures too_long { result ≡ Err MakeError.TooLong ↔ 2 ^ 32 ≤ length (login_bytes mechanism self.now) }
     {
         let username = self.username.as_bytes();
         let password = self.password.as_bytes();
@@ -191,7 +202,7 @@ impl Credentials {
             SASLMechanism::AMQPlain => amqplain(alloc, username, password),
             SASLMechanism::Anonymous | SASLMechanism::External => Ok(LongString::empty(alloc)),
             SASLMechanism::Plain => plain(alloc, username, password),
-            SASLMechanism::RabbitCrDemo => long_string(alloc, username),
+            SASLMechanism::RabbitCrDemo => name_alone(alloc, username),
         }
     }
 
@@ -205,12 +216,15 @@ impl Credentials {
     /// The response of the client to that challenge; `TooLong` where it has 2^32 bytes or more.
     pub fn rabbit_cr_demo_answer(&self, alloc: Global) -> Result<LongString, MakeError>
         ensures ok { IfOk result (λ string. string ≡ demo_answer self.now) }
-        ensures fits { OnOk result (length (demo_answer self.now) < 2 ^ 32) }
-        ensures too_long { result ≡ Err MakeError.TooLong → 2 ^ 32 ≤ length (demo_answer self.now) }
+        ensures too_long { result ≡ Err MakeError.TooLong ↔ 2 ^ 32 ≤ length (demo_answer self.now) }
     {
+        let password = self.password.as_bytes();
+        if !fits(DEMO_WORDS.len(), &[], password) {
+            return Err(MakeError::TooLong);
+        }
         let mut answer = Vec::new(alloc);
-        answer.extend_from_slice(b"My password is ")?;
-        answer.extend_from_slice(self.password.as_bytes())?;
-        long_string(alloc, &answer)
+        answer.extend_from_slice(DEMO_WORDS)?;
+        answer.extend_from_slice(password)?;
+        Ok(LongString::new(alloc, &answer)?)
     }
 }

@@ -1,6 +1,7 @@
 //! Laws of error codes, login strings, methods and constants, each the contract of a function that does next to nothing.
 
-ghost use Rattle.std.specs.Prelude.{◌≡◌, ◌∷◌, [], codes};
+ghost use Rattle.std.specs.Prelude.{◌≡◌, ◌∷◌, ◌++◌, [], map, codes};
+ghost use Rattle.amqp_types.specs.Tags.{tag_byte, tags, short_int_read_byte, long_long_int_read_byte};
 ghost use Rattle.amqp_values.specs.HeldMethods.{IsHeldMethod};
 ghost use Rattle.amqp_protocol.specs.Classes.{method_of};
 ghost use Rattle.amqp_protocol.specs.ProtocolLaws.{CodesNameErrors, PlainLoginsNameCredentials, PayloadsBeginWithIds};
@@ -15,7 +16,13 @@ use amqp_basic::basic_method_held;
 use amqp_channel::{channel_method_held, confirm_method_held, tx_method_held};
 use amqp_connection::{access_method_held, connection_method_held};
 use amqp_topology::{exchange_method_held, queue_method_held};
-use amqp_types::{INNER_DEPTH, LongUInt, MAX_DEPTH, ShortShortUInt};
+use amqp_types::{
+    INNER_DEPTH, LongUInt, MAX_DEPTH, PROTOCOL_BYTE, ShortShortUInt, TAG_BOOLEAN, TAG_BYTE_ARRAY,
+    TAG_DECIMAL_VALUE, TAG_DOUBLE, TAG_FIELD_ARRAY, TAG_FIELD_TABLE, TAG_FLOAT, TAG_LONG_INT,
+    TAG_LONG_LONG_INT, TAG_LONG_LONG_INT_READ, TAG_LONG_STRING, TAG_LONG_UINT, TAG_SHORT_INT,
+    TAG_SHORT_INT_READ, TAG_SHORT_SHORT_INT, TAG_SHORT_SHORT_UINT, TAG_SHORT_UINT, TAG_TIMESTAMP,
+    TAG_VOID,
+};
 
 /// Codes and errors name each other.
 pub fn codes_name_errors()
@@ -49,16 +56,45 @@ pub fn class_held(class: &AMQPClass)
     }
 }
 
-/// The first bytes of method, content header, body and heartbeat frames, and the last byte of each frame.
-pub fn frame_numbers() -> [ShortShortUInt; 5]
-    ensures { result ≡ 1 ∷ 2 ∷ 3 ∷ 8 ∷ 206 ∷ [] }
+/// The first bytes of protocol headers, and of method, content header, body and heartbeat frames, and the last byte of
+/// these.
+pub fn frame_numbers() -> [ShortShortUInt; 6]
+    ensures { result ≡ 65 ∷ 1 ∷ 2 ∷ 3 ∷ 8 ∷ 206 ∷ [] }
 {
     [
+        PROTOCOL_BYTE,
         FRAME_METHOD,
         FRAME_HEADER,
         FRAME_BODY,
         FRAME_HEARTBEAT,
         FRAME_END,
+    ]
+}
+
+/// The tag bytes in the order of `FieldTag`, and the two that are decoded alone.
+pub fn tag_numbers() -> [ShortShortUInt; 19]
+    ensures { result ≡ map tag_byte tags ++ (short_int_read_byte ∷ long_long_int_read_byte ∷ []) }
+{
+    [
+        TAG_BOOLEAN,
+        TAG_SHORT_SHORT_INT,
+        TAG_SHORT_SHORT_UINT,
+        TAG_SHORT_INT,
+        TAG_SHORT_UINT,
+        TAG_LONG_INT,
+        TAG_LONG_UINT,
+        TAG_LONG_LONG_INT,
+        TAG_FLOAT,
+        TAG_DOUBLE,
+        TAG_DECIMAL_VALUE,
+        TAG_LONG_STRING,
+        TAG_FIELD_ARRAY,
+        TAG_TIMESTAMP,
+        TAG_FIELD_TABLE,
+        TAG_BYTE_ARRAY,
+        TAG_VOID,
+        TAG_SHORT_INT_READ,
+        TAG_LONG_LONG_INT_READ,
     ]
 }
 

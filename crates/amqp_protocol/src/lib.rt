@@ -23,7 +23,7 @@ pub use equality_laws::{
 pub use errors::{AMQPError, AMQPErrorKind, AMQPHardError, AMQPSoftError};
 pub use laws::{
     class_held, codes_name_errors, frame_numbers, nesting_numbers, payloads_begin_with_ids,
-    plain_logins_name_credentials, protocol_name, protocol_numbers, reply_numbers,
+    plain_logins_name_credentials, protocol_name, protocol_numbers, reply_numbers, tag_numbers,
 };
 
 /// The properties of a message, which its content header carries (AMQP 0-9-1, section 4.2.6.1).

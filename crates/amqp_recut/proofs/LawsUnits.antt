@@ -12,7 +12,7 @@ use Rattle.amqp_content.specs.Answers.{Answer, Ends, bodies_within, begun_answer
 use Rattle.amqp_content.specs.Stands.{State, At}
 use Rattle.amqp_content.specs.Steps.{step, run_state}
 use Rattle.amqp_content.specs.Messages.{Content, method_in, header_in, bytes_of, joined, content_with}
-use Rattle.amqp_content.specs.Outcomes.{OutcomeView, passed, held, done, wrong, answer_outcome}
+use Rattle.amqp_content.specs.Outcomes.{answer_outcome}
 use Rattle.amqp_content.specs.Splits.{pieces}
 use Rattle.amqp_content.specs.Laws.{done_in}
 use Rattle.amqp_content.proofs.Pieces.{ArePieces, pieces_are}

@@ -9,6 +9,7 @@ use Rattle.amqp_types.specs.Levels.{plain}
 use Rattle.amqp_frame.specs.Frames.{Frame, Proto, Meth, Head, Body, Beat, BadBeat, channel_id_of}
 use Rattle.amqp_frame.specs.Outlines.{outline_of}
 use Rattle.amqp_frame.specs.Spelling.{SpellsFrames, Spells}
+use Rattle.amqp_types.specs.ContentHeaders.{ContentHeader}
 use Rattle.amqp_frame.proofs.Outlined.{header_front}
 use Rattle.amqp_frame.proofs.Sequences.{front-is_sequence}
 use Rattle.amqp_content.specs.declared.fault.ContentFault.{ContentFault}
@@ -21,10 +22,10 @@ use Rattle.amqp_stream.specs.declared.errors.StreamError.{StreamError}
 use Rattle.amqp_stream.specs.declared.errors.StreamError.TheVariants as streams
 use Rattle.amqp_stream.specs.declared.errors.RunError.{RunError}
 use Rattle.amqp_stream.specs.declared.errors.RunError.TheVariants as runs_end
-use Rattle.amqp_stream.specs.Errors.{error_for, Cause, faulty, cut_short, turns_spent, read_failed, write_failed, out_of_memory, cause_of}
+use Rattle.amqp_stream.specs.Errors.{Cause, faulty, cut_short, turns_spent, read_failed, write_failed, out_of_memory, cause_of}
 use Rattle.amqp_stream.specs.Ends.{Supply, Store}
 use Rattle.amqp_stream.specs.Writing.{IsPrefix}
-use Rattle.amqp_stream.specs.Transcribing.{answer_to, IsCausedBy, UnlessStopped, IsWrittenUnless}
+use Rattle.amqp_stream.specs.Transcribing.{answer_to}
 use Rattle.amqp_stream.specs.Streaming.{Ending, finished, refused_by, stopped_by, ending_of, text_of, refused_of, state_of, AtWanting, HasWrittenBy, HasCauseBy, Streams, RunNeverBegan, answer_at_end, answer_of, IsExactRun, UnlessStoppedBy, StreamsExactly, IsWelcome, IsDoneOrWanting}
 use Rattle.amqp_recut.specs.declared.errors.RecutError.{RecutError}
 use Rattle.amqp_recut.specs.declared.errors.RecutError.TheVariants as errors
@@ -39,7 +40,7 @@ use Rattle.amqp_recut.specs.Recutting.{frames_at, recut_bytes, AtContent, IsAllI
 use Rattle.amqp_recut.proofs.Holding.{none_held, some_held}
 use Rattle.amqp_recut.proofs.Channels.{held_of_state}
 use Rattle.amqp_recut.proofs.Running.{StandsFor, Ends, all, fault, Ran, runs, longest_ran, none_lost, lost_later}
-use Rattle.amqp_stream.proofs.Transcribing.{error_by, error_by-cause, unless, caused_by}
+use Rattle.amqp_stream.proofs.Transcribing.{error_by, error_by-cause, unless, caused_by, written_unless}
 
 -- ---- results
 
@@ -177,17 +178,9 @@ never_open front rest why (fault next more bad is e lost last news) h = bad_is_o
 
 -- ---- a run
 
-written_by : (s : Recutter) (m : ℕ) (taken written text_is : List ℕ) (cause : Cause) → HasWrittenBy recutting s m taken written (stopped_by cause) → text_of recutting s m taken ≡ text_is → IsWrittenUnless text_is written cause
-written_by s m taken written text_is write_failed h e = (h.0, h.1 ∙ e)
-written_by s m taken written text_is out_of_memory h e = (h.0, h.1 ∙ e)
-written_by s m taken written text_is (faulty bad) h e = h.text_is ∙ e
-written_by s m taken written text_is cut_short h e = h.text_is ∙ e
-written_by s m taken written text_is turns_spent h e = h.text_is ∙ e
-written_by s m taken written text_is read_failed h e = h.text_is ∙ e
-
 writes_recut : (s : Recutter) (m : ℕ) (taken written text_is : List ℕ) (r : Result (Unit {0}) (RunError Refusal)) → HasWrittenBy recutting s m taken written (ending_of r) → text_of recutting s m taken ≡ text_is → HasWrittenRecut text_is written (as_recut r)
 writes_recut s m taken written text_is (Ok done) h e = h.text_is ∙ e
-writes_recut s m taken written text_is (Err (runs_end.Stream error)) h e = written_by s m taken written text_is (cause_of error) h e
+writes_recut s m taken written text_is (Err (runs_end.Stream error)) h e = written_unless recutting s m taken text_is written (cause_of error) e h
 writes_recut s m taken written text_is (Err (runs_end.Refused (refusals.BadContent bad))) h e = h ∙ e
 writes_recut s m taken written text_is (Err (runs_end.Refused refusals.OpenContent)) h e = h ∙ e
 
@@ -283,8 +276,8 @@ Fits frame = size_in (outline_of frame) ≤ greatest
 spelled_fits : (bytes : List ℕ) (frame : Frame) → Spells plain bytes frame → Fits frame
 unfolding Fits
 spelled_fits bytes (Head channel header) h =
-    let front = header_front h.payload header h.spelled in
-    omega (arith, front.size_fits, front.size_is)
+    let front = header_front h.spelled in
+    omega (arith, front.size_fits, ap (λ (x : ContentHeader). x.body_size) front.header_is)
 spelled_fits bytes (Proto major minor revision) h = omega arith
 spelled_fits bytes (Meth channel m) h = omega arith
 spelled_fits bytes (Body channel content) h = omega arith

@@ -8,12 +8,9 @@ ghost use Rattle.amqp_recut.specs.Stepping.{frames_given};
 ghost use Rattle.amqp_types.specs.Constants.{body_byte};
 
 use amqp_frame::frame_head;
-use amqp_stream::{OutputBuffer, Sink, SinkFault, flush, gather};
+use amqp_stream::{OutputBuffer, SMALL_BODY, Sink, SinkFault, flush, gather};
 use amqp_types::{ChannelId, FRAME_BODY, FRAME_END, NoMemory};
 use std::alloc::Global;
-
-/// Pieces up to this size are pending with the small frames.
-const SMALL_PIECE: usize = 4096;
 
 /// Puts a body frame whose payload is two parts after the pending bytes.
 #[inline(always)]
@@ -43,7 +40,7 @@ fn write_piece<K: Sink>(
     ensures gathers { Gathers (K.store sink.old) (K.store sink.new) out.old.bytes out.new.bytes (framed body_byte channel_id (front.now ++ back.now)) result }
 {
     let len = front.len() + back.len();
-    if len <= SMALL_PIECE && len + 8 <= out.room() {
+    if len <= SMALL_BODY && len + 8 <= out.room() {
         push_piece(out, channel_id, front, back);
         return Ok(());
     }

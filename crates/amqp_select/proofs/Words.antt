@@ -14,7 +14,8 @@ use Rattle.amqp_select.specs.declared.rule.Span.{Span}
 use Rattle.amqp_select.specs.declared.rule.Span.TheVariants as spans
 use Rattle.amqp_select.specs.declared.rule.Rule.{Rule}
 use Rattle.amqp_select.specs.Rules.{IsNumber, IsSpanOfNumbers, IsRule, verb_text, span_text, type_text, part_text, spelled}
-use Rattle.amqp_select.specs.Reading.{Read, ◌>>=◌, after, or_else, read_verb, read_count, range_to, span_from, read_span, read_kind, part_at, read_part, at_end, read_rule}
+use Rattle.amqp_types.specs.Reading.{Reading, ◌>>=◌}
+use Rattle.amqp_select.specs.Reading.{after, or_else, read_verb, read_count, range_to, span_from, read_span, read_kind, part_at, read_part, at_end, read_rule}
 use Rattle.amqp_select.proofs.Numerals.{BeginsNoDigit, Front, number_taken, number_front}
 
 -- ---- texts in front
@@ -49,7 +50,7 @@ kind_taken kinds.Body rest = refl
 kind_taken kinds.Heartbeat rest = refl
 
 -- one of several: this one, by its text, or one of the others
-one_of : {A : Type 0} (text_of : A → List ℕ) (bytes : List ℕ) (a : A) (others : Read A) (found : A × List ℕ) → ((one : Option (List ℕ)) → after (text_of a) bytes ≡ one → or_else one a others ≡ Some found → (others ≡ Some found → Front text_of Always bytes found) → Front text_of Always bytes found)
+one_of : {A : Type 0} (text_of : A → List ℕ) (bytes : List ℕ) (a : A) (others : Reading A) (found : A × List ℕ) → ((one : Option (List ℕ)) → after (text_of a) bytes ≡ one → or_else one a others ≡ Some found → (others ≡ Some found → Front text_of Always bytes found) → Front text_of Always bytes found)
 one_of text_of bytes a others found None is e rest = rest e
 one_of text_of bytes a others found (Some more) is e rest =
     let same : (a, more) ≡ found = cc in
@@ -115,7 +116,7 @@ ordered false span rest found e = absurd cc
 at_most : (first last : ℕ) → nat_le first last ≡ true → first ≤ last
 at_most first last e = grind (arith, nat_tests)
 
-range_front : (bytes rest : List ℕ) (first : ℕ) (last : Read ℕ) (found : Span × List ℕ) → read_count rest ≡ last → bytes ≡ decimal first ++ (codes "-" ++ rest) → range_to first last ≡ Some found → Front span_text IsSpanOfNumbers bytes found
+range_front : (bytes rest : List ℕ) (first : ℕ) (last : Reading ℕ) (found : Span × List ℕ) → read_count rest ≡ last → bytes ≡ decimal first ++ (codes "-" ++ rest) → range_to first last ≡ Some found → Front span_text IsSpanOfNumbers bytes found
 range_front bytes rest first None found is front e = absurd cc
 range_front bytes rest first (Some last) found is front e =
     let second = number_front rest last is in
@@ -147,16 +148,16 @@ record IsAfter (name rest : List ℕ) : Type 0 where
   none : after name rest ≡ None
   tail : IsTail rest
 
-part_taken : {A : Type 0} (name : List ℕ) (text : A → List ℕ) (Is : A → Type 0) (read : List ℕ → Read A) (part : Option A) (rest : List ℕ) → ((a : A) → Is a → read (text a ++ rest) ≡ Some (a, rest)) → after name rest ≡ None → Has Is part → read_part name read (part_text name text part ++ rest) ≡ Some (part, rest)
+part_taken : {A : Type 0} (name : List ℕ) (text : A → List ℕ) (Is : A → Type 0) (read : List ℕ → Reading A) (part : Option A) (rest : List ℕ) → ((a : A) → Is a → read (text a ++ rest) ≡ Some (a, rest)) → after name rest ≡ None → Has Is part → read_part name read (part_text name text part ++ rest) ≡ Some (part, rest)
 part_taken name text Is read None rest taken none h = rw none refl
 part_taken name text Is read (Some a) rest taken none h =
     rw (append_assoc name (text a) rest) (rw (after-append name (text a ++ rest)) (rw (taken a h) refl))
 
-got : {A : Type 0} (o : Read A) (found : Option A × List ℕ) → option_map (λ (part : A × List ℕ). (Some part.0, part.1)) o ≡ Some found → Bound o (λ part. Some (Some part.0, part.1)) found
+got : {A : Type 0} (o : Reading A) (found : Option A × List ℕ) → option_map (λ (part : A × List ℕ). (Some part.0, part.1)) o ≡ Some found → Bound o (λ part. Some (Some part.0, part.1)) found
 got None found e = absurd cc
 got (Some part) found e = record { a = part; is = refl; gives = e }
 
-part_end : {A : Type 0} (name : List ℕ) (text : A → List ℕ) (Is : A → Type 0) (read : List ℕ → Read A) (bytes : List ℕ) (named : Option (List ℕ)) (found : Option A × List ℕ) → ((bytes : List ℕ) (found : A × List ℕ) → read bytes ≡ Some found → Front text Is bytes found) → after name bytes ≡ named → part_at read bytes named ≡ Some found → Front (part_text name text) (Has Is) bytes found
+part_end : {A : Type 0} (name : List ℕ) (text : A → List ℕ) (Is : A → Type 0) (read : List ℕ → Reading A) (bytes : List ℕ) (named : Option (List ℕ)) (found : Option A × List ℕ) → ((bytes : List ℕ) (found : A × List ℕ) → read bytes ≡ Some found → Front text Is bytes found) → after name bytes ≡ named → part_at read bytes named ≡ Some found → Front (part_text name text) (Has Is) bytes found
 part_end name text Is read bytes None found front is e =
     let same : (None, bytes) ≡ found = cc in
     subst (Front (part_text name text) (Has Is) bytes) same (record { is = refl; valid = tt })
@@ -169,7 +170,7 @@ part_end name text Is read bytes (Some rest) found front is e =
       valid = part.valid;
     })
 
-part_front : {A : Type 0} (name : List ℕ) (text : A → List ℕ) (Is : A → Type 0) (read : List ℕ → Read A) (bytes : List ℕ) (found : Option A × List ℕ) → ((bytes : List ℕ) (found : A × List ℕ) → read bytes ≡ Some found → Front text Is bytes found) → read_part name read bytes ≡ Some found → Front (part_text name text) (Has Is) bytes found
+part_front : {A : Type 0} (name : List ℕ) (text : A → List ℕ) (Is : A → Type 0) (read : List ℕ → Reading A) (bytes : List ℕ) (found : Option A × List ℕ) → ((bytes : List ℕ) (found : A × List ℕ) → read bytes ≡ Some found → Front text Is bytes found) → read_part name read bytes ≡ Some found → Front (part_text name text) (Has Is) bytes found
 part_front name text Is read bytes found front e = part_end name text Is read bytes (after name bytes) found front refl e
 
 -- ---- what comes after each part

@@ -6,38 +6,28 @@ use Rattle.std.specs.List.{prefix_len}
 use Rattle.std.specs.Option.{option_map}
 use Rattle.std.specs.Str.{bytes_eq}
 use Rattle.std.specs.Str.Parse.{digits_value}
+use Rattle.amqp_types.specs.Reading.{Reading, ◌>>=◌}
 use Rattle.amqp_frame.specs.declared.frame_type.AMQPFrameType.{AMQPFrameType}
 use Rattle.amqp_frame.specs.declared.frame_type.AMQPFrameType.TheVariants as kinds
 use Rattle.amqp_select.specs.declared.rule.Span.{Span}
 use Rattle.amqp_select.specs.declared.rule.Span.TheVariants as spans
 use Rattle.amqp_select.specs.declared.rule.Rule.{Rule}
 
--- what was read, and the bytes after it
-abbrev pub Read : Type 0 → Type 0
-Read A = Option (A × List ℕ)
-
 -- a call gives what is read; the bytes after it are borrowed
-abbrev pub Gives : {A R : Type 0} → (R → List ℕ) → Option (A × R) → Read A → Type 0
+abbrev pub Gives : {A R : Type 0} → (R → List ℕ) → Option (A × R) → Reading A → Type 0
 Gives bytes_of result read = option_map (λ found. (found.0, bytes_of found.1)) result ≡ read
-
--- reading on, from the left
-infixl 10 ◌>>=◌
--- what is read next, by what was read; None where nothing was
-abbrev pub ◌>>=◌ : {A B : Type 0} → Option A → (A → Option B) → Option B
-None >>= f = None
-(Some a) >>= f = f a
 
 -- the bytes after this text, where it stands in front
 abbrev pub after : List ℕ → List ℕ → Option (List ℕ)
 after text bytes = if bytes_eq (take (length text) bytes) text then Some (drop (length text) bytes) else None
 
 -- one of several things, each by its text
-abbrev pub or_else : {A : Type 0} → Option (List ℕ) → A → Read A → Read A
+abbrev pub or_else : {A : Type 0} → Option (List ℕ) → A → Reading A → Reading A
 or_else None a others = others
 or_else (Some rest) a others = Some (a, rest)
 
 -- whether to keep or to drop
-abbrev pub read_verb : List ℕ → Read Bool
+abbrev pub read_verb : List ℕ → Reading Bool
 read_verb bytes = or_else (after (codes "keep") bytes) true (or_else (after (codes "drop") bytes) false None)
 
 -- the number up to 65535 that is printed so, in decimal digits without a leading zero
@@ -55,27 +45,27 @@ abbrev pub digits_in_front : List ℕ → ℕ
 digits_in_front bytes = prefix_len is_ascii_digit bytes
 
 -- the number that the digits in front name
-abbrev pub read_count : List ℕ → Read ℕ
+abbrev pub read_count : List ℕ → Reading ℕ
 read_count bytes = option_map (λ n. (n, drop (digits_in_front bytes) bytes)) (number_named (take (digits_in_front bytes) bytes))
 
 -- a range up to the number that was read, which is no less than its first
-abbrev pub range_to : ℕ → Read ℕ → Read Span
+abbrev pub range_to : ℕ → Reading ℕ → Reading Span
 range_to first None = None
 range_to first (Some last) = if nat_le first last.0 then Some (spans.Range first last.0, last.1) else None
 
 -- a channel alone, or the first of a range where a dash follows
-abbrev pub span_from : ℕ × List ℕ → Option (List ℕ) → Read Span
+abbrev pub span_from : ℕ × List ℕ → Option (List ℕ) → Reading Span
 span_from first None = Some (spans.One first.0, first.1)
 span_from first (Some rest) = range_to first.0 (read_count rest)
 
 -- a channel or a range of channels
-abbrev pub read_span : List ℕ → Read Span
+abbrev pub read_span : List ℕ → Reading Span
 read_span bytes = do
   first ← read_count bytes
   span_from first (after (codes "-") first.1)
 
 -- the kind of a frame
-abbrev pub read_kind : List ℕ → Read AMQPFrameType
+abbrev pub read_kind : List ℕ → Reading AMQPFrameType
 read_kind bytes =
     or_else (after (codes "proto") bytes) kinds.ProtocolHeader
     (or_else (after (codes "method") bytes) kinds.Method
@@ -84,12 +74,12 @@ read_kind bytes =
     (or_else (after (codes "beat") bytes) kinds.Heartbeat None))))
 
 -- a part, where bytes are left for it
-abbrev pub part_at : {A : Type 0} → (List ℕ → Read A) → List ℕ → Option (List ℕ) → Read (Option A)
+abbrev pub part_at : {A : Type 0} → (List ℕ → Reading A) → List ℕ → Option (List ℕ) → Reading (Option A)
 part_at read bytes None = Some (None, bytes)
 part_at read bytes (Some rest) = option_map (λ part. (Some part.0, part.1)) (read rest)
 
 -- a part, where its name stands in front
-abbrev pub read_part : {A : Type 0} → List ℕ → (List ℕ → Read A) → List ℕ → Read (Option A)
+abbrev pub read_part : {A : Type 0} → List ℕ → (List ℕ → Reading A) → List ℕ → Reading (Option A)
 read_part name read bytes = part_at read bytes (after name bytes)
 
 -- the rule, where nothing comes after it

@@ -10,7 +10,7 @@ use Rattle.amqp_types.specs.Numbers.{bytes2}
 use Rattle.amqp_types.specs.Flags.{judge_flags}
 use Rattle.amqp_types.specs.Strings.{judge_short_string, judge_long_string}
 use Rattle.amqp_types.specs.Values.{FieldValue, Entry, boolean_value}
-use Rattle.amqp_types.specs.ValueJudging.{read_map, next_item, filled, whole, judge_entry, judge_table, judge_behind, judge_tagged, nested, judge_value, judge_field_table}
+use Rattle.amqp_types.specs.ValueJudging.{read_map, next_item, filled, took_all, judge_entry, judge_table, judge_behind, judge_tagged, nested, judge_value, judge_field_table}
 use Rattle.amqp_types.specs.Settling.{settled}
 use Rattle.amqp_types.specs.Slots.{Item, number_item, flag_item, text_item, entries_item, number_form, flags_form, short_string_form, table_form, Slot, kept_slot, reserved_slot}
 use Rattle.amqp_types.specs.SlotJudging.{judge_form, judge_dropped, judge_slot, judge_slots}
@@ -89,7 +89,7 @@ table_bytes = 0 ∷ 0 ∷ 0 ∷ 8 ∷ entries
 
 table_judged : judge_field_table table_bytes ≡ took (entry true ∷ []) 12
 unfolding judge_table judge_long_string
-table_judged = ap (λ r. whole 12 (read_map settled r)) entries_judged
+table_judged = ap (λ r. took_all 12 (read_map settled r)) entries_judged
 
 name_judged : judge_short_string (0 ∷ 255 ∷ table_bytes) ≡ took [] 1
 unfolding judge_short_string

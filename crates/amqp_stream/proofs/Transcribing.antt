@@ -16,9 +16,9 @@ use Rattle.amqp_stream.specs.Writing.{IsPrefix, Gathered}
 use Rattle.amqp_stream.proofs.Adding.{Gains-then}
 use Rattle.amqp_stream.specs.Steps.{Manner, text, refused}
 use Rattle.amqp_stream.specs.Manners.{mapping, canonical_at}
-use Rattle.amqp_stream.specs.Transcribing.{transcript, answer_to, IsCausedBy, HasCause, IsWrittenUpTo, HasWritten, Transcribes, NeverBegan, UnlessStopped, IsExactly, IsAnswerTo, TranscribesExactly, IsOutOfMemory}
+use Rattle.amqp_stream.specs.Transcribing.{transcript, answer_to, IsCausedBy, HasCause, IsWrittenUpTo, IsWrittenUnless, HasWritten, Transcribes, NeverBegan, UnlessStopped, IsExactly, IsAnswerTo, TranscribesExactly, IsOutOfMemory}
 use Rattle.amqp_stream.specs.Canonicalizing.{Canonicalizes}
-use Rattle.amqp_stream.specs.Streaming.{Ending, finished, refused_by, stopped_by, ending_of, as_run, text_of, state_of, Streams, RunNeverBegan, answer_at_end, answer_of, IsExactRun, UnlessStoppedBy, StreamsExactly, IsWelcome, IsDoneOrWanting}
+use Rattle.amqp_stream.specs.Streaming.{Ending, finished, refused_by, stopped_by, ending_of, as_run, text_of, state_of, HasWrittenBy, Streams, RunNeverBegan, answer_at_end, answer_of, IsExactRun, UnlessStoppedBy, StreamsExactly, IsWelcome, IsDoneOrWanting}
 
 -- From this state on the writer has this text for frames, refuses none, takes no memory, and may end anywhere.
 pub record Transcriber {S E : Type 0} (w : Manner S E) (s : S) (text_for : List Frame → List ℕ) : Type 0 where
@@ -34,6 +34,15 @@ early : {S E : Type 0} {w : Manner S E} {s t : S} {m turns : ℕ} {a b : Supply}
 early write_failed none run = (run.writes, run.cause)
 early out_of_memory none run = absurd (none run.cause.wanting.raw.kind run.cause.wanting.such)
 early cause none run = (run.writes.text_is, run.cause)
+
+-- what a run has written of its text, where memory may end it too
+pub written_unless : {S E : Type 0} (w : Manner S E) (s : S) (m : ℕ) (taken text_is written : List ℕ) (cause : Cause) → text_of w s m taken ≡ text_is → HasWrittenBy w s m taken written (stopped_by cause) → IsWrittenUnless text_is written cause
+written_unless w s m taken text_is written write_failed e h = (h.0, h.1 ∙ e)
+written_unless w s m taken text_is written out_of_memory e h = (h.0, h.1 ∙ e)
+written_unless w s m taken text_is written (faulty bad) e h = h.text_is ∙ e
+written_unless w s m taken text_is written cut_short e h = h.text_is ∙ e
+written_unless w s m taken text_is written turns_spent e h = h.text_is ∙ e
+written_unless w s m taken text_is written read_failed e h = h.text_is ∙ e
 
 ended : {S E : Type 0} {w : Manner S E} {s t : S} {m turns : ℕ} {a b : Supply} {k l : Store} (r : Result (Unit {0}) StreamError) → ((kind : AMQPFrameType) → IsTrue (w.wants kind) → ⊥) → (run : Streams w s t m turns a b k l (ending_of (as_run r))) → HasWritten (text_of w s m run.taken) run.written r × HasCause w.level m turns run.taken a b k l r
 ended (Ok done) none run = (run.writes.text_is, (run.cause.0, run.cause.1))

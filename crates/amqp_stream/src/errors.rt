@@ -97,8 +97,7 @@ pub enum StreamError {
     /// Tables or arrays in a whole payload nested more than 64 deep.
     TooDeep,
 
-    /// A whole frame in which something that decoding drops does not stand as it is written, where only tidy bytes are
-    /// taken.
+    /// A whole frame in which something that decoding drops is not canonical, where only tidy bytes are taken.
     NotTidy,
 
     /// The source ended inside a frame.

@@ -29,7 +29,7 @@ pub use errors::{ReadError, RunError, StreamError};
 pub use frame_writer::FrameWriter;
 pub use made_laws::made_is_a_sequence;
 pub use make_source::MakeSource;
-pub use output::{flush, gather, payload_error, write_all, write_canonical};
+pub use output::{SMALL_BODY, flush, gather, payload_error, write_all, write_canonical};
 pub use output_buffer::OutputBuffer;
 pub use reader::FrameReader;
 pub use sink::{Sink, SinkFault};

@@ -21,7 +21,7 @@ use amqp_types::{ChannelId, FRAME_BODY, FRAME_END, ParserError};
 
 /// Bodies up to this size are pending with the small frames; larger ones are written from where they
 /// lie.
-const SMALL_BODY: usize = 4096;
+pub const SMALL_BODY: usize = 4096;
 
 /// Writes all of the bytes, in as many writes as it takes.
 pub fn write_all<K: Sink>(sink: &mut K, bytes: &[u8]) -> Result<(), SinkFault>

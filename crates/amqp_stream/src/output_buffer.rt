@@ -6,7 +6,7 @@ ghost use Rattle.amqp_frame.specs.Spelling.{framed, head};
 ghost use Rattle.amqp_frame.specs.Verdicts.{IsPayloadError, whole};
 ghost use Rattle.amqp_stream.specs.Buffers.{Adds, AddsAt};
 
-use amqp_frame::{AMQPRawFrame, Mark, put_canonical};
+use amqp_frame::{AMQPRawFrame, EntryMark, put_canonical};
 use amqp_types::{NoMemory, ParserError, put_bytes};
 use std::alloc::Global;
 use std::marker::Model;
@@ -26,7 +26,7 @@ fn put_after(buf: &mut [u8], len: usize, bytes: &[u8]) -> usize
 fn put_raw_after(
     buf: &mut [u8],
     len: usize,
-    scratch: &mut [Mark],
+    scratch: &mut [EntryMark],
     raw: AMQPRawFrame<'_>,
 ) -> Result<usize, ParserError>
     requires few { length raw.payload.now < 2 ^ 32 }
@@ -45,7 +45,7 @@ fn put_raw_after(
 pub struct OutputBuffer {
     buf: Vec<u8>,
     len: usize,
-    scratch: Vec<Mark>,
+    scratch: Vec<EntryMark>,
 }
 
 impl Model for OutputBuffer {
@@ -65,7 +65,7 @@ impl OutputBuffer {
         ensures { IfOk result (λ out. out ≡ record { room = room; bytes = [] }) }
     {
         let buf = vec![in alloc; 0u8; room]?;
-        let scratch = vec![in alloc; Mark::default(); room / 2]?;
+        let scratch = vec![in alloc; EntryMark::default(); room / 2]?;
         Ok(OutputBuffer {
             buf,
             len: 0,

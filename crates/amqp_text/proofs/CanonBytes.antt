@@ -1,8 +1,6 @@
 -- The canonical bytes of what was read of bytes are bytes.
-use Rattle.std.proofs.Common.{◌≡◌, ℕ, zero, suc, ◌<◌, Bool, true, false, List, [], ◌∷◌, ◌++◌, length, get_or, map, Option, Some, refl, sym, ap, ap₂, subst, ◌∙◌, arith}
-use Rattle.std.specs.Prelude.{unwrap_or}
+use Rattle.std.proofs.Common.{◌≡◌, ℕ, zero, suc, ◌<◌, Bool, true, false, List, [], ◌∷◌, ◌++◌, length, get_or, map, Option, refl, sym, ap, subst, ◌∙◌, arith}
 use Rattle.std.specs.List.{AllByRecursion}
-use Rattle.std.proofs.lemmas.List.{take_at, drop_at}
 use Rattle.amqp_types.specs.Levels.{plain}
 use Rattle.amqp_types.specs.Judging.{IsBytes}
 use Rattle.amqp_types.specs.Sequences.{SpellsMapped, SpellsBoth}
@@ -16,18 +14,17 @@ use Rattle.amqp_types.specs.Tags.{tag_byte, tag_of}
 use Rattle.amqp_types.specs.declared.tag.FieldTag.{FieldTag}
 use Rattle.amqp_types.specs.declared.tag.FieldTag.TheVariants as tag
 use Rattle.amqp_types.specs.Slots.{Item, number_item, flag_item, text_item, bytes_item, entries_item, Form, number_form, flags_form, short_string_form, long_string_form, table_form, Slot, kept_slot, reserved_slot}
-use Rattle.amqp_types.specs.SlotBytes.{item_count, form_bytes, slots_bytes}
+use Rattle.amqp_types.specs.SlotBytes.{form_bytes, slots_bytes}
 use Rattle.amqp_types.specs.SlotSpelling.{SpellsForm, SpellsReserved, SpellsSlots}
 use Rattle.amqp_types.specs.SlotLaws.{is_least, are_least}
-use Rattle.amqp_types.specs.Rows.{slots_at}
-use Rattle.amqp_types.specs.Methods.{Method, method_bytes, payload_bytes}
+use Rattle.amqp_types.specs.Methods.{payload_bytes}
 use Rattle.amqp_types.specs.MethodSpelling.{SpellsPayload}
 use Rattle.amqp_types.specs.Properties.{Property, properties}
 use Rattle.amqp_types.specs.PropertyJudging.{first_item}
 use Rattle.amqp_types.specs.PropertyLaws.{gives_one, give_one}
 use Rattle.amqp_types.specs.PropertyBytes.{mask_of, optional_bytes, set_bytes, properties_bytes}
 use Rattle.amqp_types.specs.PropertySpelling.{SpellsOptional, SpellsSet, SpellsProperties}
-use Rattle.amqp_types.specs.ContentHeaders.{ContentHeader, header_slots, header_items, header_of_parts, content_header_bytes, SpellsContentHeader}
+use Rattle.amqp_types.specs.ContentHeaders.{ContentHeader, header_slots, header_items, content_header_bytes, SpellsContentHeader}
 use Rattle.amqp_types.proofs.FormLaws.{flags_lawful}
 use Rattle.amqp_values.proofs.Conversions.{values_of-items, entries_of-pairs}
 use Rattle.amqp_values.proofs.Entries.{EachEntry, each-settled_on, each-nil}

@@ -13,9 +13,9 @@ use Rattle.amqp_stream.specs.Writing.{IsPrefix, Gathered, GatherFails}
 use Rattle.amqp_stream.specs.Steps.{Manner, text, refused}
 use Rattle.amqp_stream.specs.Manners.{mapping}
 use Rattle.amqp_stream.specs.Streaming.{Ending, finished, refused_by, stopped_by, ending_of, as_run, text_of, IsStep, WritesBy, HasWrittenBy, HasCauseBy, AtWanting, Streams, RunNeverBegan, answer_of, IsExactRun, UnlessStoppedBy, StreamsExactly, IsWelcome, IsDoneOrWanting}
-use Rattle.amqp_stream.specs.Transcribing.{answer_to, IsCausedBy, NeverBegan, UnlessStopped, TranscribesExactly, IsOkOrNoMemory, IsWrittenUnless}
+use Rattle.amqp_stream.specs.Transcribing.{answer_to, NeverBegan, TranscribesExactly, IsOkOrNoMemory}
 use Rattle.amqp_stream.proofs.Adding.{Gains-none}
-use Rattle.amqp_stream.proofs.Transcribing.{Transcriber, maps, never_began, transcribes_exactly, unless, caused_by}
+use Rattle.amqp_stream.proofs.Transcribing.{Transcriber, maps, never_began, transcribes_exactly, unless, caused_by, written_unless}
 use Rattle.amqp_stream.proofs.Writes.{kept}
 use Rattle.amqp_text.specs.Lines.{line, lines}
 use Rattle.amqp_text.specs.LineTexts.{HasNoLine, PutsLine}
@@ -61,17 +61,9 @@ welcome s m bytes = record { none_refused = none_refused s (front plain (Some m)
 
 -- ---- a run
 
-written_by : (text written : List ℕ) (s : Unit {0}) (m : ℕ) (taken : List ℕ) (cause : Cause) → text_of dumping s m taken ≡ text → HasWrittenBy dumping s m taken written (stopped_by cause) → IsWrittenUnless text written cause
-written_by text written s m taken write_failed e h = (h.0, h.1 ∙ e)
-written_by text written s m taken out_of_memory e h = (h.0, h.1 ∙ e)
-written_by text written s m taken (faulty bad) e h = h.text_is ∙ e
-written_by text written s m taken cut_short e h = h.text_is ∙ e
-written_by text written s m taken turns_spent e h = h.text_is ∙ e
-written_by text written s m taken read_failed e h = h.text_is ∙ e
-
 writes : (text written : List ℕ) (s : Unit {0}) (m : ℕ) (taken : List ℕ) (r : Result (Unit {0}) StreamError) → text_of dumping s m taken ≡ text → HasWrittenBy dumping s m taken written (ending_of (as_run r)) → HasWrittenDumped text written r
 writes text written s m taken (Ok done) e h = h.text_is ∙ e
-writes text written s m taken (Err error) e h = written_by text written s m taken (cause_of error) e h
+writes text written s m taken (Err error) e h = written_unless dumping s m taken text written (cause_of error) e h
 
 at_frame : (s : Unit {0}) (m : ℕ) (taken written : List ℕ) → AtWanting dumping s m taken written → AtFrame m taken written
 at_frame s m taken written h =

@@ -10,7 +10,8 @@ use Rattle.amqp_frame.specs.declared.frame_type.AMQPFrameType.TheVariants as kin
 use Rattle.amqp_frame.specs.Frames.{Raw}
 use Rattle.amqp_text.specs.declared.errors.TextError.{TextError}
 use Rattle.amqp_text.specs.declared.errors.TextError.TheVariants as texts
-use Rattle.amqp_text.specs.Reading.{Reading, Reader, ◌>>=◌, read_bits, read_unsigned, read_hex, read_slots, read_properties, strip, FindsWord, ReadsWord}
+use Rattle.amqp_types.specs.Reading.{Reading, Reader, ◌>>=◌}
+use Rattle.amqp_text.specs.Reading.{read_bits, read_unsigned, read_hex, read_slots, read_properties, strip, FindsWord, ReadsWord}
 use Rattle.amqp_text.specs.ReadingLines.{read_id, read_later, read_version, read_fields, read_method_of, read_method, read_header, read_beat, of_kind, on_channel, by_word, read_words, ReadsWords}
 use Rattle.amqp_text.proofs.ReadSteps.{failed, both_read, parted_read}
 

@@ -5,16 +5,17 @@ use Rattle.std.specs.Fmt.{decimal}
 use Rattle.amqp_types.specs.Levels.{strict}
 use Rattle.amqp_types.specs.Judging.{Judged, took, past, fault, ◌>>=◌}
 use Rattle.amqp_types.specs.Numbers.{bytes2, number_bytes}
-use Rattle.amqp_types.specs.Slots.{Slot, number_item}
+use Rattle.amqp_types.specs.Slots.{Slot}
 use Rattle.amqp_types.specs.Rows.{slots_at}
 use Rattle.amqp_types.specs.Properties.{properties}
 use Rattle.amqp_types.specs.Methods.{Method}
 use Rattle.amqp_types.specs.MethodSpelling.{SpellsPayload}
-use Rattle.amqp_types.specs.ContentHeaders.{ContentHeader, header_slots, header_of_parts, SpellsContentHeader}
+use Rattle.amqp_types.specs.ContentHeaders.{ContentHeader, SpellsContentHeader}
 use Rattle.amqp_types.specs.declared.errors.NoMemory.{NoMemory}
 use Rattle.amqp_frame.specs.declared.outline.FrameOutline.{FrameOutline}
 use Rattle.amqp_frame.specs.declared.outline.FrameOutline.TheVariants as outlines
 use Rattle.amqp_frame.specs.Frames.{Frame, Proto, Meth, Head, Body, Beat, BadBeat}
+use Rattle.amqp_frame.proofs.Outlined.{header_front}
 use Rattle.amqp_text.specs.Slots.{slots_text, set_text}
 use Rattle.amqp_text.specs.Rendering.{Says, AppendsText, rendered_slots, rendered_properties}
 use Rattle.amqp_text.specs.Lines.{spaced, method_words, header_words, beat_words, words}
@@ -87,28 +88,14 @@ header_said channel class size payload rest old mid new r e is h =
     let P : List ℕ → Type 0 = λ bytes. Says (rendered_properties bytes) mid new r in
     after (rendered_properties (drop 12 payload)) (sizes_words channel class size) old mid new r e (subst P is h)
 
--- twelve bytes stand in front of the properties
-header_rest : (payload : List ℕ) (header : ContentHeader) (h : SpellsContentHeader strict payload header) → (drop 12 payload ≡ h.behind) × (header.options ≡ h.two)
-unfolding header_slots
-header_rest payload header h =
-    let class = h.first_is in
-    let weight = class.second_is in
-    let size = weight.second_is in
-    let one = class.first_is in
-    let two = weight.first_is in
-    let three = size.first_is in
-    let items : h.one ≡ number_item one.thing ∷ number_item three.thing ∷ [] = class.joined ∙ ap₂ (λ xs ys. xs ++ ys) one.made (weight.joined ∙ ap₂ (λ xs ys. xs ++ ys) two.none (size.joined ∙ ap₂ (λ xs ys. xs ++ ys) three.made size.second_is.1)) in
-    let front = class.bytes_are ∙ ap₂ (λ xs ys. xs ++ ys) one.spelled.bytes_are (weight.bytes_are ∙ ap₂ (λ xs ys. xs ++ ys) two.spelled.spelled.bytes_are (size.bytes_are ∙ ap₂ (λ xs ys. xs ++ ys) three.spelled.bytes_are size.second_is.0)) in
-    let made = h.joined ∙ ap (λ xs. header_of_parts xs h.two) items in
-    (ap (drop 12) (h.bytes_are ∙ ap (λ bs. bs ++ h.behind) front), ap (λ (x : ContentHeader). x.options) made)
-
 -- the canonical payload of a content header is rendered as its words
 header_line : (channel : ℕ) (header : ContentHeader) (payload : List ℕ) (h : SpellsContentHeader strict payload header) → rendered_header channel header.class_id header.body_size payload ≡ took (words (Head channel header)) (length h.behind)
 unfolding rendered_header words header_words
 header_line channel header payload h =
-    let parts = header_rest payload header h in
-    let rest : drop 12 payload ≡ h.behind ++ [] = parts.0 ∙ sym (append-nil h.behind) in
-    let rendered : rendered_properties (drop 12 payload) ≡ took (set_text properties header.options) (length h.behind) = ap rendered_properties rest ∙ properties_back h.behind [] h.two h.second_is ∙ ap (λ options. took (set_text properties options) (length h.behind)) (sym parts.1) in
+    let front = header_front h in
+    let rest : drop 12 payload ≡ h.behind ++ [] = ap (drop 12) front.bytes_are ∙ sym (append-nil h.behind) in
+    let options_are : header.options ≡ h.two = ap (λ (x : ContentHeader). x.options) front.header_is in
+    let rendered : rendered_properties (drop 12 payload) ≡ took (set_text properties header.options) (length h.behind) = ap rendered_properties rest ∙ properties_back h.behind [] h.two h.second_is ∙ ap (λ options. took (set_text properties options) (length h.behind)) (sym options_are) in
     let text = set_text properties header.options in
     let grouped : sizes_words channel header.class_id header.body_size ++ text ≡ codes "header" ++ (spaced channel ++ (spaced header.class_id ++ (spaced header.body_size ++ text))) = simp append_assoc in
     ap (λ j. j >>= λ x. took (sizes_words channel header.class_id header.body_size ++ x.0) x.1) rendered ∙ ap (λ (xs : List ℕ). took xs (length h.behind)) grouped

@@ -16,7 +16,8 @@ use Rattle.amqp_types.specs.ValueSpelling.{SpellsEach, SpellsEntry, SpellsDecima
 use Rattle.amqp_values.proofs.Conversions.{entries_of-pairs, pairs-entries_of}
 use Rattle.amqp_text.specs.Words.{hex, quoted, parted}
 use Rattle.amqp_text.specs.Values.{tag_text, truth_text, content_text, values_texts, entries_texts, value_text, table_text}
-use Rattle.amqp_text.specs.Reading.{Reader, ◌>>=◌, is_hex, is_digit, read_unsigned, read_truth, read_decimal, read_byte_array, listed, inside, or_comma, framed_long, read_entry, read_array, read_table, read_behind, read_tagged, read_nested, read_value}
+use Rattle.amqp_types.specs.Reading.{Reader, ◌>>=◌}
+use Rattle.amqp_text.specs.Reading.{is_hex, is_digit, read_unsigned, read_truth, read_decimal, read_byte_array, listed, inside, or_comma, framed_long, read_entry, read_array, read_table, read_behind, read_tagged, read_nested, read_value}
 use Rattle.amqp_text.proofs.ReadWords.{Ends, IsReadAs, Begins, begins_more, listed_end, listed_comma, listed_item, no_comma, bytes_behind, bytes_front, framed_back, long_content, number_back, signed_back, hex_back, long_string_back, short_string_back}
 
 -- ---- what fills an array or a table

@@ -7,11 +7,10 @@ use Rattle.amqp_types.specs.Levels.{strict}
 use Rattle.amqp_types.specs.Judging.{IsBytes}
 use Rattle.amqp_types.specs.Numbers.{bytes1, bytes2, number_bytes}
 use Rattle.amqp_types.specs.Rows.{slots_at}
-use Rattle.amqp_types.specs.Slots.{number_item}
 use Rattle.amqp_types.specs.Properties.{properties}
 use Rattle.amqp_types.specs.Methods.{Method}
 use Rattle.amqp_types.specs.MethodSpelling.{SpellsPayload}
-use Rattle.amqp_types.specs.ContentHeaders.{ContentHeader, header_slots, header_of_parts, SpellsContentHeader}
+use Rattle.amqp_types.specs.ContentHeaders.{ContentHeader, header_slots, SpellsContentHeader}
 use Rattle.amqp_frame.specs.declared.frame_type.AMQPFrameType.{AMQPFrameType}
 use Rattle.amqp_frame.specs.declared.frame_type.AMQPFrameType.TheVariants as kinds
 use Rattle.amqp_frame.specs.Frames.{Frame, Proto, Meth, Head, Body, Beat, BadBeat, channel_id_of}
@@ -19,7 +18,9 @@ use Rattle.amqp_text.specs.Words.{hex}
 use Rattle.amqp_text.specs.Slots.{slots_text, form_text, set_text}
 use Rattle.amqp_text.specs.Lines.{spaced, method_words, header_words, beat_words, words}
 use Rattle.amqp_text.specs.Payloads.{IsPayload}
-use Rattle.amqp_text.specs.Reading.{Reader, ◌>>=◌, is_hex, is_digit, read_bits, read_unsigned, read_hex, read_slots, read_properties}
+use Rattle.amqp_types.specs.Reading.{Reader, ◌>>=◌}
+use Rattle.amqp_frame.proofs.Outlined.{header_front}
+use Rattle.amqp_text.specs.Reading.{is_hex, is_digit, read_bits, read_unsigned, read_hex, read_slots, read_properties}
 use Rattle.amqp_text.specs.ReadingLines.{read_id, read_version, read_later, read_fields, read_method_of, read_method, read_header, read_beat, of_kind, on_channel, read_words}
 use Rattle.amqp_text.proofs.ReadWords.{Ends, bytes_behind, bytes_front, other, number_back, bits_back, hex_back}
 use Rattle.amqp_text.proofs.ReadSlots.{slots_back, slots_end, set_end, space_ends, properties_back}
@@ -78,20 +79,13 @@ method_back payload m fits h =
 header_back : (payload : List ℕ) (header : ContentHeader) → IsBytes payload → SpellsContentHeader strict payload header → read_header (header_words header) ≡ Some (payload, [])
 unfolding read_header header_words header_slots slots_text form_text spaced
 header_back payload header fits h =
-    let class = h.first_is in
-    let weight = class.second_is in
-    let size = weight.second_is in
-    let one = class.first_is in
-    let two = weight.first_is in
-    let three = size.first_is in
-    let items : h.one ≡ number_item one.thing ∷ number_item three.thing ∷ [] = class.joined ∙ ap₂ (λ xs ys. xs ++ ys) one.made (weight.joined ∙ ap₂ (λ xs ys. xs ++ ys) two.none (size.joined ∙ ap₂ (λ xs ys. xs ++ ys) three.made size.second_is.1)) in
-    let made = h.joined ∙ ap (λ xs. header_of_parts xs h.two) items in
+    let parts = header_front h in
     let set = set_text properties h.two in
-    let a = decimal one.thing in
-    let b = decimal three.thing in
+    let a = decimal parts.class in
+    let b = decimal parts.size in
     let grouped : (32 ∷ a) ++ ((32 ∷ b) ++ set) ≡ slots_text header_slots h.one ++ set =
-    ap (λ (xs : List ℕ). (32 ∷ a) ++ (xs ++ set)) (sym (append-nil (32 ∷ b))) ∙ sym (append_assoc (32 ∷ a) ((32 ∷ b) ++ []) set) ∙ ap (λ xs. slots_text header_slots xs ++ set) (sym items) in
-    ap (λ (x : ContentHeader). read_header (header_words x)) made ∙ ap read_header grouped
+    ap (λ (xs : List ℕ). (32 ∷ a) ++ (xs ++ set)) (sym (append-nil (32 ∷ b))) ∙ sym (append_assoc (32 ∷ a) ((32 ∷ b) ++ []) set) ∙ ap (λ xs. slots_text header_slots xs ++ set) (sym parts.items_are) in
+    ap (λ (x : ContentHeader). read_header (header_words x)) parts.header_is ∙ ap read_header grouped
     ∙ ap (λ r. r >>= λ (front : List ℕ × List ℕ). read_properties front.1 >>= λ (rest : List ℕ × List ℕ). Some (front.0 ++ rest.0, rest.1)) (slots_back header_slots h.front set h.one (bytes_front h.front h.behind payload h.bytes_are fits) h.first_is (set_end properties h.two))
     ∙ ap (λ r. r >>= λ (rest : List ℕ × List ℕ). Some (h.front ++ rest.0, rest.1)) (properties_back h.behind h.two (bytes_behind h.front h.behind payload h.bytes_are fits) h.second_is)
     ∙ ap (λ (bs : List ℕ). Some (bs, [])) (sym h.bytes_are)

@@ -3,7 +3,7 @@ use Rattle.std.proofs.Common.{◌≡◌, ℕ, ◌+◌, ◌%◌, ◌^◌, ◌<◌
 use Rattle.std.specs.Prelude.{codes, ◌&&◌, ◌==◌, if◌then◌else◌}
 use Rattle.std.proofs.lemmas.Bool.{eq-eqb}
 use Rattle.std.proofs.lemmas.List.{take_at, drop_at}
-use Rattle.amqp_types.specs.Levels.{plain, strict}
+use Rattle.amqp_types.specs.Levels.{strict}
 use Rattle.amqp_types.specs.Judging.{IsBytes}
 use Rattle.amqp_types.specs.Numbers.{bytes2, number_bytes}
 use Rattle.amqp_types.specs.Flags.{flag_at, flags_from}
@@ -19,13 +19,14 @@ use Rattle.amqp_types.proofs.FlagBytes.{flags_from_length}
 use Rattle.amqp_types.proofs.FormLaws.{flags_byte_back}
 use Rattle.amqp_values.proofs.SlotForms.{flags_of-map, forms_lawful, form_gives}
 use Rattle.amqp_values.proofs.SlotLaws.{both_true}
-use Rattle.amqp_properties.proofs.PropertyLaws.{properties_lawful}
+use Rattle.amqp_properties.proofs.PropertyLaws.{properties_lawful, one_each}
 use Rattle.amqp_text.specs.Words.{signs}
 use Rattle.amqp_text.specs.Slots.{form_text, slots_text, property_name, option_text, set_text}
-use Rattle.amqp_text.specs.Reading.{◌>>=◌, is_hex, is_digit, read_unsigned, read_signs, read_flags, read_short_string, read_long_string, read_table, read_value, read_form, read_slot, read_slots, strip, named, read_option, read_set, read_properties}
+use Rattle.amqp_types.specs.Reading.{◌>>=◌}
+use Rattle.amqp_text.specs.Reading.{is_hex, is_digit, read_unsigned, read_signs, read_flags, read_short_string, read_long_string, read_table, read_value, read_form, read_slot, read_slots, strip, named, read_option, read_set, read_properties}
 use Rattle.amqp_text.proofs.ReadWords.{Ends, IsReadAs, bytes_behind, bytes_front, number_back, long_string_back, short_string_back, signs_back}
 use Rattle.amqp_text.proofs.ReadBack.{field_table_back}
-use Rattle.amqp_text.proofs.SlotsBack.{one_text, give_one_each, plain_form}
+use Rattle.amqp_text.proofs.SlotsBack.{one_text, plain_form}
 use Rattle.amqp_properties.proofs.Options.{counted_one}
 
 -- ---- one field
@@ -193,5 +194,5 @@ properties_back bytes options fits h =
     let front : number_bytes bytes2 mask ≡ number_bytes bytes2 h.mask =
     sym (take_at (number_bytes bytes2 mask) (set_bytes properties options) 2 refl) ∙ ap (take 2) (sym canonical ∙ h.bytes_are) ∙ take_at (number_bytes bytes2 h.mask) h.behind 2 refl in
     ap (λ r. r >>= λ (set : (ℕ × List ℕ) × List ℕ). Some (number_bytes bytes2 set.0.0 ++ set.0.1, set.1))
-    (set_back h.mask properties give_one_each each_apart h.behind options (bytes_behind (number_bytes bytes2 h.mask) h.behind bytes h.bytes_are fits) h.set)
+    (set_back h.mask properties one_each each_apart h.behind options (bytes_behind (number_bytes bytes2 h.mask) h.behind bytes h.bytes_are fits) h.set)
     ∙ ap (λ (bs : List ℕ). Some (bs ++ h.behind, [])) (low_mask mask ∙ front) ∙ ap (λ (bs : List ℕ). Some (bs, [])) (sym h.bytes_are)

@@ -13,7 +13,8 @@ use Rattle.amqp_types.specs.declared.tag.FieldTag.{FieldTag}
 use Rattle.amqp_types.specs.declared.tag.FieldTag.TheVariants as tag
 use Rattle.amqp_text.specs.declared.errors.TextError.{TextError}
 use Rattle.amqp_text.specs.declared.errors.TextError.TheVariants as texts
-use Rattle.amqp_text.specs.Reading.{Reading, Reader, ◌>>=◌, first_is, is_digit, read_digits, capped, below_zero, read_unsigned, read_decimal, read_short_string, read_entry, with_sign, read_signs, is_hex, nibble, read_hex, read_bits, read_escaped, listed, inside, or_comma, read_negative, read_positive, framed_long, framed_short, after_colon, read_after, read_behind, read_tagged, read_nested, read_value, read_array, read_table, FindsWord, ReadsWord}
+use Rattle.amqp_types.specs.Reading.{Reading, Reader, ◌>>=◌}
+use Rattle.amqp_text.specs.Reading.{first_is, is_digit, read_digits, capped, below_zero, read_unsigned, read_decimal, read_short_string, read_entry, with_sign, read_signs, is_hex, nibble, read_hex, read_bits, read_escaped, listed, inside, or_comma, read_negative, read_positive, framed_long, framed_short, after_colon, read_after, read_behind, read_tagged, read_nested, read_value, read_array, read_table, FindsWord, ReadsWord}
 use Rattle.amqp_text.proofs.ReadWords.{chosen, other}
 
 -- ---- ends
@@ -112,6 +113,11 @@ number_unread width most text is h = ap (λ (m : ℕ). read_bits m text >>= λ (
 
 -- ---- things one after another
 
+-- a loop over a text goes on so, and no more of the text is left than there was
+pub record GoesOnWithin (GoesOnSo : Type 0) (i rest : List ℕ) : Type 0 where
+  pub goes_on : GoesOnSo
+  pub no_longer : length rest ≤ length i
+
 -- Where all of the text reads as some bytes, what is left reads as those that are not yet there.
 pub record GoesOn (Left : List ℕ → List ℕ → List ℕ → Type 0) (i old rest now : List ℕ) : Type 0 where
   pub left : (bytes end : List ℕ) → Left i bytes end → (more : List ℕ) × Left rest more end × (now ++ more ≡ old ++ bytes)
@@ -141,7 +147,7 @@ hex_step [] next some d is bytes end h = absurd (omega arith)
 hex_step (a ∷ []) next some d is bytes end h = absurd (omega arith)
 hex_step (a ∷ b ∷ cs) next some d is bytes end h = on (read_hex cs) refl (sym (chosen (is_hex a) _ _ d) ∙ h.is)
   where
-    on : (j : Reading (List ℕ)) → read_hex cs ≡ j → (j >>= λ (x : List ℕ × List ℕ). Some ((16 * nibble a + nibble b) ∷ x.0, x.1)) ≡ Some (bytes, end) → (more : List ℕ) × IsHexRead next more end × (bytes ≡ (16 * nibble a + nibble b) ∷ [] ++ more)
+    on : (j : Reading (List ℕ)) → read_hex cs ≡ j → ◌>>=◌ {B = List ℕ × List ℕ} j (λ (x : List ℕ × List ℕ). Some ((16 * nibble a + nibble b) ∷ x.0, x.1)) ≡ Some (bytes, end) → (more : List ℕ) × IsHexRead next more end × (bytes ≡ (16 * nibble a + nibble b) ∷ [] ++ more)
     on None e k = absurd cc
     on (Some x) e k = let same = both_same ((16 * nibble a + nibble b) ∷ x.0) bytes x.1 end k in (x.0, record { is = ap read_hex is ∙ e ∙ ap (λ (t : List ℕ). Some (x.0, t)) same.1 }, sym same.0)
 
@@ -193,13 +199,13 @@ after_item : (item : Reader (List ℕ)) (close : ℕ) (text bytes end : List ℕ
 unfolding listed
 after_item item close text bytes end off h = by_count h.count h.is
   where
-    with_more : (count : ℕ) (one rest : List ℕ) → item text ≡ Some (one, rest) → (k : Reading (List ℕ)) → listed item close count rest ≡ k → (k >>= λ (others : List ℕ × List ℕ). Some (one ++ others.0, others.1)) ≡ Some (bytes, end) → IsAfter item close text bytes end
+    with_more : (count : ℕ) (one rest : List ℕ) → item text ≡ Some (one, rest) → (k : Reading (List ℕ)) → listed item close count rest ≡ k → ◌>>=◌ {B = List ℕ × List ℕ} k (λ (others : List ℕ × List ℕ). Some (one ++ others.0, others.1)) ≡ Some (bytes, end) → IsAfter item close text bytes end
     with_more count one rest e None f k = absurd cc
     with_more count one rest e (Some others) f k =
         let same = both_same (one ++ others.0) bytes others.1 end k in
         record { one = one; rest = rest; more = others.0; read = e; listed_so = record { count = count; is = f ∙ ap (λ (t : List ℕ). Some (others.0, t)) same.1 }; parts = sym same.0 }
 
-    by_item : (count : ℕ) (j : Reading (List ℕ)) → item text ≡ j → (j >>= λ (one : List ℕ × List ℕ). listed item close count one.1 >>= λ (others : List ℕ × List ℕ). Some (one.0 ++ others.0, others.1)) ≡ Some (bytes, end) → IsAfter item close text bytes end
+    by_item : (count : ℕ) (j : Reading (List ℕ)) → item text ≡ j → (j >>= λ (one : List ℕ × List ℕ). ◌>>=◌ {B = List ℕ × List ℕ} (listed item close count one.1) (λ (others : List ℕ × List ℕ). Some (one.0 ++ others.0, others.1))) ≡ Some (bytes, end) → IsAfter item close text bytes end
     by_item count None e k = absurd cc
     by_item count (Some one) e k = with_more count one.0 one.1 e (listed item close count one.1) refl k
 

@@ -16,7 +16,8 @@ use Rattle.amqp_types.specs.Strings.{SpellsShortString, SpellsLongString}
 use Rattle.amqp_types.specs.Flags.{bit_of, flags_byte}
 use Rattle.amqp_types.proofs.Bytes.{IsBytes-drop, IsBytes-take}
 use Rattle.amqp_text.specs.Words.{hex_digit, hex_byte, hex, is_plain, escaped, quoted, sign, signs}
-use Rattle.amqp_text.specs.Reading.{Reading, Reader, ◌>>=◌, is_digit, read_digits, capped, below_zero, read_bits, read_positive, read_negative, read_unsigned, with_sign, read_signs, is_hex, nibble, read_hex, first_is, listed, inside, or_comma, read_escaped, framed_long, framed_short, read_long_string, read_short_string}
+use Rattle.amqp_types.specs.Reading.{Reading, Reader, ◌>>=◌}
+use Rattle.amqp_text.specs.Reading.{is_digit, read_digits, capped, below_zero, read_bits, read_positive, read_negative, read_unsigned, with_sign, read_signs, is_hex, nibble, read_hex, first_is, listed, inside, or_comma, read_escaped, framed_long, framed_short, read_long_string, read_short_string}
 
 -- what does not go on with a digit
 abbrev pub Ends : List ℕ → Type 0

@@ -10,7 +10,7 @@ use Rattle.amqp_types.specs.declared.tag.FieldTag.TheVariants as tag
 use Rattle.amqp_types.specs.Judging.{Judged, Judge, Fault, took, past, fault, not_utf8, ◌>>=◌}
 use Rattle.amqp_types.specs.Sequences.{judge_map}
 use Rattle.amqp_types.specs.Strings.{judge_short_string, judge_long_string}
-use Rattle.amqp_types.specs.ValueJudging.{filled, next_item, read_map, whole}
+use Rattle.amqp_types.specs.ValueJudging.{filled, next_item, read_map, took_all}
 use Rattle.amqp_types.specs.Tags.{tag_at}
 use Rattle.amqp_types.specs.declared.tag.FieldTag.{FieldTag}
 use Rattle.amqp_canonical.specs.Writes.{IsRead, key_in, after_key}
@@ -95,7 +95,7 @@ table_behind room t i old new r some is h =
 
 -- ---- what fills an array or a table
 
-joined : (texts : Result (List (List ℕ)) Fault) (used : ℕ) (before after old a b new : List ℕ) (done : Unit {0}) → a ≡ old ++ before → RendersAll parted texts a b (Ok done) → new ≡ b ++ after → Renders (whole used (read_map (λ ts. before ++ (parted ts ++ after)) texts)) old new (Ok used)
+joined : (texts : Result (List (List ℕ)) Fault) (used : ℕ) (before after old a b new : List ℕ) (done : Unit {0}) → a ≡ old ++ before → RendersAll parted texts a b (Ok done) → new ≡ b ++ after → Renders (took_all used (read_map (λ ts. before ++ (parted ts ++ after)) texts)) old new (Ok used)
 joined (Err bad) used before after old a b new done first h last = tt
 joined (Ok ts) used before after old a b new done first h last = (refl, last ∙ ap (λ (xs : List ℕ). xs ++ after) (h ∙ ap (λ (xs : List ℕ). xs ++ parted ts) first) ∙ append_assoc (old ++ before) (parted ts) after ∙ append_assoc old before (parted ts ++ after))
 

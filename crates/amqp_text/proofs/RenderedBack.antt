@@ -4,26 +4,26 @@ use Rattle.std.specs.Prelude.{codes}
 use Rattle.std.specs.Fmt.{decimal, signed_decimal}
 use Rattle.std.proofs.lemmas.List.{length-append, drop_at}
 use Rattle.amqp_types.specs.Levels.{strict}
-use Rattle.amqp_types.specs.Judging.{Judge, took, ◌>>=◌, IsExact}
+use Rattle.amqp_types.specs.Judging.{Judge, took, ◌>>=◌}
 use Rattle.amqp_types.specs.Sequences.{judge_map, judge_both}
 use Rattle.amqp_types.specs.Numbers.{NumberWidth, bytes1, bytes2, bytes4, bytes8, judge_number, SpellsNumber}
 use Rattle.amqp_types.specs.Signed.{judge_signed, SpellsSigned}
 use Rattle.amqp_types.specs.Booleans.{judge_boolean, SpellsBoolean}
 use Rattle.amqp_types.specs.Strings.{judge_short_string, judge_long_string, SpellsLongString}
-use Rattle.amqp_types.specs.Values.{FieldValue, FieldValues, FieldEntries, Entry, short_short_int, short_int, long_int, long_long_int, short_short_uint, short_uint, long_uint, float, double, timestamp, long_string, byte_array, boolean_value, signed_value, unsigned_value, decimal_value, bytes_value, array_value, table_value, void_value, no_values, next_value, no_entries, next_entry, items, pairs, entries_of}
+use Rattle.amqp_types.specs.Values.{FieldValue, Entry, short_short_int, short_int, long_int, long_long_int, short_short_uint, short_uint, long_uint, float, double, timestamp, long_string, byte_array, boolean_value, signed_value, unsigned_value, decimal_value, bytes_value, array_value, table_value, void_value, items, pairs, entries_of}
 use Rattle.amqp_types.specs.Tags.{tag_of}
-use Rattle.amqp_types.specs.ValueJudging.{filled, read_map, whole, judge_decimal}
+use Rattle.amqp_types.specs.ValueJudging.{filled, read_map, took_all, judge_decimal}
 use Rattle.amqp_types.specs.ValueSpelling.{SpellsEach, SpellsEntry, SpellsDecimal, SpellsTable, SpellsBehind, SpellsTagged, SpellsValue, SpellsFieldTable}
 use Rattle.amqp_types.proofs.Numbers.{number_exact}
 use Rattle.amqp_types.proofs.Texts.{signed_exact, long_string_exact, short_string_exact}
-use Rattle.amqp_types.proofs.Sequences.{map_taken, both_exact}
+use Rattle.amqp_types.proofs.Sequences.{map_taken}
 use Rattle.amqp_values.proofs.Conversions.{entries_of-pairs, pairs-entries_of}
 use Rattle.amqp_values.proofs.Filling.{filled_next}
 use Rattle.amqp_values.proofs.Filled.{HasBytes, entry_some}
 use Rattle.amqp_values.proofs.Exactly.{value_some, decimal_exact}
 use Rattle.amqp_values.proofs.Tags.{tag_read}
 use Rattle.amqp_text.specs.Words.{hex, quoted, parted}
-use Rattle.amqp_text.specs.Values.{tag_text, truth_text, content_text, values_texts, entries_texts, value_text, table_text}
+use Rattle.amqp_text.specs.Values.{tag_text, truth_text, content_text, entries_texts, value_text, table_text}
 use Rattle.amqp_text.specs.Rendering.{rendered_after, rendered_behind, rendered_entry, rendered_items, rendered_nested, rendered_number, rendered_signed, rendered_table, rendered_tagged, rendered_value}
 use Rattle.amqp_text.proofs.ReadBack.{values_are, entries_are, entry_text}
 
@@ -57,8 +57,8 @@ module _ {A : Type 0} (item : Judge (List ℕ)) (Spells : List ℕ → A → Typ
   pub items_back : (before after bytes rest inner : List ℕ) (xs : List A) → SpellsLongString bytes inner → SpellsEach Spells inner xs → rendered_items item before after (bytes ++ rest) ≡ took (before ++ (parted (map text xs) ++ after)) (length bytes)
   unfolding rendered_items
   items_back before after bytes rest inner xs framed each =
-      ap (λ j. j >>= λ content. whole content.1 (read_map (λ texts. before ++ (parted texts ++ after)) (filled item 0 content.0))) (long_string_exact.taken bytes rest inner framed)
-      ∙ ap (λ r. whole (length bytes) (read_map (λ texts. before ++ (parted texts ++ after)) r)) (each_back inner xs each)
+      ap (λ j. j >>= λ content. took_all content.1 (read_map (λ texts. before ++ (parted texts ++ after)) (filled item 0 content.0))) (long_string_exact.taken bytes rest inner framed)
+      ∙ ap (λ r. took_all (length bytes) (read_map (λ texts. before ++ (parted texts ++ after)) r)) (each_back inner xs each)
 
 entry_back : (value : Judge (List ℕ)) (Spells : List ℕ → FieldValue → Type 0) → IsRenderedAs value Spells value_text → IsRenderedAs (rendered_entry value) (SpellsEntry Spells) entry_text
 unfolding rendered_entry entry_text

@@ -12,7 +12,8 @@ use Rattle.amqp_text.specs.declared.errors.TextError.{TextError}
 use Rattle.amqp_text.specs.declared.errors.TextError.TheVariants as texts
 use Rattle.amqp_text.specs.Slots.{property_name}
 use Rattle.amqp_text.specs.Rendering.{is_reserved}
-use Rattle.amqp_text.specs.Reading.{Reading, ◌>>=◌, first_is, read_form, read_slot, read_slots, strip, named, read_option, read_set, read_properties, constant_bytes, ReadsWord, ReadsSet, FindsText}
+use Rattle.amqp_types.specs.Reading.{Reading, ◌>>=◌}
+use Rattle.amqp_text.specs.Reading.{first_is, read_form, read_slot, read_slots, strip, named, read_option, read_set, read_properties, constant_bytes, ReadsWord, ReadsSet, FindsText}
 use Rattle.amqp_text.proofs.ReadWords.{chosen, other}
 use Rattle.amqp_text.proofs.ReadSteps.{failed, both_read, put_at}
 use Rattle.amqp_text.proofs.RenderedSlots.{kept, reserved}

@@ -12,7 +12,7 @@ use Rattle.amqp_types.specs.Slots.{Item, Form, number_form, flags_form, short_st
 use Rattle.amqp_types.specs.SlotBytes.{item_count}
 use Rattle.amqp_types.specs.SlotJudging.{judge_form}
 use Rattle.amqp_types.specs.SlotSpelling.{SpellsForm, SpellsSlots}
-use Rattle.amqp_types.specs.Properties.{Property, properties, later_properties}
+use Rattle.amqp_types.specs.Properties.{Property, properties}
 use Rattle.amqp_types.specs.PropertyJudging.{first_item}
 use Rattle.amqp_types.specs.PropertyLaws.{gives_one, give_one}
 use Rattle.amqp_types.specs.PropertySpelling.{SpellsOptional, SpellsSet, SpellsProperties}
@@ -22,6 +22,7 @@ use Rattle.amqp_types.proofs.Texts.{long_string_exact, short_string_exact}
 use Rattle.amqp_types.proofs.Sequences.{map_taken}
 use Rattle.amqp_values.proofs.SlotForms.{flags_of-map, forms_lawful, form_gives}
 use Rattle.amqp_values.proofs.SlotLaws.{both_true}
+use Rattle.amqp_properties.proofs.PropertyLaws.{one_each}
 use Rattle.amqp_text.specs.Words.{quoted, signs}
 use Rattle.amqp_text.specs.Slots.{form_text, slots_text, property_name, option_text, set_text}
 use Rattle.amqp_text.specs.Rendering.{rendered_form, rendered_option, rendered_properties, rendered_set, rendered_slot, rendered_slots}
@@ -104,10 +105,6 @@ set_back mask (p ∷ ps) one bytes rest options h =
     ap (λ bs. rendered_set mask (p ∷ ps) (bs ++ rest)) h.bytes_are ∙ both_back (rendered_option (flag_at mask p.bit) p) (rendered_set mask ps) (λ a b. a ++ b) h.front h.behind rest _ _ first second
     ∙ ap₂ (λ os bs. took (set_text (p ∷ ps) os) (length bs)) (sym h.joined) (sym h.bytes_are)
 
-pub give_one_each : give_one properties ≡ true
-unfolding properties later_properties
-give_one_each = refl
-
 number_spelled : (n : ℕ) → n < 2 ^ 16 → SpellsNumber bytes2 (number_bytes bytes2 n) n
 number_spelled n h = record { fits = h; bytes_are = refl }
 
@@ -120,5 +117,5 @@ properties_back bytes rest options h =
     ap (λ bs. rendered_properties (bs ++ rest)) h.bytes_are ∙ ap rendered_properties (append_assoc front h.behind rest)
     ∙ ap (λ j. j >>= λ mask. rendered_set mask.0 properties (drop mask.1 (front ++ tail)) >>= λ set. took set.0 (mask.1 + set.1)) ((number_exact bytes2).taken front tail h.mask (number_spelled h.mask h.fits))
     ∙ ap (λ bs. rendered_set h.mask properties bs >>= λ set. took set.0 (length front + set.1)) (drop_at front tail (length front) refl)
-    ∙ ap (λ j. j >>= λ set. took set.0 (length front + set.1)) (set_back h.mask properties give_one_each h.behind rest options h.set)
+    ∙ ap (λ j. j >>= λ set. took set.0 (length front + set.1)) (set_back h.mask properties one_each h.behind rest options h.set)
     ∙ ap (λ n. took text n) (sym (length-append front h.behind) ∙ ap length (sym h.bytes_are))

@@ -6,9 +6,8 @@ use Rattle.amqp_types.specs.Judging.{IsBytes}
 use Rattle.amqp_frame.specs.Outer.{BeginsWith}
 use Rattle.amqp_stream.specs.declared.errors.StreamError.{StreamError}
 use Rattle.amqp_stream.specs.declared.errors.StreamError.TheVariants as errors
-use Rattle.amqp_stream.specs.Errors.{Cause, write_failed, out_of_memory, cause_of}
+use Rattle.amqp_stream.specs.Errors.{cause_of}
 use Rattle.amqp_stream.specs.Ends.{Supply, Store, Takes, Gains, IsEmpty}
-use Rattle.amqp_stream.specs.Writing.{IsPrefix}
 use Rattle.amqp_stream.specs.Steps.{Manner}
 use Rattle.amqp_stream.specs.Transcribing.{transcript, IsSequence, IsBehindBy, IsCausedBy, IsWrittenUnless}
 use Rattle.amqp_text.specs.Lines.{line, lines}

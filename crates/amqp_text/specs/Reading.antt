@@ -2,6 +2,7 @@
 use Rattle.std.specs.Prelude.{◌≡◌, ℕ, zero, suc, ◌+◌, ◌-◌, ◌*◌, ◌%◌, ◌^◌, ◌==◌, nat_lt, nat_le, ◌&&◌, ◌||◌, List, [], ◌∷◌, ◌++◌, length, drop, codes, Bool, false, Option, Some, None, Result, Ok, Err, if◌then◌else◌}
 use Rattle.amqp_types.specs.Numbers.{NumberWidth, bytes1, bytes2, bytes4, bytes8, number_limit, number_bytes}
 use Rattle.amqp_types.specs.Booleans.{boolean_bytes}
+use Rattle.amqp_types.specs.Reading.{Reading, Reader, ◌>>=◌}
 use Rattle.amqp_types.specs.Strings.{short_string_bytes, with_length}
 use Rattle.amqp_types.specs.Flags.{bit_of}
 use Rattle.amqp_types.specs.Tags.{tag_at, tag_byte}
@@ -14,20 +15,6 @@ use Rattle.amqp_text.specs.Slots.{property_name}
 use Rattle.amqp_text.specs.declared.errors.TextError.{TextError}
 use Rattle.amqp_text.specs.declared.errors.TextError.TheVariants as texts
 use Rattle.amqp_types.specs.Constants.{inner_depth}
-
--- what was read, and the text after it
-abbrev pub Reading : Type 0 → Type 0
-Reading A = Option (A × List ℕ)
-
--- a way to read the front of a text; it is refused by None
-abbrev pub Reader : Type 0 → Type 0
-Reader A = List ℕ → Reading A
-
-infixl 10 ◌>>=◌
--- what follows goes on from what was read and the text after it
-abbrev pub ◌>>=◌ : {A B : Type 0} → Reading A → (A × List ℕ → Reading B) → Reading B
-None >>= f = None
-(Some x) >>= f = f x
 
 -- the first character is this one
 abbrev pub first_is : ℕ → List ℕ → Bool

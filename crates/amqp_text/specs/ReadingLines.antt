@@ -9,7 +9,8 @@ use Rattle.amqp_frame.specs.declared.frame_type.AMQPFrameType.TheVariants as kin
 use Rattle.amqp_frame.specs.Frames.{Raw}
 use Rattle.amqp_text.specs.declared.errors.TextError.{TextError}
 use Rattle.amqp_text.specs.declared.errors.TextError.TheVariants as texts
-use Rattle.amqp_text.specs.Reading.{Reading, Reader, ◌>>=◌, read_bits, read_unsigned, read_hex, read_slots, read_properties, strip}
+use Rattle.amqp_types.specs.Reading.{Reading, Reader, ◌>>=◌}
+use Rattle.amqp_text.specs.Reading.{read_bits, read_unsigned, read_hex, read_slots, read_properties, strip}
 
 -- a number of two bytes after a character
 unfoldable pub read_id : Reader ℕ

@@ -9,7 +9,7 @@ use Rattle.amqp_types.specs.Signed.{judge_signed}
 use Rattle.amqp_types.specs.Booleans.{judge_boolean}
 use Rattle.amqp_types.specs.Strings.{judge_short_string, judge_long_string}
 use Rattle.amqp_types.specs.Flags.{flag_at, judge_flags}
-use Rattle.amqp_types.specs.ValueJudging.{filled, read_map, whole, judge_decimal}
+use Rattle.amqp_types.specs.ValueJudging.{filled, read_map, took_all, judge_decimal}
 use Rattle.amqp_types.specs.Tags.{tag_at}
 use Rattle.amqp_types.specs.Slots.{Form, number_form, flags_form, short_string_form, long_string_form, table_form, Slot, kept_slot, reserved_slot}
 use Rattle.amqp_types.specs.SlotJudging.{judge_form}
@@ -30,7 +30,7 @@ rendered_entry value = judge_both judge_short_string value (λ key text. quoted 
 
 -- what fills an array or a table, between brackets
 unfoldable pub rendered_items : Judge (List ℕ) → List ℕ → List ℕ → Judge (List ℕ)
-rendered_items item before after bytes = judge_long_string bytes >>= λ content. whole content.1 (read_map (λ texts. before ++ (parted texts ++ after)) (filled item 0 content.0))
+rendered_items item before after bytes = judge_long_string bytes >>= λ content. took_all content.1 (read_map (λ texts. before ++ (parted texts ++ after)) (filled item 0 content.0))
 
 -- a table (section 4.2.5.5)
 unfoldable pub rendered_table : Judge (List ℕ) → Judge (List ℕ)

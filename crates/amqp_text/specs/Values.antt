@@ -9,7 +9,7 @@ use Rattle.amqp_text.specs.Words.{hex, quoted, parted}
 
 -- The tag letter, and a colon where something follows.
 abbrev pub tag_text : FieldTag → List ℕ
-tag_text tag.Void = codes "V"
+tag_text tag.Void = tag_byte tag.Void ∷ []
 tag_text t = tag_byte t ∷ codes ":"
 
 -- `1` for true, `0` for false
@@ -17,8 +17,8 @@ abbrev pub truth_text : Bool → List ℕ
 truth_text true = codes "1"
 truth_text false = codes "0"
 
--- content_text: what follows the tag letter. The bits of floats, doubles and times are unsigned numbers.
 abbrev mutual
+  -- what follows the tag letter; the bits of floats, doubles and times are unsigned numbers
   pub content_text : FieldValue → List ℕ
   content_text (boolean_value b) = truth_text b
   content_text (signed_value kind n) = signed_decimal n

@@ -52,7 +52,7 @@ pub(crate) const KINDS: [u8; 159] = [
     1, 114, 98, 127, 1, 115, 73, 127, 255, 255, 255, 206,
 ];
 
-/// `queue.declare` whose arguments are not in ascending key order, with a key that comes twice, a truth byte of 2 and
+/// `queue.declare` whose arguments are not in ascending key order, with duplicate keys, a truth byte of 2 and
 /// a tag that is never written.
 const UNORDERED: [u8; 36] = [
     1, 0, 1, 0, 0, 0, 28, 0, 50, 0, 10, 0, 0, 1, 113, 0, 0, 0, 0, 15, 1, 98, 86, 1, 97, 86, 1, 97,

@@ -221,7 +221,7 @@ fn write_tag(out: &mut Vec<u8>, tag: FieldTag) -> Result<(), NoMemory>
 {
     match tag {
         FieldTag::Void => {
-            out.push(b'V')?;
+            out.push(FieldTag::Void.to_byte())?;
             Ok(())
         }
         other => write_bytes(out, &[other.to_byte(), b':']),

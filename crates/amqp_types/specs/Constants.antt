@@ -1,9 +1,13 @@
 -- The numbers of the standard: the first byte of each type of frame and the last of all (AMQP 0-9-1, section 4.2.3), and how deep values nest.
-use Rattle.std.specs.Prelude.{ℕ}
+use Rattle.std.specs.Prelude.{ℕ, List, [], ◌∷◌}
 
 -- the first byte of a protocol header, an `A`
 abbrev pub protocol_byte : ℕ
 protocol_byte = 65
+
+-- what follows it there: `MQP` and a zero
+abbrev pub protocol_mark : List ℕ
+protocol_mark = 77 ∷ 81 ∷ 80 ∷ 0 ∷ []
 
 -- the first byte of a method frame
 abbrev pub method_byte : ℕ

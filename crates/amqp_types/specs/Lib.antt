@@ -6,6 +6,7 @@ pub mod Sequences
 pub mod Answers
 pub mod Errors
 pub mod Numbers
+pub mod Reading
 pub mod Booleans
 pub mod Writing
 pub mod Sizes

@@ -31,10 +31,18 @@ tags =
     tag.Boolean ∷ tag.ShortShortInt ∷ tag.ShortShortUInt ∷ tag.ShortInt ∷ tag.ShortUInt ∷ tag.LongInt ∷ tag.LongUInt ∷ tag.LongLongInt ∷
     tag.Float ∷ tag.Double ∷ tag.DecimalValue ∷ tag.LongString ∷ tag.FieldArray ∷ tag.Timestamp ∷ tag.FieldTable ∷ tag.ByteArray ∷ tag.Void ∷ []
 
--- the bytes `U` and `L` are read as `s` and `l`, and never written
+-- the byte `U`, which is read as `s`
+abbrev pub short_int_read_byte : ℕ
+short_int_read_byte = 85
+
+-- the byte `L`, which is read as `l`
+abbrev pub long_long_int_read_byte : ℕ
+long_long_int_read_byte = 76
+
+-- these two are read and never written
 abbrev pub IsReadOnly : ℕ → FieldTag → Type 0
-IsReadOnly byte tag.ShortInt = byte ≡ 85
-IsReadOnly byte tag.LongLongInt = byte ≡ 76
+IsReadOnly byte tag.ShortInt = byte ≡ short_int_read_byte
+IsReadOnly byte tag.LongLongInt = byte ≡ long_long_int_read_byte
 IsReadOnly byte t = ⊥
 
 -- the byte that is written, and at levels plain and tidy also one that is only read
@@ -51,8 +59,8 @@ tag_among (t ∷ ts) byte = if byte == tag_byte t then Some t else tag_among ts 
 -- the tag that a byte is read as
 abbrev pub tag_at : ℕ → Option FieldTag
 tag_at byte =
-    if byte == 85 then Some tag.ShortInt else (
-    if byte == 76 then Some tag.LongLongInt else
+    if byte == short_int_read_byte then Some tag.ShortInt else (
+    if byte == long_long_int_read_byte then Some tag.LongLongInt else
     tag_among tags byte)
 
 -- the tag of a value

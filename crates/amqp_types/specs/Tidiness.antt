@@ -1,4 +1,4 @@
--- Whether what is decoded stands as it is written, but for the values in it: no unused bit is set, and what is read and dropped holds its constant.
+-- Whether what is decoded is canonical, but for the values in it: no unused bit is set, and what is read and dropped holds its constant.
 use Rattle.std.specs.Prelude.{◌≡◌, ℕ, ◌^◌, ◌==◌, ◌&&◌, Bool, true, false, List, [], ◌∷◌, ◌++◌, take, drop, nat_lt, Option, Some, None, not}
 use Rattle.std.specs.Int.{w16, from_be_bytes}
 use Rattle.amqp_types.specs.Levels.{tidy}

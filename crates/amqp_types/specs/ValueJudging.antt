@@ -36,9 +36,9 @@ filled item (suc k) (b ∷ bytes) = filled item k bytes
 filled item zero (b ∷ bytes) = next_item (item (b ∷ bytes)) (λ n. filled item (n - 1) bytes)
 
 -- what was read out of n bytes
-abbrev pub whole : {A : Type 0} → ℕ → Result A Fault → Judged A
-whole n (Ok x) = took x n
-whole n (Err bad) = fault bad
+abbrev pub took_all : {A : Type 0} → ℕ → Result A Fault → Judged A
+took_all n (Ok x) = took x n
+took_all n (Err bad) = fault bad
 
 -- a key, and after it its value
 unfoldable pub judge_entry : Judge FieldValue → Judge Entry
@@ -48,13 +48,13 @@ judge_entry value = judge_both judge_short_string value (λ k v. (k, v))
 unfoldable pub judge_array : Judge FieldValue → Judge (List FieldValue)
 judge_array value bytes = do
   content ← judge_long_string bytes
-  whole content.1 (filled value 0 content.0)
+  took_all content.1 (filled value 0 content.0)
 
 -- a table: a length of four bytes, and entries that fill that many bytes; of duplicate keys the last one wins
 unfoldable pub judge_table : Judge FieldValue → Judge (List Entry)
 judge_table value bytes = do
   content ← judge_long_string bytes
-  whole content.1 (read_map settled (filled (judge_entry value) 0 content.0))
+  took_all content.1 (read_map settled (filled (judge_entry value) 0 content.0))
 
 -- ---- values
 

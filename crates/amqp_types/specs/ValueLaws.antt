@@ -35,7 +35,7 @@ SpelledIsBounded = (level : Level) (room : ℕ) (bytes : List ℕ) (v : FieldVal
 abbrev pub SettledIsSettling : Type 0
 SettledIsSettling = (entries table : List Entry) → IsSettled table entries ↔ (table ≡ settled entries)
 
--- An entry that is put into a table in order gives its key its value, leaves the values of all other keys, and the order.
+-- An entry that is put into a table gives its key its value, and leaves the values of all other keys and the ascending order.
 pub record InsertChangesOneKey : Type 0 where
   pub order : (es : List Entry) (key : List ℕ) (v : FieldValue) → IsRising es → IsRising (insert_entry (slice_cmp nat_cmp) es key v)
   pub own : (es : List Entry) (key : List ℕ) (v : FieldValue) → value_at key (insert_entry (slice_cmp nat_cmp) es key v) ≡ Some v

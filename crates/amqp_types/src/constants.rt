@@ -2,6 +2,9 @@
 
 use crate::aliases::ShortShortUInt;
 
+/// The first byte of a protocol header, the letter `A` of `AMQP`.
+pub const PROTOCOL_BYTE: ShortShortUInt = 65;
+
 /// The first byte of a method frame.
 pub const FRAME_METHOD: ShortShortUInt = 1;
 
@@ -14,7 +17,7 @@ pub const FRAME_BODY: ShortShortUInt = 3;
 /// The first byte of a heartbeat frame.
 pub const FRAME_HEARTBEAT: ShortShortUInt = 8;
 
-/// The last byte of each frame.
+/// The last byte of each frame but a protocol header.
 pub const FRAME_END: ShortShortUInt = 206;
 
 /// How many tables and arrays may stand one inside another.

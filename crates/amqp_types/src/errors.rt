@@ -75,6 +75,7 @@ pub enum ParserError {
 impl ParserError {
     ghost use Rattle.std.specs.Prelude.{◌≡◌};
     ghost use Rattle.amqp_types.specs.Errors.{parser_error_name, parser_error_number};
+    ghost use Rattle.amqp_types.specs.ValueJudging.{inside_error};
 
     /// The variant's number, from 1 on.
     pub fn number(&self) -> u8
@@ -113,6 +114,17 @@ impl ParserError {
             ParserError::UnknownTag => "UnknownTag",
             ParserError::TooDeep => "TooDeep",
             ParserError::NoMemory => "NoMemory",
+        }
+    }
+
+    /// The same refusal of what stands inside a payload, a table or an array whose bytes are all there: nothing is
+    /// missing then, it is the inside that is too short.
+    pub fn inside(self) -> ParserError
+        ensures { result ≡ inside_error self }
+    {
+        match self {
+            ParserError::Incomplete => ParserError::ShortPayload,
+            error => error,
         }
     }
 }

@@ -47,6 +47,7 @@ pub use constants::FRAME_HEARTBEAT;
 pub use constants::FRAME_METHOD;
 pub use constants::INNER_DEPTH;
 pub use constants::MAX_DEPTH;
+pub use constants::PROTOCOL_BYTE;
 pub use equality::equal_byte_arrays;
 pub use equality::equal_flags;
 pub use equality::equal_gen_errors;

@@ -1,5 +1,6 @@
 //! The error of making a value.
 
+use crate::errors::NoMemory;
 use std::alloc::AllocError;
 use thiserror::Error;
 
@@ -13,6 +14,17 @@ pub enum MakeError {
     /// Out of memory.
     #[error("NoMemory")]
     NoMemory,
+}
+
+impl From<NoMemory> for MakeError {
+    ghost use Rattle.std.specs.Prelude.{◌≡◌};
+    ghost use Rattle.amqp_types.specs.declared.make_error.MakeError.TheVariants as make_errors;
+
+    ghost from_gives = { λ _ error. error ≡ make_errors.NoMemory };
+
+    fn from(_error: NoMemory) -> MakeError {
+        MakeError::NoMemory
+    }
 }
 
 impl From<AllocError> for MakeError {

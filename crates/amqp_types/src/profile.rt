@@ -3,10 +3,10 @@
 /// Which encodings a reader accepts.
 #[derive(Clone, Copy, Debug, PartialEq, Eq)]
 pub enum Profile {
-    /// Every encoding that the standard's grammar gives, the ones that peers really send.
+    /// Every encoding of the grammar in docs/FORMAT.md, the ones that peers really send.
     Plain,
 
-    /// Only encodings in which all that is dropped stands as it is written: reserved fields, unused bits, the weight of
-    /// a header and the payload of a heartbeat.
+    /// Only encodings in which all that is dropped is as in the canonical encoding: reserved fields, unused bits, the
+    /// weight of a header and the payload of a heartbeat.
     Tidy,
 }

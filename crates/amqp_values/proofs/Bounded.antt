@@ -34,8 +34,8 @@ pub neither : (a b : Bool) → a ≡ false → b ≡ false → (a || b) ≡ fals
 neither true b p q = p
 neither false b p q = q
 
-short : (n : ℕ) → n < 2 ^ 32 → nat_le (2 ^ 32) n ≡ false
-short n h = grind (arith, nat_tests)
+pub below_limit : (n : ℕ) → n < 2 ^ 32 → nat_le (2 ^ 32) n ≡ false
+below_limit n h = grind (arith, nat_tests)
 
 -- ---- what stands inside
 
@@ -84,7 +84,7 @@ module _ (deep : ℕ) (Spells : List ℕ → FieldValue → Type 0) (bounded : B
 framed : (bytes inner canonical : List ℕ) → SpellsLongString bytes inner → length canonical ≤ length inner → (4 + length canonical ≤ length bytes) × (nat_le (2 ^ 32) (length canonical) ≡ false)
 framed bytes inner canonical h le =
     let all : length bytes ≡ 4 + length inner = ap length h.bytes_are ∙ omega arith in
-    (omega (arith, all), short (length canonical) (omega (arith, h.fits)))
+    (omega (arith, all), below_limit (length canonical) (omega (arith, h.fits)))
 
 module _ (deep : ℕ) (Spells : List ℕ → FieldValue → Type 0) (bounded : BoundedBy deep Spells) where
   pub array_bounded : (bytes : List ℕ) (vs : List FieldValue) → SpellsArray Spells bytes vs → Fits (length bytes) (suc deep) (array_value (values_of vs))

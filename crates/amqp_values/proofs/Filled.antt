@@ -6,7 +6,7 @@ use Rattle.amqp_types.specs.Judging.{Fault, Judged, Judge, took, past, fault, �
 use Rattle.amqp_types.specs.Strings.{judge_short_string, judge_long_string, SpellsShortString, SpellsLongString}
 use Rattle.amqp_types.specs.Values.{FieldValue, Entry}
 use Rattle.amqp_types.specs.Settling.{settled, IsSettled}
-use Rattle.amqp_types.specs.ValueJudging.{filled, next_item, read_map, whole, judge_entry, judge_array, judge_table}
+use Rattle.amqp_types.specs.ValueJudging.{filled, next_item, read_map, took_all, judge_entry, judge_array, judge_table}
 use Rattle.amqp_types.specs.ValueSpelling.{SpellsEach, SpellsEntry, SpellsArray, SpellsTable}
 use Rattle.amqp_types.proofs.Bytes.{IsBytes-take}
 use Rattle.amqp_types.proofs.Sequences.{both_exact}
@@ -16,7 +16,7 @@ use Rattle.amqp_values.proofs.Filling.{filled_next}
 use Rattle.amqp_values.proofs.Settling.{settles, settled_is}
 
 -- ---- what the steps took
-pub whole_took : {A : Type 0} (k : ℕ) (r : Result A Fault) (x : A) (n : ℕ) → whole k r ≡ took x n → (r ≡ Ok x) × (k ≡ n)
+pub whole_took : {A : Type 0} (k : ℕ) (r : Result A Fault) (x : A) (n : ℕ) → took_all k r ≡ took x n → (r ≡ Ok x) × (k ≡ n)
 whole_took k (Ok y) x n h = (ap Ok (value_took y x k n h), count_took y x k n h)
 whole_took k (Err bad) x n h = cc
 
@@ -89,7 +89,7 @@ module _ (value : Judge FieldValue) (Spells : List ℕ → FieldValue → Type 0
   array_taken : (bytes rest : List ℕ) (vs : List FieldValue) → SpellsArray Spells bytes vs → judge_array value (bytes ++ rest) ≡ took vs (length bytes)
   unfolding judge_array
   array_taken bytes rest vs h =
-      ap (λ j. j >>= λ c. whole c.1 (filled value 0 c.0)) (long_string_exact.taken bytes rest h.inner h.framed) ∙ ap (whole (length bytes)) (filled_taken value Spells exact some h.inner vs h.each)
+      ap (λ j. j >>= λ c. took_all c.1 (filled value 0 c.0)) (long_string_exact.taken bytes rest h.inner h.framed) ∙ ap (took_all (length bytes)) (filled_taken value Spells exact some h.inner vs h.each)
 
   pub array_exact : IsExact (judge_array value) (SpellsArray Spells)
   array_exact = record { spelled = array_spelled; taken = array_taken }
@@ -110,7 +110,7 @@ module _ (value : Judge FieldValue) (Spells : List ℕ → FieldValue → Type 0
   unfolding judge_table
   table_taken bytes rest es h =
       let read = filled_taken (judge_entry value) (SpellsEntry Spells) (entry_exact value Spells exact) (entry_some Spells) h.inner h.entries h.each in
-      ap (λ j. j >>= λ c. whole c.1 (read_map settled (filled (judge_entry value) 0 c.0))) (long_string_exact.taken bytes rest h.inner h.framed) ∙ ap (λ r. whole (length bytes) (read_map settled r)) read
+      ap (λ j. j >>= λ c. took_all c.1 (read_map settled (filled (judge_entry value) 0 c.0))) (long_string_exact.taken bytes rest h.inner h.framed) ∙ ap (λ r. took_all (length bytes) (read_map settled r)) read
       ∙ ap (λ x. took x (length bytes)) (settled_is h.entries es h.counts)
 
   pub table_exact : IsExact (judge_table value) (SpellsTable plain Spells)

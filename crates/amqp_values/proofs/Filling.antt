@@ -6,23 +6,23 @@ use Rattle.std.specs.BTreeMap.{insert_entry}
 use Rattle.amqp_types.specs.Values.{Entry}
 use Rattle.amqp_types.specs.Judging.{Fault, Judge, took}
 use Rattle.amqp_types.specs.Answers.{Refuses, RefusesWhole}
-use Rattle.amqp_types.specs.ValueJudging.{next_item, read_map, filled, whole, nested, judge_value, inside_error}
+use Rattle.amqp_types.specs.ValueJudging.{next_item, read_map, filled, took_all, nested, judge_value, inside_error}
 use Rattle.amqp_types.specs.Settling.{settled_on}
 use Rattle.amqp_types.specs.declared.errors.ParserError.{ParserError}
 use Rattle.amqp_types.specs.declared.errors.ParserError.TheVariants as errors
 
-pub refuses_whole : {A : Type 0} (error : ParserError) (n : ℕ) (r : Result A Fault) → RefusesWhole error r → Refuses error (whole n r)
+pub refuses_whole : {A : Type 0} (error : ParserError) (n : ℕ) (r : Result A Fault) → RefusesWhole error r → Refuses error (took_all n r)
 refuses_whole errors.Incomplete n r h = absurd h
-refuses_whole errors.UnknownFrameType n r h = ap (whole n) h
-refuses_whole errors.BadProtocolHeader n r h = ap (whole n) h
-refuses_whole errors.BadFrameEnd n r h = ap (whole n) h
-refuses_whole errors.UnknownClass n r h = ap (whole n) h
-refuses_whole errors.UnknownMethod n r h = ap (whole n) h
-refuses_whole errors.ShortPayload n r h = ap (whole n) h
-refuses_whole errors.TrailingBytes n r h = ap (whole n) h
-refuses_whole errors.NotUtf8 n r h = ap (whole n) h
-refuses_whole errors.UnknownTag n r h = ap (whole n) h
-refuses_whole errors.TooDeep n r h = ap (whole n) h
+refuses_whole errors.UnknownFrameType n r h = ap (took_all n) h
+refuses_whole errors.BadProtocolHeader n r h = ap (took_all n) h
+refuses_whole errors.BadFrameEnd n r h = ap (took_all n) h
+refuses_whole errors.UnknownClass n r h = ap (took_all n) h
+refuses_whole errors.UnknownMethod n r h = ap (took_all n) h
+refuses_whole errors.ShortPayload n r h = ap (took_all n) h
+refuses_whole errors.TrailingBytes n r h = ap (took_all n) h
+refuses_whole errors.NotUtf8 n r h = ap (took_all n) h
+refuses_whole errors.UnknownTag n r h = ap (took_all n) h
+refuses_whole errors.TooDeep n r h = ap (took_all n) h
 refuses_whole errors.NoMemory n r h = tt
 
 pub nested_none : (room : ℕ) → room ≡ 0 → nested room ≡ None

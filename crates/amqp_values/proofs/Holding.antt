@@ -1,5 +1,5 @@
 -- What programs hold: of the values left in an array, or the entries left in a table, it is held of all.
-use Rattle.std.proofs.Common.{◌≡◌, ℕ, suc, ◌+◌, ◌<◌, ◌≤◌, List, [], ◌∷◌, length, get_or, drop, drop-cons, add-one, map, sym, ap, subst, ◌∙◌, refl, arith}
+use Rattle.std.proofs.Common.{◌≡◌, ℕ, suc, ◌+◌, ◌<◌, ◌≤◌, List, [], ◌∷◌, length, get_or, drop, drop-cons, add-one, map, sym, ap, subst, ◌∙◌, arith}
 use Rattle.std.specs.Str.{IsUtf8}
 use Rattle.amqp_types.specs.Values.{FieldValue, Entry, table_value, values_of, entries_of, weight, entries_weight}
 use Rattle.amqp_types.specs.Settling.{IsRising}

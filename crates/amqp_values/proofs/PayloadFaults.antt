@@ -13,7 +13,7 @@ use Rattle.amqp_types.specs.Values.{FieldValue, SignedKind, UnsignedKind, BytesK
 use Rattle.amqp_types.specs.ValueBytes.{signed_width, unsigned_width}
 use Rattle.amqp_types.specs.Tags.{tag_at}
 use Rattle.amqp_types.specs.Settling.{settled}
-use Rattle.amqp_types.specs.ValueJudging.{filled, next_item, read_map, whole, judge_entry, judge_array, judge_table, judge_decimal, judge_signed_kind, judge_unsigned_kind, judge_bytes_kind, judge_behind, behind_tag, judge_tagged, nested, judge_value, judge_field_table}
+use Rattle.amqp_types.specs.ValueJudging.{filled, next_item, read_map, took_all, judge_entry, judge_array, judge_table, judge_decimal, judge_signed_kind, judge_unsigned_kind, judge_bytes_kind, judge_behind, behind_tag, judge_tagged, nested, judge_value, judge_field_table}
 use Rattle.amqp_types.specs.Slots.{Form, number_form, flags_form, short_string_form, long_string_form, table_form, Slot, kept_slot, reserved_slot}
 use Rattle.amqp_types.specs.SlotJudging.{judge_form, judge_dropped, judge_slot, judge_slots}
 use Rattle.amqp_types.specs.Rows.{rows_of, slots_at}
@@ -98,7 +98,7 @@ filled_inside item one k [] bad h = cc
 filled_inside item one (suc k) (b ∷ bytes) bad h = filled_inside item one k bytes bad h
 filled_inside item one zero (b ∷ bytes) bad h = next_inside (item (b ∷ bytes)) (λ n. filled item (n - 1) bytes) (one (b ∷ bytes)) (λ n. filled_inside item one (n - 1) bytes) bad h
 
-whole_inside : {A : Type 0} (n : ℕ) (r : Result A Fault) → ReadInside r → Inside (whole n r)
+whole_inside : {A : Type 0} (n : ℕ) (r : Result A Fault) → ReadInside r → Inside (took_all n r)
 whole_inside n (Ok x) one bad h = took_inside x n bad h
 whole_inside n (Err first) one bad h = let same : first ≡ bad = cc in one bad (ap Err same)
 

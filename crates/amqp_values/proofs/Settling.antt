@@ -12,7 +12,8 @@ use Rattle.amqp_types.specs.Values.{FieldValue, Entry}
 use Rattle.amqp_types.specs.ValueLaws.{InsertChangesOneKey}
 use Rattle.amqp_types.specs.Settling.{IsRising, value_at, later, last_at, IsSettled, settled_on, settled}
 
-abbrev cmp : List ℕ → List ℕ → Ordering
+-- the order of keys
+abbrev pub cmp : List ℕ → List ℕ → Ordering
 cmp = slice_cmp nat_cmp
 
 same_key : (k l : List ℕ) → cmp k l ≡ Equal → k ≡ l
@@ -94,20 +95,21 @@ rising-settled_on : (found es : List Entry) → IsRising found → IsRising (set
 rising-settled_on found [] s = s
 rising-settled_on found (e ∷ es) s = rising-settled_on (insert_entry cmp found e.0 e.1) es (rising-insert_entry found e.0 e.1 s)
 
-none_risen : IsStrictlySortedBy cmp (keys_of {X = FieldValue} [])
+pub none_risen : IsStrictlySortedBy cmp (keys_of {X = FieldValue} [])
 unfolding IsStrictlySortedBy
 none_risen = tt
 
 -- ---- two tables with the same value at each key are one
-absent : (q : List ℕ) (es : List Entry) → AllByRecursion (λ y. cmp q y ≡ Less) (keys_of es) → value_at q es ≡ None
+-- a key below all of a table has no value in it
+pub absent : (q : List ℕ) (es : List Entry) → AllByRecursion (λ y. cmp q y ≡ Less) (keys_of es) → value_at q es ≡ None
 absent q [] r = refl
 absent q (e ∷ es) r = ap (λ o. cond (is_eq o) (Some e.1) (value_at q es)) r.0 ∙ absent q es r.1
 
 own : (q : List ℕ) → is_at (cmp q) q ≡ true
 own q = ap is_eq (tied_itself nat_list_cmp_total q)
 
-here : (e : Entry) (es : List Entry) → value_at e.0 (e ∷ es) ≡ Some e.1
-here e es = ap (λ b. cond b (Some e.1) (value_at e.0 es)) (own e.0)
+pub first_value : (e : Entry) (es : List Entry) → value_at e.0 (e ∷ es) ≡ Some e.1
+first_value e es = ap (λ b. cond b (Some e.1) (value_at e.0 es)) (own e.0)
 
 -- the tails agree where the wholes do, under one first key that is in neither tail
 tails : (b : Bool) (q : List ℕ) (x y : Entry) (xs ys : List Entry) → is_at (cmp q) x.0 ≡ b → x.0 ≡ y.0 → AllByRecursion (λ k. cmp x.0 k ≡ Less) (keys_of xs) → AllByRecursion (λ k. cmp y.0 k ≡ Less) (keys_of ys)
@@ -121,21 +123,21 @@ tails false q x y xs ys is same r s h =
 first_two : (o : Ordering) (x y : Entry) (xs ys : List Entry) → cmp x.0 y.0 ≡ o → IsRising (x ∷ xs) → IsRising (y ∷ ys) → ((q : List ℕ) → value_at q (x ∷ xs) ≡ value_at q (y ∷ ys))
     → (((q : List ℕ) → value_at q xs ≡ value_at q ys) → xs ≡ ys) → x ∷ xs ≡ y ∷ ys
 unfolding IsStrictlySortedBy
-first_two Less x y xs ys is s t h more = let e = sym (here x xs) ∙ h x.0 ∙ absent x.0 (y ∷ ys) (is, above x.0 y.0 (keys_of ys) is t.0) in cc
+first_two Less x y xs ys is s t h more = let e = sym (first_value x xs) ∙ h x.0 ∙ absent x.0 (y ∷ ys) (is, above x.0 y.0 (keys_of ys) is t.0) in cc
 first_two Greater x y xs ys is s t h more =
     let less : cmp y.0 x.0 ≡ Less = nat_list_cmp_total.antisymm y.0 x.0 ∙ ap ordering_reverse is in
-    let e = sym (here y ys) ∙ sym (h y.0) ∙ absent y.0 (x ∷ xs) (less, above y.0 x.0 (keys_of xs) less s.0) in cc
+    let e = sym (first_value y ys) ∙ sym (h y.0) ∙ absent y.0 (x ∷ xs) (less, above y.0 x.0 (keys_of xs) less s.0) in cc
 first_two Equal x y xs ys is s t h more =
     let same = same_key x.0 y.0 is in
-    let value : Some x.1 ≡ Some y.1 = sym (here x xs) ∙ h x.0 ∙ ap (λ k. value_at k (y ∷ ys)) same ∙ here y ys in
+    let value : Some x.1 ≡ Some y.1 = sym (first_value x xs) ∙ h x.0 ∙ ap (λ k. value_at k (y ∷ ys)) same ∙ first_value y ys in
     let second : x.1 ≡ y.1 = cc in
     λ i. (same i, second i) ∷ more (λ q. tails _ q x y xs ys refl same s.0 t.0 (h q)) i
 
 only_one : (xs ys : List Entry) → IsRising xs → IsRising ys → ((q : List ℕ) → value_at q xs ≡ value_at q ys) → xs ≡ ys
 unfolding IsStrictlySortedBy
 only_one [] [] s t h = refl
-only_one [] (y ∷ ys) s t h = let e = h y.0 ∙ here y ys in cc
-only_one (x ∷ xs) [] s t h = let e = sym (here x xs) ∙ h x.0 in cc
+only_one [] (y ∷ ys) s t h = let e = h y.0 ∙ first_value y ys in cc
+only_one (x ∷ xs) [] s t h = let e = sym (first_value x xs) ∙ h x.0 in cc
 only_one (x ∷ xs) (y ∷ ys) s t h = first_two (cmp x.0 y.0) x y xs ys refl s t h (only_one xs ys s.1 t.1)
 
 later-None : (a : Option FieldValue) → later a None ≡ a

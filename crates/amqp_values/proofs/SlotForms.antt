@@ -1,5 +1,5 @@
 -- The laws of the forms of fields, and what they give.
-use Rattle.std.proofs.Common.{◌≡◌, ℕ, suc, ◌<◌, ◌≤◌, ◌^◌, nat_lt, nat_le, ◌||◌, Bool, true, false, List, [], ◌∷◌, length, map, refl, sym, ap, subst, ◌∙◌, arith}
+use Rattle.std.proofs.Common.{◌≡◌, ℕ, suc, ◌≤◌, nat_lt, Bool, false, List, [], ◌∷◌, length, map, refl, sym, ap, subst, ◌∙◌, arith}
 use Rattle.std.proofs.lemmas.Bool.Decides.{nat_tests}
 use Rattle.amqp_types.specs.Levels.{plain}
 use Rattle.amqp_types.specs.Numbers.{number_bytes, judge_number, SpellsNumber}
@@ -17,7 +17,7 @@ use Rattle.amqp_types.specs.SlotLaws.{FormsAreLawful}
 use Rattle.amqp_types.proofs.FlagBytes.{flags_from_length}
 use Rattle.amqp_types.proofs.FormLaws.{numbers_lawful, short_strings_lawful, long_strings_lawful, flags_lawful}
 use Rattle.amqp_types.proofs.Lawful.{mapped_lawful}
-use Rattle.amqp_values.proofs.Bounded.{value_bounded, table_bounded, neither}
+use Rattle.amqp_values.proofs.Bounded.{value_bounded, table_bounded, neither, below_limit}
 use Rattle.amqp_values.proofs.ValueLaws.{tables_lawful}
 
 pub flags_of-map : (flags : List Bool) → flags_of (map flag_item flags) ≡ flags
@@ -50,9 +50,6 @@ flags_not_long : (flags : List Bool) → any_long (map flag_item flags) ≡ fals
 flags_not_long [] = refl
 flags_not_long (flag ∷ flags) = flags_not_long flags
 
-below : (n : ℕ) → n < 2 ^ 32 → nat_le (2 ^ 32) n ≡ false
-below n h = grind (arith, nat_tests)
-
 low : (n : ℕ) → n ≤ 64 → nat_lt 64 n ≡ false
 low n h = grind (arith, nat_tests)
 
@@ -67,7 +64,7 @@ form_gives (flags_form count) bytes items h =
       not_long = flags_not_long h.thing;
     })
 form_gives short_string_form bytes items h = subst (Gives short_string_form) (sym h.made) (record { count = refl; not_deep = refl; not_long = refl })
-form_gives long_string_form bytes items h = subst (Gives long_string_form) (sym h.made) (record { count = refl; not_deep = refl; not_long = neither _ false (below (length h.thing) h.spelled.fits) refl })
+form_gives long_string_form bytes items h = subst (Gives long_string_form) (sym h.made) (record { count = refl; not_deep = refl; not_long = neither _ false (below_limit (length h.thing) h.spelled.fits) refl })
 form_gives table_form bytes items h =
     let b = table_bounded 63 (SpellsValue plain 63) (value_bounded 63) bytes h.thing h.spelled in
     subst (Gives table_form) (sym h.made) (record { count = refl; not_deep = neither _ false (low (depth (table_value (entries_of h.thing))) b.not_deep) refl; not_long = neither _ false b.not_long refl })

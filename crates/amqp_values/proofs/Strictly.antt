@@ -138,7 +138,7 @@ in_order found (e ∷ es) s =
     let next : found ++ e ∷ es ≡ (found ++ e ∷ []) ++ es = sym (append_assoc found (e ∷ []) es) in
     ap (λ xs. settled_on xs es) (insert_last found e es s) ∙ in_order (found ++ e ∷ []) es (subst P next s) ∙ sym next
 
--- a table in order is settled from its own entries
+-- a table in ascending key order is settled from its own entries
 own_settled : (es : List Entry) → IsRising es → IsSettled es es
 own_settled es s = let P : List Entry → Type 0 = λ xs. IsSettled xs es in subst P (in_order [] es s) (settles es)
 

@@ -2,7 +2,7 @@
 use Rattle.std.proofs.Common.{◌≡◌, ℕ, Bool, true, false, eqb, cond, List, [], ◌∷◌, Option, Some, inl, inr, refl, subst, arith}
 use Rattle.std.proofs.lemmas.Bool.Decides.{nat_tests}
 use Rattle.amqp_types.specs.Levels.{plain}
-use Rattle.amqp_types.specs.Tags.{tag_byte, tag_among, tag_at, tags, SpellsTag}
+use Rattle.amqp_types.specs.Tags.{short_int_read_byte, long_long_int_read_byte, tag_byte, tag_among, tag_at, tags, SpellsTag}
 use Rattle.amqp_types.specs.declared.tag.FieldTag.{FieldTag}
 use Rattle.amqp_types.specs.declared.tag.FieldTag.TheVariants as tag
 
@@ -22,7 +22,7 @@ among_spelled (u ∷ ts) byte t h = tested (eqb byte (tag_byte u)) byte (tag_byt
 
 pub tag_spelled : (byte : ℕ) (t : FieldTag) → tag_at byte ≡ Some t → SpellsTag plain byte t
 tag_spelled byte t h =
-    tested (eqb byte 85) byte 85 t tag.ShortInt _ refl (inr refl) (tested (eqb byte 76) byte 76 t tag.LongLongInt _ refl (inr refl) (among_spelled tags byte t)) h
+    tested (eqb byte short_int_read_byte) byte short_int_read_byte t tag.ShortInt _ refl (inr refl) (tested (eqb byte long_long_int_read_byte) byte long_long_int_read_byte t tag.LongLongInt _ refl (inr refl) (among_spelled tags byte t)) h
 
 pub tag_read : (byte : ℕ) (t : FieldTag) → SpellsTag plain byte t → tag_at byte ≡ Some t
 tag_read byte tag.Boolean (inl e) = rw e

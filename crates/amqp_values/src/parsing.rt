@@ -3,7 +3,7 @@
 ghost use Rattle.std.specs.Prelude.{◌≡◌, ◌≤◌, ◌<◌, length, IfOk};
 ghost use Rattle.amqp_types.specs.Answers.{Answers, AnswersFully, AnswersWhole};
 ghost use Rattle.amqp_types.specs.Settling.{settled};
-ghost use Rattle.amqp_types.specs.ValueJudging.{read_map, filled, nested, inside_error, judge_entry, judge_array, judge_table, judge_decimal, judge_behind, judge_value, judge_field_value, judge_field_array, judge_field_table};
+ghost use Rattle.amqp_types.specs.ValueJudging.{read_map, filled, nested, judge_entry, judge_array, judge_table, judge_decimal, judge_behind, judge_value, judge_field_value, judge_field_array, judge_field_table};
 ghost use Rattle.amqp_types.specs.ValueBytes.{tagged_bytes, tagged_size, array_bytes, array_size, table_bytes, table_size};
 ghost use Rattle.amqp_types.specs.ValueLaws.{IsNoLonger};
 ghost use Rattle.amqp_values.specs.Views.{value_of, entry_of};
@@ -26,16 +26,6 @@ pub fn parse_decimal_value(i: &[u8]) -> Result<(usize, DecimalValue), ParserErro
     let (n, scale) = parse_short_short_uint(i)?;
     let (m, value) = parse_long_uint(&i[n..])?;
     Ok((n + m, DecimalValue { scale, value }))
-}
-
-/// A refusal of what stands inside a table or an array whose bytes are all there.
-fn inside(error: ParserError) -> ParserError
-    ensures { result ≡ inside_error error }
-{
-    match error {
-        ParserError::Incomplete => ParserError::ShortPayload,
-        error => error,
-    }
 }
 
 /// Decodes a tag and its value, in which tables and arrays may nest `room` deep.
@@ -176,7 +166,7 @@ fn values_in(alloc: Global, content: &[u8], room: usize) -> Result<FieldArray, P
     while at < content.len() {
         let (n, value) = match value_within(alloc, &content[at..], room) {
             Ok(found) => found,
-            Err(error) => return Err(inside(error)),
+            Err(error) => return Err(error.inside()),
         };
         array.push(value)?;
         at += n;
@@ -194,7 +184,7 @@ fn entries_in(alloc: Global, content: &[u8], room: usize) -> Result<FieldTable, 
     while at < content.len() {
         let (n, (key, value)) = match entry_within(alloc, &content[at..], room) {
             Ok(found) => found,
-            Err(error) => return Err(inside(error)),
+            Err(error) => return Err(error.inside()),
         };
         table.insert(key, value)?;
         at += n;

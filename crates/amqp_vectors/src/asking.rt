@@ -14,7 +14,7 @@ pub fn same<T: PartialEq + Debug + Drop>(found: T, wanted: T) -> Result<(), Fail
     Err(Fail::new(format_args!("{found:?} is not {wanted:?}")))
 }
 
-/// Fails, with the name of the row, unless the two are equal.
+/// Fails, with the name of the case, unless the two are equal.
 pub fn same_in<T: PartialEq + Debug + Drop>(row: &str, found: T, wanted: T) -> Result<(), Fail> {
     if found == wanted {
         return Ok(());

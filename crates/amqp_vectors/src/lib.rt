@@ -1,4 +1,4 @@
-//! Tests of numbers, strings, flags and errors: worked rows of bytes with what they are read as and
+//! Tests of numbers, strings, flags and errors: worked cases of bytes with what they are read as and
 //! written as, and each call once.
 #![tactic(auto)]
 

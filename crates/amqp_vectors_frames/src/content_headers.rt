@@ -38,7 +38,7 @@ fn none() -> AMQPContentHeader {
     with(AMQPProperties::default())
 }
 
-/// The one of a text. Where memory is refused it has none, and its row fails.
+/// The one of a text. Where memory is refused it has none, and its case fails.
 fn text(alloc: Global) -> AMQPContentHeader {
     let content_type = ShortString::new(alloc, "text/plain");
     with(AMQPProperties {

@@ -1,9 +1,10 @@
-//! Tests of frames: worked rows of bytes with what they are read as and written as, each call once, and
+//! Tests of frames: worked cases of bytes with what they are read as and written as, each call once, and
 //! memory that is refused.
 #![tactic(auto)]
 
 #[cfg(test)]
-mod answering;
+mod answered;
+pub mod answering;
 #[cfg(test)]
 mod bodies;
 #[cfg(test)]

@@ -1,4 +1,4 @@
-//! How a row is tested: a frame, and bytes that begin with it. Frames are handed on by value:
+//! How a case is tested: a frame, and bytes that begin with it. Frames are handed on by value:
 //! whoever owns one of many kinds where the ways part pays for each of them in the proof.
 
 use amqp_frame::{

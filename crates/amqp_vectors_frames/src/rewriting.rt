@@ -1,7 +1,9 @@
 //! Canonical bytes that are put in place of a borrowed frame, and how such a frame is decoded.
 
 use amqp_frame::AMQPFrameType::{self, Body, Header, Heartbeat, Method, ProtocolHeader};
-use amqp_frame::{AMQPRawFrame, FrameJudgement, Mark, ParserError, judge_frame, put_canonical};
+use amqp_frame::{
+    AMQPRawFrame, EntryMark, FrameJudgement, ParserError, judge_frame, put_canonical,
+};
 use amqp_vectors::asking::same;
 use std::test::Fail;
 
@@ -23,7 +25,7 @@ const ROWS: [Row; 8] = [
         &[0, 85, 0, 10, 255],
         &[1, 0, 3, 0, 0, 0, 5, 0, 85, 0, 10, 1, 206],
     ),
-    // A table whose keys are not in ascending order, with one of them twice.
+    // A table whose keys are not in ascending order, with duplicates.
     (
         Method,
         1,
@@ -54,7 +56,7 @@ fn puts(raw: AMQPRawFrame<'_>, wanted: &[u8]) -> bool {
     if raw.payload.len() > 40 {
         return false;
     }
-    let mut scratch = [Mark::default(); 20];
+    let mut scratch = [EntryMark::default(); 20];
     let mut buf = [7; 64];
     match put_canonical(&mut buf, 1, &mut scratch, raw) {
         Ok(end) => buf[0] == 7 && &buf[1..end] == wanted && buf[end..].iter().all(|b| *b == 7),

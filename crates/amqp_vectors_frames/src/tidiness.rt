@@ -38,7 +38,7 @@ const METHODS: [Row; 12] = [
         ],
         true,
     ),
-    // A key twice, and a true value that is encoded as 7.
+    // Duplicate keys, and a true value that is encoded as 7.
     (
         Method,
         &[
@@ -77,7 +77,7 @@ fn decided(alloc: Global, frame_type: AMQPFrameType, payload: &[u8]) -> Result<b
     Ok(is_tidy(raw))
 }
 
-/// Fails unless each payload is tidy where its row says so.
+/// Fails unless each payload is tidy where its case says so.
 fn are_decided(alloc: Global, rows: &[Row]) -> Result<(), Fail> {
     for (frame_type, payload, tidy) in rows {
         same(decided(alloc, *frame_type, payload)?, *tidy)?;

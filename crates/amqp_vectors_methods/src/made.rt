@@ -1,4 +1,4 @@
-//! What the fields of methods are made with. Where memory is refused they are empty, and the row that
+//! What the fields of methods are made with. Where memory is refused they are empty, and the case that
 //! they are written in fails.
 
 use amqp_types::{LongString, ShortString};

@@ -1,4 +1,4 @@
-//! How a row is tested: a method, and the bytes of the payload that it is written in.
+//! How a case is tested: a method, and the bytes of the payload that it is written in.
 
 ghost use Rattle.std.specs.Prelude.{◌≡◌, true, length, IsOk};
 
@@ -80,7 +80,7 @@ pub fn agrees<M: PartialEq + Drop, E: Drop>(
     )))
 }
 
-/// Calls the calls of a value, and fails unless they agree with its row.
+/// Calls the calls of a value, and fails unless they agree with its case.
 macro_rules! agree {
     ($alloc:ident, $value:ident, $out:ident, $written:ident, $bytes:ident; $gen:ident, $size:ident, $put:ident, $parse:ident, $copied:expr) => {{
         let appended = $gen($alloc, $out, $value);

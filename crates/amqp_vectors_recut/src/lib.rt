@@ -1,4 +1,4 @@
-//! Tests of recutting: worked rows, ends that fail, memory that is refused, and made streams whose messages are
+//! Tests of recutting: worked cases, ends that fail, memory that is refused, and made streams whose messages are
 //! assembled by a second way.
 #![tactic(auto)]
 

@@ -1,4 +1,4 @@
-//! Worked rows of recutting: what is written, and how the stream ends.
+//! Worked cases of recutting: what is written, and how the stream ends.
 
 use amqp_content::ContentFault;
 use amqp_recut::{RecutError, recut};
@@ -134,7 +134,7 @@ const UNEXPECTED_BODY: Result<(), RecutError> = Err(RecutError::BadContent(
     ContentFault::UnexpectedBody,
 ));
 
-/// What a row is about, the size, the input, what is written of it, and how the stream ends.
+/// What a case is about, the size, the input, what is written of it, and how the stream ends.
 type Row = (
     &'static str,
     u32,
@@ -148,7 +148,7 @@ fn front(bytes: &'static [u8], count: usize) -> &'static [u8] {
     bytes.get(..count).unwrap_or(&[])
 }
 
-/// The rows.
+/// The cases.
 fn rows() -> [Row; 20] {
     [
         ("cut by 1", 1, &MESSAGE, &BY_ONE, Ok(())),
@@ -242,7 +242,7 @@ pub fn recut_by_size<S: Source, K: Sink>(
     Ok(recut(alloc, source, sink, limit, size, 10_000))
 }
 
-/// What a row writes, whatever pieces it comes in.
+/// What a case writes, whatever pieces it comes in.
 fn check(alloc: Global, row: Row, pieces: &[usize]) -> Result<(), Fail> {
     let (name, size, input, written, outcome) = row;
     let mut source = PieceSource::new(input, pieces, &[]);

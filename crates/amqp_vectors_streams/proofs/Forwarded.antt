@@ -2,7 +2,6 @@
 use Rattle.std.proofs.Common.{◌≡◌, ℕ, ◌+◌, ◌-◌, ◌*◌, ◌<◌, ◌≤◌, List, [], ◌∷◌, ◌++◌, length, take, drop, Option, Some, None, Result, Ok, Err, IsErrAnd, inl, inr, refl, sym, ap, subst, ◌∙◌, arith, append_assoc, append-nil}
 use Rattle.std.proofs.lemmas.Bool.{cases_lt}
 use Rattle.std.proofs.lemmas.List.{length-append, length-drop, take-append-drop}
-use Rattle.std.proofs.lemmas.List.Concat.{flat_map-append}
 use Rattle.std.proofs.Math.Nat.{mul-le-mul_right}
 use Rattle.amqp_types.specs.Levels.{plain}
 use Rattle.amqp_types.specs.Judging.{IsBytes}
@@ -15,6 +14,7 @@ use Rattle.amqp_frame.specs.declared.raw_frame.AMQPRawFrame.{AMQPRawFrame}
 use Rattle.amqp_frame.proofs.OuterLook.{outer-in_bounds}
 use Rattle.amqp_frame.proofs.Cuts.{ComesBefore-none, ComesBefore-more, verdict-whole, front-none, place-none}
 use Rattle.amqp_frame.proofs.Sequences.{sequence_of_all}
+use Rattle.amqp_frame.proofs.Strictness.{canon_frames-more}
 use Rattle.amqp_stream.specs.declared.errors.ReadError.{ReadError}
 use Rattle.amqp_stream.specs.declared.errors.ReadError.TheVariants as reads
 use Rattle.amqp_stream.specs.declared.errors.StreamError.{StreamError}
@@ -99,9 +99,6 @@ Forwarded-pulled {before = before} {turns_old = turns_old} {turns = turns} {turn
       precedes = f.precedes;
       gains = f.gains;
     }
-
-canon_frames-more : (frames : List Frame) (f : Frame) → canon_frames (frames ++ f ∷ []) ≡ canon_frames frames ++ canon f
-canon_frames-more frames f = flat_map-append canon frames (f ∷ []) ∙ ap (λ (xs : List ℕ). canon_frames frames ++ xs) (append-nil (canon f))
 
 -- the frame at the front of the rest was written
 Forwarded-frame : {m : ℕ} {before : List ℕ} {turns_old turns : ℕ} {a b : Supply} {k l l' : Store} {rest after : List ℕ} {raw : Raw} {done : Unit {0}} → Forwarded m before turns_old turns a b k l rest 0 → IsBytes rest → IsPassed m rest after raw → WritesFrame raw l l' [] [] (Ok done) → Forwarded m before turns_old turns a b k l' after 0

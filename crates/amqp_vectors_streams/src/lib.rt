@@ -1,4 +1,4 @@
-//! Tests of streams that cross crates: worked rows, hostile cases, ends that fail, the generated stream, names of
+//! Tests of streams that cross crates: worked cases, hostile cases, ends that fail, the generated stream, names of
 //! faults, writers of the tests' own, a proxy, a loop over frames, and memory that is refused.
 #![tactic(auto)]
 

@@ -61,7 +61,7 @@ const BODY: [u8; 11] = [3, 0, 1, 0, 0, 0, 3, 1, 2, 3, 206];
 /// A method without a table.
 const METHOD: [u8; 12] = [1, 0, 1, 0, 0, 0, 4, 0, 90, 0, 10, 206];
 
-/// A method with a table that has one key twice. Its canonical bytes are 4 fewer.
+/// A method with a table with duplicate keys. Its canonical bytes are 4 fewer.
 const TABLE: [u8; 28] = [
     1, 0, 1, 0, 0, 0, 20, 0, 50, 0, 10, 0, 0, 0, 31, 0, 0, 0, 8, 1, 97, 116, 0, 1, 97, 116, 7, 206,
 ];

@@ -1,4 +1,4 @@
-//! Worked rows of bytes, with what is written for them, or how they end.
+//! Worked cases of bytes, with what is written for them, or how they end.
 
 use crate::asking::{HEARTBEAT, MESSAGE, START, START_IN_ORDER, canonicalizes};
 use amqp_stream::StreamError;

@@ -132,7 +132,7 @@ fn only_tidy_bytes_are_taken(rt: HostRuntime) -> Result<(), Fail> {
     Ok(())
 }
 
-/// At the profile that takes all, which `canonicalize` is, the same rows are never refused as not tidy.
+/// At the profile that takes all, which `canonicalize` is, the same cases are never refused as not tidy.
 #[test]
 fn all_bytes_are_taken_elsewhere(rt: HostRuntime) -> Result<(), Fail> {
     for (row, bytes, outcome, _) in ROWS {

@@ -1,4 +1,4 @@
-//! Tests of values, arrays and tables: worked rows of bytes with what they are read as and written as,
+//! Tests of values, arrays and tables: worked cases of bytes with what they are read as and written as,
 //! each call once, and memory that is refused.
 #![tactic(auto)]
 

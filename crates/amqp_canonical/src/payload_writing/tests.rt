@@ -9,7 +9,7 @@ use crate::writing_laws::written_is_no_longer;
 fn writes(i: &[u8], wanted: &[u8]) -> bool {
     written_is_no_longer();
     let mut buf = [9; 200];
-    let mut scratch = [Mark::default(); 100];
+    let mut scratch = [EntryMark::default(); 100];
     match judge_payload(i) {
         Ok(judged) if judged.used <= buf.len() => {
             let end = put_payload(&mut buf, 0, &mut scratch, i);
@@ -23,7 +23,7 @@ fn writes(i: &[u8], wanted: &[u8]) -> bool {
 fn writes_header(i: &[u8], wanted: &[u8]) -> bool {
     written_is_no_longer();
     let mut buf = [9; 200];
-    let mut scratch = [Mark::default(); 100];
+    let mut scratch = [EntryMark::default(); 100];
     match judge_content_header(i) {
         Ok(judged) if judged.used <= buf.len() => {
             let end = put_content_header(&mut buf, 0, &mut scratch, i);

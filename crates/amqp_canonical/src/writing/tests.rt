@@ -11,7 +11,7 @@ fn written(alloc: Global, i: &[u8], marks: usize) -> Option<Vec<u8>> {
     written_is_no_longer();
     let judged = judge_table(i, 63).ok()?;
     let mut scratch = Vec::new(alloc);
-    scratch.resize(marks, Mark::default()).ok()?;
+    scratch.resize(marks, EntryMark::default()).ok()?;
     let mut buf = Vec::new(alloc);
     buf.resize(judged.used + 1, 7).ok()?;
     let end = put_table(&mut buf, 1, &mut scratch, i, 63);

@@ -6,7 +6,7 @@ use Rattle.amqp_canonical.specs.Marks.{IsMarkOf}
 use Rattle.amqp_canonical.specs.Writes.{entry_bytes}
 use Rattle.amqp_canonical.proofs.Leading.{all_marked}
 use Rattle.std.proofs.lemmas.List.{take_more_set, length-set, take_rest}
-use Rattle.amqp_canonical.specs.declared.marks.Mark.{Mark}
+use Rattle.amqp_canonical.specs.declared.marks.EntryMark.{EntryMark}
 use Rattle.amqp_canonical.proofs.Marking.{MarkedTo, marked_next, marked_end}
 use Rattle.amqp_canonical.proofs.PutParts.{copied_as}
 use Rattle.amqp_canonical.proofs.marks.mark_entries.Goals as goal
@@ -21,7 +21,7 @@ loop-at-preserved c =
     let marks = c.loop-at.marks in
     let content = c.args.content.now in
     let span = c.entry_span-span.result in
-    let mark : Mark = record { lead = c.first_eight.result; place = at; more = c.next_two.result; size = c.size_copied.result } in
+    let mark : EntryMark = record { lead = c.first_eight.result; place = at; more = c.next_two.result; size = c.size_copied.result } in
     let more : count < length marks = omega (arith, c.loop-at.invariant.1, c.if-count-marks.false) in
     let key = (rw take_rest at c.split_key.ensures.key) in
     let sized = rw take_rest at c.entry_span-span.ensures.used in
@@ -31,12 +31,12 @@ loop-at-preserved c =
       next = c.next_two.ensures ∙ ap (λ k. leading 2 (drop 8 k)) key;
       copied = λ some room read. let fits = c.size_copied.ensures some in copied_as entry_bytes (drop at content) span.size c.size_copied.result _ (sym fits.1) (copied fits.0 room read);
     } in
-    let L : List Mark → Type 0 = λ ms. All (IsMarkOf content) ms in (
+    let L : List EntryMark → Type 0 = λ ms. All (IsMarkOf content) ms in (
       length-set marks count mark ∙ c.loop-at.invariant.0,
       omega (arith, more, length-set marks count mark),
       subst L (sym (take_more_set marks count mark more)) (all_marked content (take count marks) mark c.loop-at.invariant.2 is),
       λ room read.
-          let P : List Mark → Type 0 = λ ms. MarkedTo room content (at + span.size) ms in
+          let P : List EntryMark → Type 0 = λ ms. MarkedTo room content (at + span.size) ms in
           subst P (sym (take_more_set marks count mark more)) (marked_next room content at span.size (take count marks) mark (λ k. omega (arith, c.type_inv.content k)) c.loop-at-test.true (sized room) refl (c.loop-at.invariant.3 room read)),
     )
 

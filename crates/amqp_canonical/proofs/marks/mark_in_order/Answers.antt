@@ -4,7 +4,7 @@ use Rattle.std.proofs.lemmas.List.{take_at, length-take-le}
 use Rattle.std.proofs.lemmas.List.Sorted.{All-permutation, length_permutation}
 use Rattle.std.specs.Prelude.{All}
 use Rattle.amqp_canonical.specs.Marks.{AreOfTable, IsMarkOf}
-use Rattle.amqp_canonical.specs.declared.marks.Mark.{Mark}
+use Rattle.amqp_canonical.specs.declared.marks.EntryMark.{EntryMark}
 use Rattle.amqp_canonical.proofs.InOrder.{marks_of_table}
 use Rattle.amqp_canonical.proofs.marks.mark_in_order.Goals as goal
 
@@ -16,7 +16,7 @@ returns-then-put_in_order-clause-table c = λ room read.
     let rest = drop count c.mark_entries.new.marks in
     let long = length_permutation old new c.put_in_order.ensures.permuted in
     let same : length new ≡ count = omega (arith, long, length-take-le count c.mark_entries.new.marks c.in_ok-count.ensures.within) in
-    let P : List Mark → Type 0 = λ ms. AreOfTable room c.args.content.now ms in
+    let P : List EntryMark → Type 0 = λ ms. AreOfTable room c.args.content.now ms in
     subst P (sym (take_at new rest count same)) (marks_of_table room c.args.content.now old new (c.in_ok-count.ensures.marked room read) c.put_in_order.ensures.permuted (c.put_in_order.ensures.order c.if-put_in_order.true))
 
 pub returns-then-put_in_order-clause-each : goal.returns-then-put_in_order-clause-each
@@ -28,5 +28,5 @@ returns-then-put_in_order-clause-each c =
     let rest = drop count c.mark_entries.new.marks in
     let long = length_permutation old new c.put_in_order.ensures.permuted in
     let same : length new ≡ count = omega (arith, long, length-take-le count c.mark_entries.new.marks c.in_ok-count.ensures.within) in
-    let P : List Mark → Type 0 = λ ms. All (IsMarkOf content) ms in
+    let P : List EntryMark → Type 0 = λ ms. All (IsMarkOf content) ms in
     subst P (sym (take_at new rest count same)) (All-permutation (IsMarkOf content) old new c.put_in_order.ensures.permuted c.in_ok-count.ensures.each)

@@ -5,7 +5,7 @@ use Rattle.amqp_types.specs.Tags.{tag_at}
 use Rattle.amqp_types.specs.ValueJudging.{judge_value, judge_entry, nested}
 use Rattle.amqp_values.proofs.Filling.{refused_at}
 use Rattle.amqp_canonical.specs.Judgements.{IsCanonicalAfterTag, IsCanonicalValue, IsCanonicalArray, IsCanonicalTable}
-use Rattle.amqp_canonical.proofs.Refusing.{err_judged, entry_err}
+use Rattle.amqp_canonical.proofs.Refusing.{err_judged, entry_err, refused_inside}
 use Rattle.amqp_canonical.proofs.Children.{EntriesTo, values_next, values_end, entries_none, entries_next, entries_read, entries_end}
 use Rattle.amqp_canonical.proofs.AfterTag.{fixed_past, fixed_took, taken, counted_took, counted_fails, boolean_behind, array_behind, table_behind, array_deep, table_deep, value_empty, value_unknown, value_fails, value_took_at, entry_unread, entry_fails, entry_took}
 use Rattle.amqp_canonical.proofs.TagBytes.{no_tag, some_tag}
@@ -82,7 +82,7 @@ judge_values-returns-in-Err t c =
     let l = c.loop-at in
     let all = c.args.content.now in
     let failed = rw take_rest at c.in-Err.ensures.judged in
-    (c.inside.ensures.memory, refused_at (judge_value c.args.room) _ c.in-Err.error _ (drop l.at all) _ (omega (arith, length-drop l.at all)) c.inside.ensures.is failed.1 l.invariant.1.rest)
+    (refused_inside c.in-Err.error _ c.inside.ensures failed.0, refused_at (judge_value c.args.room) _ c.in-Err.error _ (drop l.at all) _ (omega (arith, length-drop l.at all)) c.inside.ensures failed.1 l.invariant.1.rest)
 
 pub judge_values-loop-at-preserved : goal.judge_values-loop-at-preserved
 judge_values-loop-at-preserved t c =
@@ -107,7 +107,7 @@ judge_entries-returns-in-Err t c =
     let l = c.loop-canonical in
     let all = c.args.content.now in
     let failed = rw take_rest at c.in-Err.ensures.judged in
-    (c.inside.ensures.memory, refused_at (judge_entry (judge_value c.args.room)) _ c.in-Err.error _ (drop l.at all) _ (omega (arith, length-drop l.at all)) c.inside.ensures.is failed.1 l.invariant.1.rest)
+    (refused_inside c.in-Err.error _ c.inside.ensures failed.0, refused_at (judge_entry (judge_value c.args.room)) _ c.in-Err.error _ (drop l.at all) _ (omega (arith, length-drop l.at all)) c.inside.ensures failed.1 l.invariant.1.rest)
 
 pub judge_entries-loop-canonical-preserved : goal.judge_entries-loop-canonical-preserved
 judge_entries-loop-canonical-preserved t c =
@@ -139,7 +139,7 @@ judge_entries-returns-in-Err-judge_entry t c =
     let l = c.loop-at in
     let all = c.args.content.now in
     let failed = rw take_rest at c.in-Err-judge_entry.ensures.judged in
-    (c.inside-in-Err-judge_entry.ensures.memory, refused_at (judge_entry (judge_value c.args.room)) _ c.in-Err-judge_entry.error _ (drop l.at all) _ (omega (arith, length-drop l.at all)) c.inside-in-Err-judge_entry.ensures.is failed.1 l.invariant.2.1.rest)
+    (refused_inside c.in-Err-judge_entry.error _ c.inside-in-Err-judge_entry.ensures failed.0, refused_at (judge_entry (judge_value c.args.room)) _ c.in-Err-judge_entry.error _ (drop l.at all) _ (omega (arith, length-drop l.at all)) c.inside-in-Err-judge_entry.ensures failed.1 l.invariant.2.1.rest)
 
 pub judge_entries-loop-at-preserved : goal.judge_entries-loop-at-preserved
 judge_entries-loop-at-preserved t c =

@@ -3,9 +3,9 @@ use Rattle.std.proofs.Common.{arith}
 use Rattle.amqp_types.specs.Methods.{judge_payload, payload_bytes}
 use Rattle.amqp_types.specs.ContentHeaders.{judge_content_header, content_header_bytes}
 use Rattle.amqp_canonical.specs.Writes.{canonical_of}
-use Rattle.amqp_frame.proofs.Spelled.{raw_as}
 use Rattle.amqp_frame.proofs.Rewritten.{method_judged, header_judged, method_stands, header_stands, method_rewritten, header_rewritten, body_put, beat_put, proto_put}
 use Rattle.amqp_frame.proofs.Sizes.{framed_length}
+use Rattle.amqp_frame.specs.Frames.{raw_as}
 use Rattle.amqp_frame.proofs.rewriting.put_judged.Goals as goal
 
 pub put_method-requires-clause-read : goal.put_method-requires-clause-read

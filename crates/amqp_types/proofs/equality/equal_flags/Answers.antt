@@ -1,5 +1,5 @@
 -- `equal_flags`: what it ensures.
-use Rattle.std.proofs.Common.{◌≡◌, ◌↔◌, IsTrue, List, Bool, true, subst, sym, ap, ◌∙◌}
+use Rattle.std.proofs.Common.{◌≡◌, ◌↔◌, IsTrue, List, Bool}
 use Rattle.std.specs.Cmp.{booleans_Decides}
 use Rattle.std.specs.Cmp.Lexicographic.{pointwise}
 use Rattle.std.specs.Bool.{beq}

@@ -1,4 +1,4 @@
--- `byte_of_flags` and the calls that call one another with it: what falls with each iteration or call.
+-- `byte_of_flags`, which calls itself: what falls with each iteration or call.
 use Rattle.std.proofs.Common.{length}
 use Rattle.amqp_types.proofs.flags.+byte_of_flags.Given as goal
 

@@ -1,4 +1,4 @@
--- `same` and the calls that call one another with it: what they ensure and what calls require.
+-- the calls of cycle `same`: what they ensure and what calls require.
 use Rattle.std.proofs.Common.{◌≡◌, ◌≢◌, List, [], ◌∷◌, length, map, Bool, true, false, ◌&&◌, refl, ap, ap₂, ◌∙◌, arith}
 use Rattle.amqp_types.specs.Values.{weight, values_weight, values_of}
 use Rattle.amqp_values.specs.Views.{value_of}

@@ -1,4 +1,4 @@
--- `put_each` and the calls that call one another with it: what they ensure.
+-- `put_each`, which calls itself: what they ensure.
 use Rattle.std.proofs.Common.{arith}
 use Rattle.std.proofs.lemmas.Slice.{first_rest}
 use Rattle.amqp_values.proofs.FieldLists.{put_none, put_more}

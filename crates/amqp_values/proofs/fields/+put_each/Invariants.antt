@@ -1,4 +1,4 @@
--- `put_each` and the calls that call one another with it: what falls with each iteration or call.
+-- `put_each`, which calls itself: what falls with each iteration or call.
 use Rattle.std.proofs.Common.{length}
 use Rattle.amqp_values.proofs.fields.+put_each.Given as goal
 

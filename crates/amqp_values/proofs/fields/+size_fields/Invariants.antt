@@ -1,4 +1,4 @@
--- `size_fields` and the calls that call one another with it: what falls with each iteration or call.
+-- `size_fields`, which calls itself: what falls with each iteration or call.
 use Rattle.std.proofs.Common.{length}
 use Rattle.amqp_values.proofs.fields.+size_fields.Given as goal
 

@@ -1,4 +1,4 @@
--- `put` and the calls that call one another with it: what they ensure, what loops keep and what calls require.
+-- the calls of cycle `put`: what they ensure, what loops keep and what calls require.
 use Rattle.std.proofs.Common.{◌≡◌, ℕ, ◌+◌, ◌++◌, ◌∷◌, [], List, length, drop, map, arith, sym, ap, ◌∙◌, subst, append_assoc}
 use Rattle.std.specs.Int.{w32, to_be_bytes}
 use Rattle.amqp_types.specs.Values.{Entry, array_value, table_value, weight, values_weight, entries_weight, values_of, entries_of}

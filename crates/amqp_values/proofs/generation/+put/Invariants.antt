@@ -1,4 +1,4 @@
--- `put` and the calls that call one another with it: what loops keep and what falls with each iteration or call.
+-- the calls of cycle `put`: what loops keep and what falls with each iteration or call.
 use Rattle.std.proofs.Common.{◌≡◌, ℕ, ◌+◌, ◌*◌, ◌≤◌, drop, map, List, false}
 use Rattle.amqp_types.specs.Values.{array_value, table_value, weight, values_weight, entries_weight, values_of, entries_of}
 use Rattle.amqp_types.specs.ValueBytes.{value_bytes, values_bytes, entries_bytes, any_value_long, any_entry_long}

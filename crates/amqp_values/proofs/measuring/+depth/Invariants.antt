@@ -1,4 +1,4 @@
--- `depth` and the calls that call one another with it: what loops keep and what falls with each iteration or call.
+-- the calls of cycle `depth`: what loops keep and what falls with each iteration or call.
 use Rattle.std.proofs.Common.{◌≡◌, ◌+◌, ◌*◌, nat_le, drop, map}
 use Rattle.amqp_types.specs.Values.{values_depth, entries_depth, values_of, entries_of}
 use Rattle.amqp_values.specs.Views.{value_of}

@@ -1,4 +1,4 @@
--- `measure` and the calls that call one another with it: what they ensure and what calls require.
+-- the calls of cycle `measure`: what they ensure and what calls require.
 use Rattle.std.proofs.Common.{arith, sym, ap, ◌∙◌, map}
 use Rattle.std.proofs.lemmas.Grind.{common_steps}
 use Rattle.std.proofs.lemmas.List.{at_drop_all}

@@ -1,4 +1,4 @@
--- `measure` and the calls that call one another with it: what loops keep and what falls with each iteration or call.
+-- the calls of cycle `measure`: what loops keep and what falls with each iteration or call.
 use Rattle.std.proofs.Common.{◌≡◌, ◌<◌, ◌^◌, drop, map, ◌≤◌}
 use Rattle.amqp_types.specs.Values.{weight, values_weight, entries_weight, values_of, entries_of}
 use Rattle.amqp_values.specs.Views.{value_of}

@@ -1,4 +1,4 @@
--- `read` and the calls that call one another with it: what they ensure and what loops keep.
+-- the calls of cycle `read`: what they ensure and what loops keep.
 use Rattle.std.proofs.Common.{◌≤◌, ◌++◌, length, drop, arith, ap, ◌∙◌, Ok}
 use Rattle.std.proofs.lemmas.List.{append-nil, drop-drop, length-drop, take_rest}
 use Rattle.amqp_values.specs.Views.{value_of, entry_of}

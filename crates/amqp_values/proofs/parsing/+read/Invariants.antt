@@ -1,4 +1,4 @@
--- `read` and the calls that call one another with it: what loops keep and what falls with each iteration or call.
+-- the calls of cycle `read`: what loops keep and what falls with each iteration or call.
 use Rattle.std.proofs.Common.{◌≡◌, ◌+◌, ◌-◌, ◌*◌, ◌≤◌, length, drop}
 use Rattle.amqp_types.specs.ValueJudging.{judge_value, filled, judge_entry, read_map}
 use Rattle.amqp_types.specs.Settling.{settled, settled_on}

@@ -1,4 +1,4 @@
--- `copy` and the calls that call one another with it: what loops keep and what calls require.
+-- the calls of cycle `copy`: what loops keep and what calls require.
 use Rattle.std.proofs.Common.{◌≡◌, List, [], ◌∷◌, ◌++◌, arith, sym, ap, ◌∙◌, subst, append_assoc}
 use Rattle.std.specs.List.Sorted.{IsStrictlySortedBy}
 use Rattle.std.specs.Map.{keys_of}

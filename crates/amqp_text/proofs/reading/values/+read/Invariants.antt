@@ -1,7 +1,7 @@
 -- the calls of cycle `read`: what loops keep and what falls with each iteration or call.
-use Rattle.std.proofs.Common.{◌≤◌, ◌+◌, ◌*◌, length, drop}
+use Rattle.std.proofs.Common.{◌+◌, ◌*◌, length, drop}
 use Rattle.amqp_text.specs.Reading.{or_comma, read_entry, read_value}
-use Rattle.amqp_text.proofs.ReadSteps.{GoesOn, IsListed}
+use Rattle.amqp_text.proofs.ReadSteps.{GoesOnWithin, GoesOn, IsListed}
 use Rattle.amqp_text.proofs.reading.values.+read.Given as goal
 
 abbrev pub decreases-read_after_tag : goal.decreases-read_after_tag
@@ -38,13 +38,7 @@ abbrev pub decreases-read_entries-entries : goal.decreases-read_entries-entries
 decreases-read_entries-entries l = length l.rest
 
 abbrev pub invariant-read_values-values : goal.invariant-read_values-values
-invariant-read_values-values l = record {
-  goes_on : GoesOn (IsListed (or_comma (read_value l.room)) 93) (drop 1 l.i) l.fn.out.items l.rest l.out.items;
-  no_longer : length l.rest ≤ length l.i;
-}
+invariant-read_values-values l = GoesOnWithin (GoesOn (IsListed (or_comma (read_value l.room)) 93) (drop 1 l.i) l.fn.out.items l.rest l.out.items) l.i l.rest
 
 abbrev pub invariant-read_entries-entries : goal.invariant-read_entries-entries
-invariant-read_entries-entries l = record {
-  goes_on : GoesOn (IsListed (or_comma (read_entry (read_value l.room))) 125) (drop 1 l.i) l.fn.out.items l.rest l.out.items;
-  no_longer : length l.rest ≤ length l.i;
-}
+invariant-read_entries-entries l = GoesOnWithin (GoesOn (IsListed (or_comma (read_entry (read_value l.room))) 125) (drop 1 l.i) l.fn.out.items l.rest l.out.items) l.i l.rest

@@ -1,6 +1,7 @@
 -- `read_flags`: clause `read`.
 use Rattle.std.proofs.Common.{List, [], ◌∷◌, ℕ, Some, ap}
-use Rattle.amqp_text.specs.Reading.{◌>>=◌, read_flags}
+use Rattle.amqp_types.specs.Reading.{◌>>=◌}
+use Rattle.amqp_text.specs.Reading.{read_flags}
 use Rattle.amqp_text.proofs.ReadSteps.{read_so, unread}
 use Rattle.amqp_text.proofs.reading.words.read_flags.Goals as goal
 

@@ -1,0 +1,2 @@
+-- The lemmas of amqp_vectors_frames.
+pub mod Due

@@ -1,0 +1,2 @@
+-- The definitions of amqp_vectors_frames.
+pub mod Answering
