@@ -1,6 +1,6 @@
 //! A proxy that passes frames on between a client and a server, with a fixed budget of memory for each connection.
 
-ghost use Rattle.std.specs.Prelude.{◌≡◌, ◌≢◌, ◌+◌, ◌*◌, ◌≤◌, Err, IfOk};
+ghost use Rattle.std.specs.Prelude.{◌≡◌, ◌≢◌, ◌+◌, ◌*◌, ◌<◌, ◌≤◌, Err, IfOk};
 ghost use Rattle.amqp_types.specs.Levels.{plain};
 ghost use Rattle.amqp_stream.specs.Canonicalizing.{Canonicalizes};
 
@@ -12,7 +12,8 @@ use std::alloc::Global;
 /// byte of the largest frame: one in the reader, one in the output buffer, and eight of scratch.
 pub fn limit_within(budget: u32) -> ChunkSize
     requires { 160 ≤ budget }
-    ensures { 20 * (result + 8) ≤ budget }
+    ensures within { 20 * (result + 8) ≤ budget }
+    ensures greatest { budget < 20 * (result + 9) }
 {
     budget / 20 - 8
 }
