@@ -170,7 +170,7 @@ typedef struct feksroum_progress {
 feksroum_progress feksroum_canonicalize(const uint8_t *bytes, size_t length, uint8_t *out, size_t out_length,
                                         feksroum_mark *scratch, size_t scratch_length, uint32_t max_payload, uint8_t level);
 
-/* One frame and its line, of which one was read and the other written. Where neither was, all but status is 0. */
+/* One frame and its line, of which one was read and the other written. At statuses other than 0 and 40 both counts are 0. */
 typedef struct feksroum_line {
     size_t used; /* how many bytes of what was given the frame, or its line, has */
     size_t length; /* how many bytes the other one has: those that are written, or at status 40 those that `out` needs */

@@ -1,4 +1,4 @@
-//! Each export on frames whose results are known by hand, and bytes in pieces.
+//! Each export on frames whose results are known by hand.
 
 use super::*;
 use crate::canonicalize::feksroum_canonicalize;
@@ -92,7 +92,9 @@ fn payloads_are_checked(rt: HostRuntime) {
 }
 
 /// Bytes, the level, how many are used, what is written, and the status.
-const STREAMS: [(&[u8], u8, usize, &[u8], u8); 9] = [
+type Stream = (&'static [u8], u8, usize, &'static [u8], u8);
+
+const STREAMS: [Stream; 9] = [
     (&[], 0, 0, &[], 0),
     (&HEADER, 0, 8, &HEADER, 0),
     (&TWICE, 0, 28, &ONCE, 0),
@@ -110,35 +112,23 @@ const STREAMS: [(&[u8], u8, usize, &[u8], u8); 9] = [
     ),
 ];
 
+/// Whether a stream is canonicalized so with this scratch, and the buffer kept after what is written.
+fn is_canonicalized(stream: &Stream, scratch: &mut [EntryMark]) -> bool {
+    let mut out = [99; 40];
+    let progress = feksroum_canonicalize(stream.0, &mut out, scratch, LIMIT, stream.1);
+    progress.used == stream.2
+        && progress.status == stream.4
+        && out.get(..progress.written) == Some(stream.3)
+        && out.get(progress.written) == Some(&99)
+}
+
 #[test]
 fn streams_are_canonicalized(rt: HostRuntime) {
-    for row in &STREAMS {
-        let mut out = [99; 40];
-        let progress = feksroum_canonicalize(row.0, &mut out, &mut [], LIMIT, row.1);
-        assert!(rt; progress.used == row.2 && progress.status == row.4);
-        assert!(rt; out.get(..progress.written) == Some(row.3));
-        assert!(rt; out.get(progress.written) == Some(&99));
-    }
-}
-
-#[test]
-fn a_scratch_may_be_lent(rt: HostRuntime) {
     assert!(rt; feksroum_scratch(29) == 14 && feksroum_scratch(0) == 0);
     let mut scratch = [EntryMark::default(); 257];
-    let mut out = [99; 28];
-    let progress = feksroum_canonicalize(&TWICE, &mut out, &mut scratch, LIMIT, 0);
-    assert!(rt; progress.used == 28 && progress.status == 0);
-    assert!(rt; out.get(..progress.written) == Some(&ONCE));
-}
-
-#[test]
-fn pieces_give_what_the_whole_gives(rt: HostRuntime) {
-    for cut in 0..=TWICE.len() {
-        let mut out = [0; 28];
-        let first = feksroum_canonicalize(&TWICE[..cut], &mut out, &mut [], LIMIT, 0);
-        let whole = cut == 0 || cut == TWICE.len();
-        assert!(rt; first.status == if whole { 0 } else { 21 });
-        assert!(rt; first.used == if cut == TWICE.len() { TWICE.len() } else { 0 });
+    for stream in &STREAMS {
+        assert!(rt; is_canonicalized(stream, &mut []));
+        assert!(rt; is_canonicalized(stream, &mut scratch));
     }
 }
 
@@ -159,7 +149,7 @@ const LINES: [(&[u8], &[u8], usize, &[u8], u8); 6] = [
 ];
 
 #[test]
-fn frames_are_dumped(rt: HostRuntime) {
+fn frames_and_lines_are_converted(rt: HostRuntime) {
     for row in &LINES {
         let mut out = [99; 40];
         let found = feksroum_dump(rt.alloc(), row.0, &mut out, LIMIT);
@@ -167,10 +157,6 @@ fn frames_are_dumped(rt: HostRuntime) {
         assert!(rt; out.get(..found.length) == Some(row.1));
         assert!(rt; out.get(found.length) == Some(&99));
     }
-}
-
-#[test]
-fn lines_are_undumped(rt: HostRuntime) {
     for row in &LINES[..4] {
         let mut out = [99; 40];
         let found = feksroum_undump(rt.alloc(), row.1, &mut out, LIMIT);
@@ -178,39 +164,6 @@ fn lines_are_undumped(rt: HostRuntime) {
         assert!(rt; out.get(..found.length) == Some(row.3));
         assert!(rt; out.get(found.length) == Some(&99));
     }
-}
-
-/// Texts, the limit, and what undumping returns.
-const TEXTS: [(&[u8], u32, (usize, usize, u8)); 5] = [
-    (b"beat\nbeat\n", 0, (5, 8, 0)),
-    (b"beat", LIMIT, (0, 0, 21)),
-    (b"beat 0\nbeat\n", LIMIT, (0, 0, 26)),
-    (b"body 1 x6868\n", 1, (0, 0, 26)),
-    (b"body 1 x6868686868\n", LIMIT, (19, 13, 40)),
-];
-
-#[test]
-fn texts_are_tested(rt: HostRuntime) {
-    for row in &TEXTS {
-        let mut out = [99; 12];
-        let found = feksroum_undump(rt.alloc(), row.0, &mut out, row.1);
-        assert!(rt; (found.used, found.length, found.status) == row.2);
-        assert!(rt; found.status == 0 || out == [99; 12]);
-    }
-}
-
-#[test]
-fn arguments_are_tested(rt: HostRuntime) {
-    let mut out = [99; 9];
-    let short = feksroum_canonicalize(&BODY, &mut out[..8], &mut [], LIMIT, 0);
-    assert!(rt; short.used == 0 && short.written == 0 && short.status == 40);
-    let level = feksroum_canonicalize(&BODY, &mut out, &mut [], LIMIT, 2);
-    assert!(rt; level.used == 0 && level.written == 0 && level.status == 41);
-    assert!(rt; out == [99; 9]);
-    let exact = feksroum_canonicalize(&BODY, &mut out, &mut [], 1, 0);
-    assert!(rt; exact.written == 9 && exact.status == 0 && out == BODY);
-    let limit = feksroum_canonicalize(&BODY, &mut out, &mut [], 0, 0);
-    assert!(rt; limit.written == 0 && limit.status == 12);
 }
 
 #[test]

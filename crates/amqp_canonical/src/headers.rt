@@ -96,6 +96,3 @@ pub fn judge_content_header(payload: &[u8]) -> Result<Judgement, ParserError>
         tidy: front.tidy & properties.tidy,
     })
 }
-
-#[cfg(test)]
-mod tests;

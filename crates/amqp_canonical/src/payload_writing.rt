@@ -85,6 +85,3 @@ pub fn put_content_header(buf: &mut [u8], at: usize, scratch: &mut [EntryMark], 
     let place = put_slots(buf, at, scratch, header_shapes(), i);
     put_properties(buf, place, scratch, bytes_from(i, 12))
 }
-
-#[cfg(test)]
-mod tests;

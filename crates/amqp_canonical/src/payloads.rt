@@ -41,6 +41,3 @@ pub fn judge_payload(payload: &[u8]) -> Result<Judgement, ParserError>
         tidy: slots.tidy,
     })
 }
-
-#[cfg(test)]
-mod tests;

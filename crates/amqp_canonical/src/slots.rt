@@ -213,6 +213,3 @@ pub fn judge_slots(shapes: &[Shape], i: &[u8]) -> Result<Judgement, ParserError>
         tidy,
     })
 }
-
-#[cfg(test)]
-mod tests;

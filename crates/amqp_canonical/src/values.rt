@@ -303,6 +303,3 @@ fn judge_entry(i: &[u8], room: usize) -> Result<(ValueJudgement, &[u8]), ParserE
         key,
     ))
 }
-
-#[cfg(test)]
-mod tests;

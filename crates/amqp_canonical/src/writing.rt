@@ -233,6 +233,3 @@ fn put_entry(buf: &mut [u8], at: usize, scratch: &mut [EntryMark], i: &[u8], roo
     let place = put_bytes(buf, at, &i[..1 + key.len()]);
     put_value(buf, place, scratch, value, room)
 }
-
-#[cfg(test)]
-mod tests;

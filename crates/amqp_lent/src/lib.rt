@@ -6,8 +6,6 @@ mod codec;
 mod equality;
 mod errors;
 mod frame;
-#[cfg(test)]
-mod frame_tests;
 mod measuring;
 mod payload_measuring;
 mod payload_parts;
@@ -15,8 +13,6 @@ mod payload_writing;
 mod reading;
 mod slot_measuring;
 mod table;
-#[cfg(test)]
-mod tests;
 mod value;
 mod writing;
 

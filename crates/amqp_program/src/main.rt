@@ -45,14 +45,4 @@ fn main(rt: HostRuntime) -> ExitCode {
 }
 
 #[cfg(test)]
-mod hostile_tests;
-#[cfg(test)]
-mod recut_tests;
-#[cfg(test)]
-mod select_tests;
-#[cfg(test)]
 mod tests;
-#[cfg(test)]
-mod text_tests;
-#[cfg(test)]
-mod tidy_tests;

@@ -21,6 +21,3 @@ pub use laws::{
 };
 pub use parsing::parse_properties;
 pub use properties::AMQPProperties;
-
-#[cfg(test)]
-mod tests;

@@ -28,6 +28,3 @@ pub use laws::{
 
 /// The properties of a message, which its content header carries (AMQP 0-9-1, section 4.2.6.1).
 pub type BasicProperties = basic::AMQPProperties;
-
-#[cfg(test)]
-mod tests;

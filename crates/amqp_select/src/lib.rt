@@ -5,13 +5,9 @@ mod equality;
 mod errors;
 mod laws;
 mod parsing;
-#[cfg(test)]
-mod refused;
 mod rule;
 mod rules;
 mod selecting;
-#[cfg(test)]
-mod tests;
 
 pub use equality::equal_rule_errors;
 pub use errors::RuleError;

@@ -103,6 +103,3 @@ pub fn select<S: Source, K: Sink>(
     let mut writer = Selector { rules };
     unrefused(run_stream(alloc, &mut writer, source, sink, max_payload, turns))
 }
-
-#[cfg(test)]
-mod tests;

@@ -27,12 +27,3 @@ pub use laws::{
 };
 pub use one_line::{dump_line, parse_line, undump_line};
 pub use undumping::{line_end, undump};
-
-#[cfg(test)]
-mod method_rows;
-#[cfg(test)]
-mod one_line_tests;
-#[cfg(test)]
-mod tests;
-#[cfg(test)]
-mod undump_tests;

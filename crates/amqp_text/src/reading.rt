@@ -2,7 +2,5 @@
 
 pub(crate) mod lines;
 pub(crate) mod slots;
-#[cfg(test)]
-mod tests;
 pub(crate) mod values;
 pub(crate) mod words;

@@ -168,6 +168,3 @@ pub use tag_bytes::TAG_SHORT_SHORT_UINT;
 pub use tag_bytes::TAG_SHORT_UINT;
 pub use tag_bytes::TAG_TIMESTAMP;
 pub use tag_bytes::TAG_VOID;
-
-#[cfg(test)]
-mod tests;

@@ -6,6 +6,10 @@ pub mod asking;
 #[cfg(test)]
 mod faults;
 #[cfg(test)]
+mod flags;
+#[cfg(test)]
+mod growing;
+#[cfg(test)]
 mod numbers;
 #[cfg(test)]
 mod strings;

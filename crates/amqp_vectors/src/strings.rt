@@ -1,188 +1,153 @@
-//! Strings, byte arrays and flags.
+//! Strings and byte arrays.
 
-use crate::asking::{answers, reads, same};
+use crate::asking::{answers, reads, same, shows};
 use amqp_values::{
-    AMQPFlags, ByteArray, LongString, MakeError, ParserError, ShortString, byte_of_flags,
-    flag_of_byte, gen_byte_array, gen_flags, gen_long_string, gen_short_string, parse_byte_array,
-    parse_flags, parse_long_bytes, parse_long_string, parse_short_str, parse_short_string,
-    parse_table_bytes, put_byte_array, put_flags, put_long_string, put_short_string,
-    size_byte_array, size_flags, size_long_string, size_short_string,
+    ByteArray, LongString, MakeError, ParserError, ShortString, gen_byte_array, gen_long_string,
+    gen_short_string, parse_byte_array, parse_long_bytes, parse_long_string, parse_short_str,
+    parse_short_string, parse_table_bytes, put_byte_array, put_long_string, put_short_string,
+    size_byte_array, size_long_string, size_short_string,
 };
 use std::alloc::Global;
 use std::collections::HashSet;
 use std::test::Fail;
 
+/// The length of the short string of as many bytes `a`.
+fn made_of(alloc: Global, count: usize) -> Result<usize, MakeError> {
+    let mut text = String::new(alloc);
+    for _ in 0..count {
+        text.push('a')?;
+    }
+    let string = ShortString::new(alloc, &text)?;
+    Ok(string.len())
+}
+
 #[test]
 fn short_strings_have_at_most_255_bytes(rt: HostRuntime) -> Result<(), Fail> {
     let alloc = rt.alloc();
-    let mut text = String::new(alloc);
-    for _ in 0..255 {
-        text.push('a')?;
+    let made = [made_of(alloc, 0), made_of(alloc, 255), made_of(alloc, 256)];
+    same(made, [Ok(0), Ok(255), Err(MakeError::TooLong)])
+}
+
+/// The short string with this text. Where memory is refused it is empty, and the test fails.
+fn word(alloc: Global, text: &str) -> ShortString {
+    match ShortString::new(alloc, text) {
+        Ok(word) => word,
+        Err(_) => ShortString::empty(alloc),
     }
-    let longest = ShortString::new(alloc, &text)?;
-    assert_eq!(rt; longest.len(), 255);
-    assert_eq!(rt; longest.as_str(), text.as_str());
-    text.push('a')?;
-    assert_eq!(rt; ShortString::new(alloc, &text), Err(MakeError::TooLong));
-    assert!(rt; ShortString::new(alloc, "")?.is_empty());
-    Ok(())
 }
 
-#[test]
-fn short_strings_are_compared_by_bytes(rt: HostRuntime) -> Result<(), Fail> {
-    let alloc = rt.alloc();
-    let lower = ShortString::new(alloc, "queue")?;
-    let upper = ShortString::new(alloc, "Queue")?;
-    assert!(rt; upper < lower);
-    assert!(rt; upper != lower);
-    // the first byte of the letter is 195
-    assert!(rt; lower < ShortString::new(alloc, "\u{e9}")?);
-    assert_eq!(rt; lower.copy(alloc)?, lower);
-    assert_eq!(rt; ShortString::empty(alloc).as_str(), "");
-    assert_eq!(rt; format!(in alloc; "{lower}")?.as_str(), "queue");
-    Ok(())
+fn are_in_order(first: &ShortString, second: &ShortString, third: &ShortString) -> bool {
+    first < second && first != second && second < third
 }
 
-#[test]
-fn equal_short_strings_hash_alike(rt: HostRuntime) -> Result<(), Fail> {
-    let alloc = rt.alloc();
+/// Which of these words a set has that holds the first one.
+fn are_held(alloc: Global, held: ShortString, words: [&ShortString; 2]) -> Result<[bool; 2], Fail> {
     let mut set = HashSet::new(alloc);
-    set.insert(ShortString::new(alloc, "queue")?)?;
-    assert!(rt; set.contains(&ShortString::new(alloc, "queue")?));
-    assert!(rt; !set.contains(&ShortString::new(alloc, "Queue")?));
-    Ok(())
+    set.insert(held)?;
+    Ok([set.contains(words[0]), set.contains(words[1])])
 }
 
-/// A short string is written in these bytes, put as them into a slice of just their size, and read from
-/// them.
-fn short_string_agrees(alloc: Global, string: &ShortString, bytes: &[u8]) -> Result<(), Fail> {
-    let mut out = Vec::new(alloc);
-    gen_short_string(alloc, &mut out, string)?;
-    same(out.as_slice(), bytes)?;
-    let mut buf = vec![in alloc; 9; out.len()]?;
-    same(put_short_string(&mut buf, 0, string), bytes.len())?;
-    same(buf, out)?;
-    same(size_short_string(string), Ok(bytes.len() as u64))?;
-    reads(parse_short_string(alloc, bytes), bytes.len(), string)?;
-    reads(parse_short_str(bytes), bytes.len(), &string.as_str())?;
-    answers(string.copy(alloc), string)
+/// They are compared by bytes: the first byte of the last one is 195.
+#[test]
+fn short_strings_are_compared(rt: HostRuntime) -> Result<(), Fail> {
+    let alloc = rt.alloc();
+    let (upper, lower) = (word(alloc, "Queue"), word(alloc, "queue"));
+    let is_sorted = are_in_order(&upper, &lower, &word(alloc, "\u{e9}"));
+    let are_held = are_held(alloc, word(alloc, "queue"), [&lower, &upper])?;
+    same((is_sorted, are_held), (true, [true, false]))?;
+    shows(alloc, &lower, "", "queue", "")
 }
 
-/// The same of a long string.
-fn long_string_agrees(alloc: Global, string: &LongString, bytes: &[u8]) -> Result<(), Fail> {
-    let mut out = Vec::new(alloc);
-    gen_long_string(alloc, &mut out, string.as_bytes())?;
-    same(out.as_slice(), bytes)?;
-    let mut buf = vec![in alloc; 9; out.len()]?;
-    same(put_long_string(&mut buf, 0, string.as_bytes()), bytes.len())?;
-    same(buf, out)?;
-    same(size_long_string(string.as_bytes()), Ok(bytes.len() as u64))?;
-    reads(parse_long_string(alloc, bytes), bytes.len(), string)?;
-    reads(parse_long_bytes(bytes), bytes.len(), &string.as_bytes())?;
-    reads(parse_table_bytes(bytes), bytes.len(), &string.as_bytes())?;
-    answers(string.copy(alloc), string)
+/// Each string is put into an array of just its size.
+fn strings_are_written(alloc: Global, out: &mut Vec<u8>) -> Result<(), Fail> {
+    let short = ShortString::new(alloc, "a")?;
+    let array = ByteArray::new(alloc, &[99])?;
+    let appended = [
+        gen_short_string(alloc, out, &short),
+        gen_long_string(alloc, out, &[98, 255]),
+        gen_byte_array(alloc, out, &array),
+    ];
+    let sizes = [
+        size_short_string(&short),
+        size_long_string(&[98, 255]),
+        size_byte_array(&array),
+    ];
+    let (mut two, mut six, mut five) = ([9; 2], [9; 6], [9; 5]);
+    let ends = [
+        put_short_string(&mut two, 0, &short),
+        put_long_string(&mut six, 0, &[98, 255]),
+        put_byte_array(&mut five, 0, &array),
+    ];
+    same(
+        (appended, sizes, ends),
+        ([Ok(()); 3], [Ok(2), Ok(6), Ok(5)], [2, 6, 5]),
+    )?;
+    same(
+        out.as_slice(),
+        &[1, 97, 0, 0, 0, 2, 98, 255, 0, 0, 0, 1, 99],
+    )?;
+    same(
+        (two, six, five),
+        ([1, 97], [0, 0, 0, 2, 98, 255], [0, 0, 0, 1, 99]),
+    )
 }
 
-/// The same of a byte array.
-fn byte_array_agrees(alloc: Global, array: &ByteArray, bytes: &[u8]) -> Result<(), Fail> {
-    let mut out = Vec::new(alloc);
-    gen_byte_array(alloc, &mut out, array)?;
-    same(out.as_slice(), bytes)?;
-    let mut buf = vec![in alloc; 9; out.len()]?;
-    same(put_byte_array(&mut buf, 0, array), bytes.len())?;
-    same(buf, out)?;
-    same(size_byte_array(array), Ok(bytes.len() as u64))?;
-    reads(parse_byte_array(alloc, bytes), bytes.len(), array)?;
-    answers(array.copy(alloc), array)
+fn short_string_is_read(alloc: Global, string: &ShortString) -> Result<(), Fail> {
+    reads(parse_short_string(alloc, &[1, 97]), 2, string)?;
+    reads(parse_short_str(&[1, 97]), 2, &string.as_str())?;
+    answers(string.copy(alloc), string)?;
+    same((string.len(), string.is_empty()), (1, false))
+}
+
+fn long_string_is_read(alloc: Global, string: &LongString) -> Result<(), Fail> {
+    let bytes = [0, 0, 0, 2, 98, 255];
+    reads(parse_long_string(alloc, &bytes), 6, string)?;
+    reads(parse_long_bytes(&bytes), 6, &string.as_bytes())?;
+    reads(parse_table_bytes(&bytes), 6, &string.as_bytes())?;
+    answers(string.copy(alloc), string)?;
+    same((string.len(), string.is_empty()), (2, false))
+}
+
+fn byte_array_is_read(alloc: Global, array: &ByteArray) -> Result<(), Fail> {
+    reads(parse_byte_array(alloc, &[0, 0, 0, 2, 1, 97]), 6, array)?;
+    answers(array.copy(alloc), array)?;
+    same(
+        (array.as_slice(), array.len(), array.is_empty()),
+        ([1, 97].as_slice(), 2, false),
+    )
 }
 
 #[test]
 fn strings_are_read_as_written(rt: HostRuntime) -> Result<(), Fail> {
     let alloc = rt.alloc();
-    short_string_agrees(alloc, &ShortString::new(alloc, "a")?, &[1, 97])?;
-    let bytes = LongString::new(alloc, &[98, 255])?;
-    same(bytes.len(), 2)?;
-    long_string_agrees(alloc, &bytes, &[0, 0, 0, 2, 98, 255])?;
-    let array = ByteArray::new(alloc, &[99])?;
-    same(array.as_slice(), &[99])?;
-    byte_array_agrees(alloc, &array, &[0, 0, 0, 1, 99])?;
-    let taken = vec![in alloc; 1, 97]?;
-    same(ByteArray::from_vec(taken).len(), 2)
+    strings_are_written(alloc, &mut Vec::new(alloc))?;
+    short_string_is_read(alloc, &word(alloc, "a"))?;
+    long_string_is_read(alloc, &LongString::new(alloc, &[98, 255])?)?;
+    byte_array_is_read(alloc, &ByteArray::from_vec(vec![in alloc; 1, 97]?))?;
+    let lengths = [
+        ShortString::empty(alloc).len(),
+        LongString::empty(alloc).len(),
+        ByteArray::empty(alloc).len(),
+    ];
+    same(lengths, [0; 3])
 }
 
-#[test]
-fn empty_strings_hold_no_bytes(rt: HostRuntime) -> Result<(), Fail> {
-    same(LongString::empty(rt.alloc()).len(), 0)?;
-    same(LongString::empty(rt.alloc()).is_empty(), true)?;
-    same(ByteArray::empty(rt.alloc()).len(), 0)
-}
-
-/// Strings are put one after another, and the rest of the slice stays.
-#[test]
-fn strings_are_put_at_a_place(rt: HostRuntime) -> Result<(), Fail> {
-    let alloc = rt.alloc();
-    let mut buf = [9; 13];
-    let short = ShortString::new(alloc, "a")?;
-    let bytes = ByteArray::new(alloc, &[99])?;
-    let at = put_short_string(&mut buf, 0, &short);
-    let at = put_long_string(&mut buf, at, &[98]);
-    same(put_byte_array(&mut buf, at, &bytes), 12)?;
-    same(buf, [1, 97, 0, 0, 0, 1, 98, 0, 0, 0, 1, 99, 9])
-}
-
+/// A string that ends too early is not looked into.
 #[test]
 fn refusals_of_strings(rt: HostRuntime) -> Result<(), Fail> {
     let alloc = rt.alloc();
-    assert_eq!(rt; parse_short_str(&[]), Err(ParserError::Incomplete));
-    assert_eq!(rt; parse_short_str(&[2, 255]), Err(ParserError::Incomplete));
-    assert_eq!(rt; parse_short_str(&[1, 255]), Err(ParserError::NotUtf8));
-    assert_eq!(rt;
-        parse_short_string(alloc, &[1, 255]),
-        Err(ParserError::NotUtf8)
-    );
-    assert_eq!(rt;
-        parse_long_string(alloc, &[0, 0, 0, 1]),
-        Err(ParserError::Incomplete)
-    );
-    assert_eq!(rt;
-        parse_long_bytes(&[255, 255, 255, 255, 0]),
-        Err(ParserError::Incomplete)
-    );
-    assert_eq!(rt; parse_table_bytes(&[0, 0, 0]), Err(ParserError::Incomplete));
-    assert_eq!(rt; parse_byte_array(alloc, &[0]), Err(ParserError::Incomplete));
-    Ok(())
-}
-
-#[test]
-fn the_first_flag_is_the_lowest_bit(rt: HostRuntime) -> Result<(), Fail> {
-    let mut flags = AMQPFlags::default();
-    flags.add_flag(true);
-    flags.add_flag(false);
-    assert_eq!(rt; flags.to_byte(), 1);
-    assert_eq!(rt; flags.len(), 2);
-    assert_eq!(rt; flags.get_flag(0), Some(true));
-    assert_eq!(rt; flags.get_flag(1), Some(false));
-    assert_eq!(rt; flags.get_flag(2), None);
-    let mut out = Vec::new(rt.alloc());
-    gen_flags(rt.alloc(), &mut out, &flags)?;
-    assert_eq!(rt; out.as_slice(), [1].as_slice());
-    assert_eq!(rt; parse_flags(&[253], 2)?, (1, flags.clone()?));
-    assert_eq!(rt; size_flags(&flags)?, 1);
-    let mut buf = [9];
-    assert_eq!(rt; put_flags(&mut buf, 0, &flags), 1);
-    assert_eq!(rt; buf, [1]);
-    Ok(())
-}
-
-#[test]
-fn eight_flags_fill_a_byte() -> Result<(), Fail> {
-    let (used, flags) = parse_flags(&[130], 8)?;
-    same(used, 1)?;
-    same(flags.is_empty(), false)?;
-    same(flags.to_byte(), 130)?;
-    same(flags.get_flag(7), Some(true))?;
-    same(flags.get_flag(8), None)?;
-    same(byte_of_flags(&[false, true]), 2)?;
-    same(flag_of_byte(2, 1), true)?;
-    same(parse_flags(&[], 1).err(), Some(ParserError::Incomplete))
+    let faults = [
+        parse_short_str(&[]).err(),
+        parse_short_str(&[2, 255]).err(),
+        parse_long_string(alloc, &[0, 0, 0, 1]).err(),
+        parse_long_bytes(&[255, 255, 255, 255, 0]).err(),
+        parse_table_bytes(&[0, 0, 0]).err(),
+        parse_byte_array(alloc, &[0]).err(),
+    ];
+    same(faults, [Some(ParserError::Incomplete); 6])?;
+    let faults = [
+        parse_short_str(&[1, 255]).err(),
+        parse_short_string(alloc, &[1, 255]).err(),
+    ];
+    same(faults, [Some(ParserError::NotUtf8); 2])
 }

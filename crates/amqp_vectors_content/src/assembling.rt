@@ -1,7 +1,10 @@
-//! Sequences of frames with the outcomes that they have.
+//! Sequences of frames with the outcomes that they have, pushed one after another and assembled together.
 
-use crate::frames::Step::{self, Ack, Body, Header, Heartbeat, Publish};
-use crate::frames::{DONE, HELD, PASSED, frame, number, pushed};
+use crate::frames::Step::{self, Ack, Body, Header, Heartbeat, Publish, Read};
+use crate::frames::{
+    BODY, DELIVER, DELIVERED, GET_OK, GOT, HEADER, HELD, PASSED, PUBLISH, PUBLISHED, RETURN,
+    RETURNED, frames, number, pushed,
+};
 use amqp_content::{
     Assembler, ContentFault, answers_are_steps, assemble, channels_are_answered,
     channels_are_apart, splits_are_whole,
@@ -26,129 +29,150 @@ const BODY_OVERRUN: u8 = 6;
 
 const FAULTED: u8 = 7;
 
-/// The greatest body that may be announced, and frames with their outcomes.
-const ROWS: [(u64, &[(Step, u8)]); 10] = [
+/// The greatest body that may be announced, the body that a message has, frames, and their outcomes.
+type Row = (u64, &'static [u8], &'static [Step], &'static [u8]);
+
+const ROWS: [Row; 15] = [
     (
         5,
+        b"hello",
+        &[Read(&PUBLISH), Read(&HEADER), Read(&BODY)],
+        &[HELD, HELD, PUBLISHED],
+    ),
+    (
+        5,
+        b"hello",
+        &[Read(&RETURN), Read(&HEADER), Read(&BODY)],
+        &[HELD, HELD, RETURNED],
+    ),
+    (
+        5,
+        b"hello",
+        &[Read(&DELIVER), Read(&HEADER), Read(&BODY)],
+        &[HELD, HELD, DELIVERED],
+    ),
+    (
+        5,
+        b"hello",
+        &[Read(&GET_OK), Read(&HEADER), Read(&BODY)],
+        &[HELD, HELD, GOT],
+    ),
+    (
+        5,
+        b"h",
         &[
-            (Publish(1), HELD),
-            (Header(1, 60, 5), HELD),
-            (Body(1, 5), DONE),
+            Publish(1),
+            Body(2, 1),
+            Header(1, 60, 1),
+            Publish(2),
+            Body(1, 1),
         ],
+        &[HELD, UNEXPECTED_BODY, HELD, FAULTED, PUBLISHED],
     ),
     (
         4,
-        &[
-            (Publish(1), HELD),
-            (Header(1, 60, 5), BODY_TOO_LARGE),
-            (Body(1, 5), FAULTED),
-        ],
+        b"",
+        &[Read(&PUBLISH), Read(&HEADER), Read(&BODY)],
+        &[HELD, BODY_TOO_LARGE, FAULTED],
     ),
     (
         5,
+        b"hello",
         &[
-            (Publish(1), HELD),
-            (Body(2, 5), UNEXPECTED_BODY),
-            (Header(1, 60, 1), HELD),
-            (Publish(2), FAULTED),
-            (Body(1, 1), DONE),
+            Publish(1),
+            Header(1, 60, 5),
+            Heartbeat,
+            Body(1, 5),
+            Body(1, 1),
         ],
+        &[HELD, HELD, PASSED, PUBLISHED, UNEXPECTED_BODY],
     ),
-    (5, &[(Publish(1), HELD), (Header(1, 60, 0), DONE)]),
+    (5, b"", &[Publish(1), Header(1, 60, 0)], &[HELD, PUBLISHED]),
     (
         5,
+        b"hh",
         &[
-            (Publish(1), HELD),
-            (Header(1, 60, 2), HELD),
-            (Body(1, 0), HELD),
-            (Body(1, 1), HELD),
-            (Body(1, 0), HELD),
-            (Body(1, 1), DONE),
+            Publish(1),
+            Header(1, 60, 2),
+            Body(1, 0),
+            Body(1, 1),
+            Body(1, 0),
+            Body(1, 1),
         ],
-    ),
-    (5, &[(Publish(1), HELD), (Header(1, 10, 1), WRONG_CLASS)]),
-    (
-        5,
-        &[(Header(1, 60, 1), UNEXPECTED_HEADER), (Ack(1), FAULTED)],
-    ),
-    (
-        5,
-        &[
-            (Ack(1), PASSED),
-            (Heartbeat, PASSED),
-            (Publish(1), HELD),
-            (Heartbeat, PASSED),
-            (Ack(1), UNEXPECTED_METHOD),
-            (Heartbeat, PASSED),
-        ],
+        &[HELD, HELD, HELD, HELD, HELD, PUBLISHED],
     ),
     (
         5,
-        &[
-            (Publish(1), HELD),
-            (Header(1, 60, 1), HELD),
-            (Header(1, 60, 1), UNEXPECTED_HEADER),
-        ],
+        b"",
+        &[Publish(1), Header(1, 10, 1)],
+        &[HELD, WRONG_CLASS],
     ),
     (
         5,
-        &[
-            (Publish(1), HELD),
-            (Header(1, 60, 1), HELD),
-            (Body(1, 2), BODY_OVERRUN),
-        ],
+        b"",
+        &[Header(1, 60, 1), Ack(1)],
+        &[UNEXPECTED_HEADER, FAULTED],
+    ),
+    (
+        5,
+        b"",
+        &[Ack(1), Heartbeat, Publish(1), Heartbeat, Ack(1), Heartbeat],
+        &[PASSED, PASSED, HELD, PASSED, UNEXPECTED_METHOD, PASSED],
+    ),
+    (
+        5,
+        b"",
+        &[Publish(1), Header(1, 60, 1), Header(1, 60, 1)],
+        &[HELD, HELD, UNEXPECTED_HEADER],
+    ),
+    (
+        5,
+        b"",
+        &[Publish(1), Header(1, 60, 1), Body(1, 2)],
+        &[HELD, HELD, BODY_OVERRUN],
+    ),
+    (
+        4,
+        b"",
+        &[Publish(1), Header(1, 60, 5), Body(1, 5)],
+        &[HELD, BODY_TOO_LARGE, FAULTED],
     ),
 ];
 
-/// Fails unless each frame has its outcome.
-fn row(alloc: Global, max_body: u64, steps: &[(Step, u8)]) -> Result<(), Fail> {
+/// The numbers of the outcomes of frames that are pushed one after another.
+fn push_each(alloc: Global, max_body: u64, steps: &[Step], body: &[u8]) -> Result<Vec<u8>, Fail> {
     let mut assembler = Assembler::open(alloc, max_body);
-    for (step, outcome) in steps {
-        same(pushed(alloc, &mut assembler, *step)?, *outcome)?;
-    }
-    Ok(())
-}
-
-#[test]
-fn sequences_have_their_outcomes(rt: HostRuntime) -> Result<(), Fail> {
-    for (max_body, steps) in ROWS {
-        row(rt.alloc(), max_body, steps)?;
-    }
-    Ok(())
-}
-
-/// The frames of steps.
-fn frames(alloc: Global, steps: &[Step]) -> Result<Vec<AMQPFrame>, NoMemory> {
-    let mut frames = Vec::new(alloc);
+    let mut numbers = Vec::new(alloc);
     for step in steps {
-        frames.push(frame(alloc, *step)?)?;
+        numbers.push(pushed(alloc, &mut assembler, *step, body)?)?;
     }
-    Ok(frames)
+    Ok(numbers)
 }
 
 /// The numbers of the outcomes of frames that are assembled together.
-fn assembled(alloc: Global, steps: &[Step]) -> Result<Vec<u8>, NoMemory> {
+fn assemble_all(
+    alloc: Global,
+    max_body: u64,
+    frames: Vec<AMQPFrame>,
+    body: &[u8],
+) -> Result<Vec<u8>, NoMemory> {
     let mut numbers = Vec::new(alloc);
-    for outcome in assemble(alloc, 5, frames(alloc, steps)?)? {
-        numbers.push(number(outcome))?;
+    for outcome in assemble(alloc, max_body, frames)? {
+        numbers.push(number(outcome, body))?;
     }
     Ok(numbers)
 }
 
 #[test]
-fn frames_are_assembled_together(rt: HostRuntime) -> Result<(), Fail> {
-    let steps = [
-        Publish(1),
-        Header(1, 60, 5),
-        Heartbeat,
-        Body(1, 5),
-        Body(1, 1),
-    ];
-    let numbers = assembled(rt.alloc(), &steps)?;
-    same(
-        numbers.as_slice(),
-        &[HELD, HELD, PASSED, DONE, UNEXPECTED_BODY],
-    )
+fn sequences_have_their_outcomes(rt: HostRuntime) -> Result<(), Fail> {
+    let alloc = rt.alloc();
+    for (max_body, body, steps, wanted) in ROWS {
+        let pushed = push_each(alloc, max_body, steps, body)?;
+        same(pushed.as_slice(), wanted)?;
+        let assembled = assemble_all(alloc, max_body, frames(alloc, steps)?, body)?;
+        same(assembled.as_slice(), wanted)?;
+    }
+    Ok(())
 }
 
 #[test]

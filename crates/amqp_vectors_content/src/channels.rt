@@ -1,6 +1,6 @@
 //! Many channels, each at another place of its message.
 
-use crate::frames::{DONE, HELD, Step, pushed};
+use crate::frames::{HELD, PUBLISHED, Step, pushed};
 use amqp_content::Assembler;
 use amqp_vectors::asking::same;
 use std::alloc::Global;
@@ -27,7 +27,10 @@ fn step(part: Part, channel: u16) -> Step {
 /// Pushes this frame on each channel.
 fn on_each(alloc: Global, assembler: &mut Assembler, part: Part, outcome: u8) -> Result<(), Fail> {
     for channel in 0..CHANNELS {
-        same(pushed(alloc, assembler, step(part, channel))?, outcome)?;
+        same(
+            pushed(alloc, assembler, step(part, channel), b"hh")?,
+            outcome,
+        )?;
     }
     Ok(())
 }
@@ -38,7 +41,7 @@ fn many_channels(rt: HostRuntime) -> Result<(), Fail> {
         (Part::Opening, HELD),
         (Part::Header, HELD),
         (Part::Body, HELD),
-        (Part::Body, DONE),
+        (Part::Body, PUBLISHED),
     ];
     let mut assembler = Assembler::open(rt.alloc(), 5);
     for (part, outcome) in parts {

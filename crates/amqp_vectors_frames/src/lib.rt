@@ -6,26 +6,22 @@
 mod answered;
 pub mod answering;
 #[cfg(test)]
-mod bodies;
-#[cfg(test)]
-mod content_headers;
-#[cfg(test)]
 mod faults;
-#[cfg(test)]
-mod heartbeats;
-#[cfg(test)]
-mod methods;
 #[cfg(test)]
 mod outlines;
 #[cfg(test)]
 mod parts;
 #[cfg(test)]
-mod reading;
+mod payloads;
 #[cfg(test)]
 mod refused;
 #[cfg(test)]
 mod rewriting;
 #[cfg(test)]
-mod texts;
+mod samples;
 #[cfg(test)]
 mod tidiness;
+#[cfg(test)]
+mod too_deep;
+#[cfg(test)]
+mod worked;

@@ -76,23 +76,35 @@ fn canonical_bytes_are_put(rt: HostRuntime) {
     }
 }
 
-/// A type, a payload, and how it is decoded.
+/// A frame that comes in its canonical bytes.
+const CANONICAL: FrameJudgement = FrameJudgement {
+    canonical: true,
+    tidy: true,
+};
+
+/// A frame that does not, and is not tidy.
+const LOOSE: FrameJudgement = FrameJudgement {
+    canonical: false,
+    tidy: false,
+};
+
+/// A type, a payload on channel 1, and how it is decoded.
 type Judged = (
     AMQPFrameType,
     &'static [u8],
-    Result<(bool, bool), ParserError>,
+    Result<FrameJudgement, ParserError>,
 );
 
 const JUDGED: [Judged; 10] = [
-    (ProtocolHeader, &[0, 9, 1], Ok((true, true))),
+    (ProtocolHeader, &[0, 9, 1], Ok(CANONICAL)),
     (ProtocolHeader, &[0, 9], Err(ParserError::ShortPayload)),
     (
         ProtocolHeader,
         &[0, 9, 1, 1],
         Err(ParserError::TrailingBytes),
     ),
-    (Method, &[0, 85, 0, 10, 1], Ok((true, true))),
-    (Method, &[0, 85, 0, 10, 3], Ok((false, false))),
+    (Method, &[0, 85, 0, 10, 1], Ok(CANONICAL)),
+    (Method, &[0, 85, 0, 10, 3], Ok(LOOSE)),
     (Method, &[0, 85, 0, 10], Err(ParserError::ShortPayload)),
     (
         Method,
@@ -100,8 +112,8 @@ const JUDGED: [Judged; 10] = [
         Err(ParserError::TrailingBytes),
     ),
     (Method, &[0, 1, 0, 10], Err(ParserError::UnknownClass)),
-    (Heartbeat, &[9], Ok((false, false))),
-    (Body, &[], Ok((true, true))),
+    (Heartbeat, &[9], Ok(LOOSE)),
+    (Body, &[], Ok(CANONICAL)),
 ];
 
 #[test]
@@ -112,11 +124,7 @@ fn payloads_are_judged() -> Result<(), Fail> {
             channel_id: 1,
             payload,
         };
-        let judged = match judge_frame(raw) {
-            Ok(FrameJudgement { canonical, tidy }) => Ok((canonical, tidy)),
-            Err(error) => Err(error),
-        };
-        same(judged, wanted)?;
+        same(judge_frame(raw), wanted)?;
     }
     Ok(())
 }

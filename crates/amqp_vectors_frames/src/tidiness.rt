@@ -1,7 +1,8 @@
 //! Which whole payloads are tidy.
 
+use crate::payloads::is_whole;
 use amqp_frame::AMQPFrameType::{self, Body, Header, Heartbeat, Method, ProtocolHeader};
-use amqp_frame::{AMQPRawFrame, is_tidy, parse_payload, release};
+use amqp_frame::{AMQPRawFrame, is_tidy};
 use amqp_vectors::asking::same;
 use std::alloc::Global;
 use std::test::Fail;
@@ -9,8 +10,8 @@ use std::test::Fail;
 /// A type, a payload, and whether it is tidy.
 type Row = (AMQPFrameType, &'static [u8], bool);
 
-/// Frames that are no methods.
-const FRAMES: [Row; 9] = [
+/// Frames of each kind, and methods with reserved fields of each form.
+const ROWS: [Row; 21] = [
     (ProtocolHeader, &[0, 9, 1], true),
     (Body, &[104, 101, 108, 108, 111], true),
     (Heartbeat, &[], true),
@@ -26,10 +27,6 @@ const FRAMES: [Row; 9] = [
     (Header, &[0, 60, 1, 0, 0, 0, 0, 0, 0, 0, 0, 5, 0, 0], false),
     (Header, &[0, 60, 0, 0, 0, 0, 0, 0, 0, 0, 0, 5, 0, 1], false),
     (Header, &[0, 60, 0, 0, 0, 0, 0, 0, 0, 0, 0, 5, 0, 2], false),
-];
-
-/// Methods, with reserved fields of each form.
-const METHODS: [Row; 12] = [
     // `queue.declare` of `some_queue`.
     (
         Method,
@@ -63,8 +60,9 @@ const METHODS: [Row; 12] = [
     (Method, &[0, 10, 0, 40, 1, 47, 1, 120, 1], false),
 ];
 
-/// Whether the frame that a short payload is on channel 1 is tidy.
-fn decided(alloc: Global, frame_type: AMQPFrameType, payload: &[u8]) -> Result<bool, Fail> {
+/// Fails unless the frame that a short payload is on channel 1 is tidy where its row says so.
+fn is_decided(alloc: Global, row: Row) -> Result<(), Fail> {
+    let (frame_type, payload, tidy) = row;
     if payload.len() > 64 {
         return Err(Fail::new("a row is long"));
     }
@@ -73,24 +71,14 @@ fn decided(alloc: Global, frame_type: AMQPFrameType, payload: &[u8]) -> Result<b
         channel_id: 1,
         payload,
     };
-    release(parse_payload(alloc, raw)?);
-    Ok(is_tidy(raw))
-}
-
-/// Fails unless each payload is tidy where its case says so.
-fn are_decided(alloc: Global, rows: &[Row]) -> Result<(), Fail> {
-    for (frame_type, payload, tidy) in rows {
-        same(decided(alloc, *frame_type, payload)?, *tidy)?;
-    }
-    Ok(())
+    is_whole(alloc, raw)?;
+    same(is_tidy(raw), tidy)
 }
 
 #[test]
 fn tidy_frames_are_decided(rt: HostRuntime) -> Result<(), Fail> {
-    are_decided(rt.alloc(), &FRAMES)
-}
-
-#[test]
-fn tidy_methods_are_decided(rt: HostRuntime) -> Result<(), Fail> {
-    are_decided(rt.alloc(), &METHODS)
+    for row in ROWS {
+        is_decided(rt.alloc(), row)?;
+    }
+    Ok(())
 }

@@ -4,6 +4,7 @@ use crate::made::text;
 use crate::rows::{self, after_id, agree, agrees, is_appended};
 use amqp_protocol::AMQPClass;
 use amqp_protocol::access::*;
+use amqp_vectors::asking::reads;
 use std::alloc::Global;
 use std::test::Fail;
 
@@ -20,7 +21,7 @@ pub fn of_class(
     payload: &[u8],
 ) -> Result<(), Fail> {
     let written = after_id(payload);
-    agree!(alloc, method, out, payload, written; gen_access, size_access, put_access, parse_access, method.copy(alloc))?;
+    agree!(alloc, method, out, payload, written; gen_access, size_access, put_access, parse_access)?;
     alone(alloc, method, out, written)
 }
 
@@ -34,14 +35,15 @@ fn alone(
     let fields = after_id(written);
     match method {
         AMQPMethod::Request(m) =>
-            agree!(alloc, m, out, written, fields; gen_request, size_request, put_request, parse_request, m.copy(alloc)),
+            agree!(alloc, m, out, written, fields; gen_request, size_request, put_request, parse_request),
         AMQPMethod::RequestOk(m) =>
-            agree!(alloc, m, out, written, fields; gen_request_ok, size_request_ok, put_request_ok, parse_request_ok, m.clone()),
+            agree!(alloc, m, out, written, fields; gen_request_ok, size_request_ok, put_request_ok, parse_request_ok),
     }
 }
 
+/// Any ticket is read, and written as 1.
 #[test]
-fn request_and_its_answer(rt: HostRuntime) -> Result<(), Fail> {
+fn tickets(rt: HostRuntime) -> Result<(), Fail> {
     let alloc = rt.alloc();
     let method = Request {
         realm: text(alloc),
@@ -60,16 +62,6 @@ fn request_and_its_answer(rt: HostRuntime) -> Result<(), Fail> {
         alloc,
         AMQPMethod::RequestOk(RequestOk {}),
         &[0, 30, 0, 11, 0, 1],
-    )
-}
-
-#[test]
-fn any_ticket_is_written_as_1(rt: HostRuntime) -> Result<(), Fail> {
-    let alloc = rt.alloc();
-    let (used, method) = parse_request_ok(alloc, &[0, 9])?;
-    let mut out = Vec::new(alloc);
-    gen_request_ok(alloc, &mut out, &method)?;
-    assert_eq!(rt; used, 2);
-    assert_eq!(rt; out.as_slice(), [0, 11, 0, 1].as_slice());
-    Ok(())
+    )?;
+    reads(parse_request_ok(alloc, &[0, 9]), 2, &RequestOk {})
 }

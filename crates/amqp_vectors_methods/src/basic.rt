@@ -20,7 +20,7 @@ pub fn of_class(
     payload: &[u8],
 ) -> Result<(), Fail> {
     let written = after_id(payload);
-    agree!(alloc, method, out, payload, written; gen_basic, size_basic, put_basic, parse_basic, method.copy(alloc))?;
+    agree!(alloc, method, out, payload, written; gen_basic, size_basic, put_basic, parse_basic)?;
     consuming(alloc, method, out, written)
 }
 
@@ -34,17 +34,17 @@ fn consuming(
     let fields = after_id(written);
     match method {
         AMQPMethod::Qos(m) =>
-            agree!(alloc, m, out, written, fields; gen_qos, size_qos, put_qos, parse_qos, m.clone()),
+            agree!(alloc, m, out, written, fields; gen_qos, size_qos, put_qos, parse_qos),
         AMQPMethod::QosOk(m) =>
-            agree!(alloc, m, out, written, fields; gen_qos_ok, size_qos_ok, put_qos_ok, parse_qos_ok, m.clone()),
+            agree!(alloc, m, out, written, fields; gen_qos_ok, size_qos_ok, put_qos_ok, parse_qos_ok),
         AMQPMethod::Consume(m) =>
-            agree!(alloc, m, out, written, fields; gen_consume, size_consume, put_consume, parse_consume, m.copy(alloc)),
+            agree!(alloc, m, out, written, fields; gen_consume, size_consume, put_consume, parse_consume),
         AMQPMethod::ConsumeOk(m) =>
-            agree!(alloc, m, out, written, fields; gen_consume_ok, size_consume_ok, put_consume_ok, parse_consume_ok, m.copy(alloc)),
+            agree!(alloc, m, out, written, fields; gen_consume_ok, size_consume_ok, put_consume_ok, parse_consume_ok),
         AMQPMethod::Cancel(m) =>
-            agree!(alloc, m, out, written, fields; gen_cancel, size_cancel, put_cancel, parse_cancel, m.copy(alloc)),
+            agree!(alloc, m, out, written, fields; gen_cancel, size_cancel, put_cancel, parse_cancel),
         AMQPMethod::CancelOk(m) =>
-            agree!(alloc, m, out, written, fields; gen_cancel_ok, size_cancel_ok, put_cancel_ok, parse_cancel_ok, m.copy(alloc)),
+            agree!(alloc, m, out, written, fields; gen_cancel_ok, size_cancel_ok, put_cancel_ok, parse_cancel_ok),
         _ => publishing(alloc, method, out, written),
     }
 }
@@ -59,17 +59,17 @@ fn publishing(
     let fields = after_id(written);
     match method {
         AMQPMethod::Publish(m) =>
-            agree!(alloc, m, out, written, fields; gen_publish, size_publish, put_publish, parse_publish, m.copy(alloc)),
+            agree!(alloc, m, out, written, fields; gen_publish, size_publish, put_publish, parse_publish),
         AMQPMethod::Return(m) =>
-            agree!(alloc, m, out, written, fields; gen_return, size_return, put_return, parse_return, m.copy(alloc)),
+            agree!(alloc, m, out, written, fields; gen_return, size_return, put_return, parse_return),
         AMQPMethod::Deliver(m) =>
-            agree!(alloc, m, out, written, fields; gen_deliver, size_deliver, put_deliver, parse_deliver, m.copy(alloc)),
+            agree!(alloc, m, out, written, fields; gen_deliver, size_deliver, put_deliver, parse_deliver),
         AMQPMethod::Get(m) =>
-            agree!(alloc, m, out, written, fields; gen_get, size_get, put_get, parse_get, m.copy(alloc)),
+            agree!(alloc, m, out, written, fields; gen_get, size_get, put_get, parse_get),
         AMQPMethod::GetOk(m) =>
-            agree!(alloc, m, out, written, fields; gen_get_ok, size_get_ok, put_get_ok, parse_get_ok, m.copy(alloc)),
+            agree!(alloc, m, out, written, fields; gen_get_ok, size_get_ok, put_get_ok, parse_get_ok),
         AMQPMethod::GetEmpty(m) =>
-            agree!(alloc, m, out, written, fields; gen_get_empty, size_get_empty, put_get_empty, parse_get_empty, m.clone()),
+            agree!(alloc, m, out, written, fields; gen_get_empty, size_get_empty, put_get_empty, parse_get_empty),
         _ => acknowledging(alloc, method, out, written),
     }
 }
@@ -84,23 +84,23 @@ fn acknowledging(
     let fields = after_id(written);
     match method {
         AMQPMethod::Ack(m) =>
-            agree!(alloc, m, out, written, fields; gen_ack, size_ack, put_ack, parse_ack, m.clone()),
+            agree!(alloc, m, out, written, fields; gen_ack, size_ack, put_ack, parse_ack),
         AMQPMethod::Reject(m) =>
-            agree!(alloc, m, out, written, fields; gen_reject, size_reject, put_reject, parse_reject, m.clone()),
+            agree!(alloc, m, out, written, fields; gen_reject, size_reject, put_reject, parse_reject),
         AMQPMethod::RecoverAsync(m) =>
-            agree!(alloc, m, out, written, fields; gen_recover_async, size_recover_async, put_recover_async, parse_recover_async, m.clone()),
+            agree!(alloc, m, out, written, fields; gen_recover_async, size_recover_async, put_recover_async, parse_recover_async),
         AMQPMethod::Recover(m) =>
-            agree!(alloc, m, out, written, fields; gen_recover, size_recover, put_recover, parse_recover, m.clone()),
+            agree!(alloc, m, out, written, fields; gen_recover, size_recover, put_recover, parse_recover),
         AMQPMethod::RecoverOk(m) =>
-            agree!(alloc, m, out, written, fields; gen_recover_ok, size_recover_ok, put_recover_ok, parse_recover_ok, m.clone()),
+            agree!(alloc, m, out, written, fields; gen_recover_ok, size_recover_ok, put_recover_ok, parse_recover_ok),
         AMQPMethod::Nack(m) =>
-            agree!(alloc, m, out, written, fields; gen_nack, size_nack, put_nack, parse_nack, m.clone()),
+            agree!(alloc, m, out, written, fields; gen_nack, size_nack, put_nack, parse_nack),
         _ => Err(Fail::new("a method of no row")),
     }
 }
 
 #[test]
-fn qos_and_its_answer(rt: HostRuntime) -> Result<(), Fail> {
+fn consumers(rt: HostRuntime) -> Result<(), Fail> {
     let alloc = rt.alloc();
     let method = Qos {
         prefetch_count: 7,
@@ -111,12 +111,7 @@ fn qos_and_its_answer(rt: HostRuntime) -> Result<(), Fail> {
         AMQPMethod::Qos(method),
         &[0, 60, 0, 10, 0, 0, 0, 0, 0, 7, 1],
     )?;
-    comes_back(alloc, AMQPMethod::QosOk(QosOk {}), &[0, 60, 0, 11])
-}
-
-#[test]
-fn consume_and_its_answer(rt: HostRuntime) -> Result<(), Fail> {
-    let alloc = rt.alloc();
+    comes_back(alloc, AMQPMethod::QosOk(QosOk {}), &[0, 60, 0, 11])?;
     let method = Consume {
         queue: text(alloc),
         consumer_tag: text(alloc),
@@ -134,12 +129,7 @@ fn consume_and_its_answer(rt: HostRuntime) -> Result<(), Fail> {
     let method = ConsumeOk {
         consumer_tag: text(alloc),
     };
-    comes_back(alloc, AMQPMethod::ConsumeOk(method), &[0, 60, 0, 21, 1, 97])
-}
-
-#[test]
-fn cancel_and_its_answer(rt: HostRuntime) -> Result<(), Fail> {
-    let alloc = rt.alloc();
+    comes_back(alloc, AMQPMethod::ConsumeOk(method), &[0, 60, 0, 21, 1, 97])?;
     let method = Cancel {
         consumer_tag: text(alloc),
         nowait: true,
@@ -152,7 +142,7 @@ fn cancel_and_its_answer(rt: HostRuntime) -> Result<(), Fail> {
 }
 
 #[test]
-fn publish_and_return(rt: HostRuntime) -> Result<(), Fail> {
+fn messages_sent(rt: HostRuntime) -> Result<(), Fail> {
     let alloc = rt.alloc();
     let method = Publish {
         exchange: text(alloc),
@@ -175,12 +165,7 @@ fn publish_and_return(rt: HostRuntime) -> Result<(), Fail> {
         alloc,
         AMQPMethod::Return(method),
         &[0, 60, 0, 50, 0, 7, 1, 97, 1, 97, 1, 97],
-    )
-}
-
-#[test]
-fn deliver(rt: HostRuntime) -> Result<(), Fail> {
-    let alloc = rt.alloc();
+    )?;
     let method = Deliver {
         consumer_tag: text(alloc),
         delivery_tag: 7,
@@ -196,7 +181,7 @@ fn deliver(rt: HostRuntime) -> Result<(), Fail> {
 }
 
 #[test]
-fn get_and_its_answers(rt: HostRuntime) -> Result<(), Fail> {
+fn messages_asked_for(rt: HostRuntime) -> Result<(), Fail> {
     let alloc = rt.alloc();
     let method = Get {
         queue: text(alloc),
@@ -224,8 +209,9 @@ fn get_and_its_answers(rt: HostRuntime) -> Result<(), Fail> {
     comes_back(alloc, AMQPMethod::GetEmpty(GetEmpty {}), &[0, 60, 0, 72, 0])
 }
 
+/// The first of two flags is the lowest bit.
 #[test]
-fn ack_reject_and_nack(rt: HostRuntime) -> Result<(), Fail> {
+fn messages_answered_for(rt: HostRuntime) -> Result<(), Fail> {
     let alloc = rt.alloc();
     let method = Ack {
         delivery_tag: 7,
@@ -245,39 +231,27 @@ fn ack_reject_and_nack(rt: HostRuntime) -> Result<(), Fail> {
         AMQPMethod::Reject(method),
         &[0, 60, 0, 90, 0, 0, 0, 0, 0, 0, 0, 7, 1],
     )?;
-    let method = Nack {
-        delivery_tag: 7,
-        multiple: true,
-        requeue: true,
-    };
-    comes_back(
-        alloc,
-        AMQPMethod::Nack(method),
-        &[0, 60, 0, 120, 0, 0, 0, 0, 0, 0, 0, 7, 3],
-    )
+    for (requeue, flags) in [(true, 3), (false, 1)] {
+        let method = Nack {
+            delivery_tag: 7,
+            multiple: true,
+            requeue,
+        };
+        comes_back(
+            alloc,
+            AMQPMethod::Nack(method),
+            &[0, 60, 0, 120, 0, 0, 0, 0, 0, 0, 0, 7, flags],
+        )?;
+    }
+    Ok(())
 }
 
 #[test]
-fn recover_and_its_answer(rt: HostRuntime) -> Result<(), Fail> {
+fn messages_recovered(rt: HostRuntime) -> Result<(), Fail> {
     let alloc = rt.alloc();
     let method = RecoverAsync { requeue: true };
     comes_back(alloc, AMQPMethod::RecoverAsync(method), &[0, 60, 0, 100, 1])?;
     let method = Recover { requeue: true };
     comes_back(alloc, AMQPMethod::Recover(method), &[0, 60, 0, 110, 1])?;
     comes_back(alloc, AMQPMethod::RecoverOk(RecoverOk {}), &[0, 60, 0, 111])
-}
-
-#[test]
-fn each_flag_has_its_bit(rt: HostRuntime) -> Result<(), Fail> {
-    let alloc = rt.alloc();
-    let method = Nack {
-        delivery_tag: 1,
-        multiple: true,
-        requeue: false,
-    };
-    comes_back(
-        alloc,
-        AMQPMethod::Nack(method),
-        &[0, 60, 0, 120, 0, 0, 0, 0, 0, 0, 0, 1, 1],
-    )
 }

@@ -20,7 +20,7 @@ pub fn of_class(
     payload: &[u8],
 ) -> Result<(), Fail> {
     let written = after_id(payload);
-    agree!(alloc, method, out, payload, written; gen_channel, size_channel, put_channel, parse_channel, method.copy(alloc))?;
+    agree!(alloc, method, out, payload, written; gen_channel, size_channel, put_channel, parse_channel)?;
     alone(alloc, method, out, written)
 }
 
@@ -34,43 +34,33 @@ fn alone(
     let fields = after_id(written);
     match method {
         AMQPMethod::Open(m) =>
-            agree!(alloc, m, out, written, fields; gen_open, size_open, put_open, parse_open, m.clone()),
+            agree!(alloc, m, out, written, fields; gen_open, size_open, put_open, parse_open),
         AMQPMethod::OpenOk(m) =>
-            agree!(alloc, m, out, written, fields; gen_open_ok, size_open_ok, put_open_ok, parse_open_ok, m.clone()),
+            agree!(alloc, m, out, written, fields; gen_open_ok, size_open_ok, put_open_ok, parse_open_ok),
         AMQPMethod::Flow(m) =>
-            agree!(alloc, m, out, written, fields; gen_flow, size_flow, put_flow, parse_flow, m.clone()),
+            agree!(alloc, m, out, written, fields; gen_flow, size_flow, put_flow, parse_flow),
         AMQPMethod::FlowOk(m) =>
-            agree!(alloc, m, out, written, fields; gen_flow_ok, size_flow_ok, put_flow_ok, parse_flow_ok, m.clone()),
+            agree!(alloc, m, out, written, fields; gen_flow_ok, size_flow_ok, put_flow_ok, parse_flow_ok),
         AMQPMethod::Close(m) =>
-            agree!(alloc, m, out, written, fields; gen_close, size_close, put_close, parse_close, m.copy(alloc)),
+            agree!(alloc, m, out, written, fields; gen_close, size_close, put_close, parse_close),
         AMQPMethod::CloseOk(m) =>
-            agree!(alloc, m, out, written, fields; gen_close_ok, size_close_ok, put_close_ok, parse_close_ok, m.clone()),
+            agree!(alloc, m, out, written, fields; gen_close_ok, size_close_ok, put_close_ok, parse_close_ok),
     }
 }
 
 #[test]
-fn open_and_its_answer(rt: HostRuntime) -> Result<(), Fail> {
+fn channels(rt: HostRuntime) -> Result<(), Fail> {
     let alloc = rt.alloc();
     comes_back(alloc, AMQPMethod::Open(Open {}), &[0, 20, 0, 10, 0])?;
     comes_back(
         alloc,
         AMQPMethod::OpenOk(OpenOk {}),
         &[0, 20, 0, 11, 0, 0, 0, 0],
-    )
-}
-
-#[test]
-fn flow_and_its_answer(rt: HostRuntime) -> Result<(), Fail> {
-    let alloc = rt.alloc();
+    )?;
     let method = Flow { active: true };
     comes_back(alloc, AMQPMethod::Flow(method), &[0, 20, 0, 20, 1])?;
     let method = FlowOk { active: true };
-    comes_back(alloc, AMQPMethod::FlowOk(method), &[0, 20, 0, 21, 1])
-}
-
-#[test]
-fn close_and_its_answer(rt: HostRuntime) -> Result<(), Fail> {
-    let alloc = rt.alloc();
+    comes_back(alloc, AMQPMethod::FlowOk(method), &[0, 20, 0, 21, 1])?;
     let method = Close {
         reply_code: 7,
         reply_text: text(alloc),

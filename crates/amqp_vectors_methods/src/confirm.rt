@@ -19,7 +19,7 @@ pub fn of_class(
     payload: &[u8],
 ) -> Result<(), Fail> {
     let written = after_id(payload);
-    agree!(alloc, method, out, payload, written; gen_confirm, size_confirm, put_confirm, parse_confirm, method.copy(alloc))?;
+    agree!(alloc, method, out, payload, written; gen_confirm, size_confirm, put_confirm, parse_confirm)?;
     alone(alloc, method, out, written)
 }
 
@@ -33,14 +33,14 @@ fn alone(
     let fields = after_id(written);
     match method {
         AMQPMethod::Select(m) =>
-            agree!(alloc, m, out, written, fields; gen_select, size_select, put_select, parse_select, m.clone()),
+            agree!(alloc, m, out, written, fields; gen_select, size_select, put_select, parse_select),
         AMQPMethod::SelectOk(m) =>
-            agree!(alloc, m, out, written, fields; gen_select_ok, size_select_ok, put_select_ok, parse_select_ok, m.clone()),
+            agree!(alloc, m, out, written, fields; gen_select_ok, size_select_ok, put_select_ok, parse_select_ok),
     }
 }
 
 #[test]
-fn select_and_its_answer(rt: HostRuntime) -> Result<(), Fail> {
+fn confirms(rt: HostRuntime) -> Result<(), Fail> {
     let alloc = rt.alloc();
     let method = Select { nowait: true };
     comes_back(alloc, AMQPMethod::Select(method), &[0, 85, 0, 10, 1])?;

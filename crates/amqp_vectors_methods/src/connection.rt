@@ -20,7 +20,7 @@ pub fn of_class(
     payload: &[u8],
 ) -> Result<(), Fail> {
     let written = after_id(payload);
-    agree!(alloc, method, out, payload, written; gen_connection, size_connection, put_connection, parse_connection, method.copy(alloc))?;
+    agree!(alloc, method, out, payload, written; gen_connection, size_connection, put_connection, parse_connection)?;
     negotiating(alloc, method, out, written)
 }
 
@@ -34,17 +34,17 @@ fn negotiating(
     let fields = after_id(written);
     match method {
         AMQPMethod::Start(m) =>
-            agree!(alloc, m, out, written, fields; gen_start, size_start, put_start, parse_start, m.copy(alloc)),
+            agree!(alloc, m, out, written, fields; gen_start, size_start, put_start, parse_start),
         AMQPMethod::StartOk(m) =>
-            agree!(alloc, m, out, written, fields; gen_start_ok, size_start_ok, put_start_ok, parse_start_ok, m.copy(alloc)),
+            agree!(alloc, m, out, written, fields; gen_start_ok, size_start_ok, put_start_ok, parse_start_ok),
         AMQPMethod::Secure(m) =>
-            agree!(alloc, m, out, written, fields; gen_secure, size_secure, put_secure, parse_secure, m.copy(alloc)),
+            agree!(alloc, m, out, written, fields; gen_secure, size_secure, put_secure, parse_secure),
         AMQPMethod::SecureOk(m) =>
-            agree!(alloc, m, out, written, fields; gen_secure_ok, size_secure_ok, put_secure_ok, parse_secure_ok, m.copy(alloc)),
+            agree!(alloc, m, out, written, fields; gen_secure_ok, size_secure_ok, put_secure_ok, parse_secure_ok),
         AMQPMethod::Tune(m) =>
-            agree!(alloc, m, out, written, fields; gen_tune, size_tune, put_tune, parse_tune, m.clone()),
+            agree!(alloc, m, out, written, fields; gen_tune, size_tune, put_tune, parse_tune),
         AMQPMethod::TuneOk(m) =>
-            agree!(alloc, m, out, written, fields; gen_tune_ok, size_tune_ok, put_tune_ok, parse_tune_ok, m.clone()),
+            agree!(alloc, m, out, written, fields; gen_tune_ok, size_tune_ok, put_tune_ok, parse_tune_ok),
         _ => opening(alloc, method, out, written),
     }
 }
@@ -59,21 +59,21 @@ fn opening(
     let fields = after_id(written);
     match method {
         AMQPMethod::Open(m) =>
-            agree!(alloc, m, out, written, fields; gen_open, size_open, put_open, parse_open, m.copy(alloc)),
+            agree!(alloc, m, out, written, fields; gen_open, size_open, put_open, parse_open),
         AMQPMethod::OpenOk(m) =>
-            agree!(alloc, m, out, written, fields; gen_open_ok, size_open_ok, put_open_ok, parse_open_ok, m.clone()),
+            agree!(alloc, m, out, written, fields; gen_open_ok, size_open_ok, put_open_ok, parse_open_ok),
         AMQPMethod::Close(m) =>
-            agree!(alloc, m, out, written, fields; gen_close, size_close, put_close, parse_close, m.copy(alloc)),
+            agree!(alloc, m, out, written, fields; gen_close, size_close, put_close, parse_close),
         AMQPMethod::CloseOk(m) =>
-            agree!(alloc, m, out, written, fields; gen_close_ok, size_close_ok, put_close_ok, parse_close_ok, m.clone()),
+            agree!(alloc, m, out, written, fields; gen_close_ok, size_close_ok, put_close_ok, parse_close_ok),
         AMQPMethod::Blocked(m) =>
-            agree!(alloc, m, out, written, fields; gen_blocked, size_blocked, put_blocked, parse_blocked, m.copy(alloc)),
+            agree!(alloc, m, out, written, fields; gen_blocked, size_blocked, put_blocked, parse_blocked),
         AMQPMethod::Unblocked(m) =>
-            agree!(alloc, m, out, written, fields; gen_unblocked, size_unblocked, put_unblocked, parse_unblocked, m.clone()),
+            agree!(alloc, m, out, written, fields; gen_unblocked, size_unblocked, put_unblocked, parse_unblocked),
         AMQPMethod::UpdateSecret(m) =>
-            agree!(alloc, m, out, written, fields; gen_update_secret, size_update_secret, put_update_secret, parse_update_secret, m.copy(alloc)),
+            agree!(alloc, m, out, written, fields; gen_update_secret, size_update_secret, put_update_secret, parse_update_secret),
         AMQPMethod::UpdateSecretOk(m) =>
-            agree!(alloc, m, out, written, fields; gen_update_secret_ok, size_update_secret_ok, put_update_secret_ok, parse_update_secret_ok, m.clone()),
+            agree!(alloc, m, out, written, fields; gen_update_secret_ok, size_update_secret_ok, put_update_secret_ok, parse_update_secret_ok),
         _ => Err(Fail::new("a method of no row")),
     }
 }
@@ -111,7 +111,7 @@ fn start_and_its_answer(rt: HostRuntime) -> Result<(), Fail> {
 }
 
 #[test]
-fn secure_and_its_answer(rt: HostRuntime) -> Result<(), Fail> {
+fn secure_tune_and_their_answers(rt: HostRuntime) -> Result<(), Fail> {
     let alloc = rt.alloc();
     let method = Secure {
         challenge: bytes(alloc),
@@ -128,12 +128,7 @@ fn secure_and_its_answer(rt: HostRuntime) -> Result<(), Fail> {
         alloc,
         AMQPMethod::SecureOk(method),
         &[0, 10, 0, 21, 0, 0, 0, 1, 98],
-    )
-}
-
-#[test]
-fn tune_and_its_answer(rt: HostRuntime) -> Result<(), Fail> {
-    let alloc = rt.alloc();
+    )?;
     let method = Tune {
         channel_max: 7,
         frame_max: 7,
@@ -157,7 +152,7 @@ fn tune_and_its_answer(rt: HostRuntime) -> Result<(), Fail> {
 }
 
 #[test]
-fn open_and_its_answer(rt: HostRuntime) -> Result<(), Fail> {
+fn open_close_and_their_answers(rt: HostRuntime) -> Result<(), Fail> {
     let alloc = rt.alloc();
     let method = Open {
         virtual_host: text(alloc),
@@ -167,12 +162,7 @@ fn open_and_its_answer(rt: HostRuntime) -> Result<(), Fail> {
         AMQPMethod::Open(method),
         &[0, 10, 0, 40, 1, 97, 0, 0],
     )?;
-    comes_back(alloc, AMQPMethod::OpenOk(OpenOk {}), &[0, 10, 0, 41, 0])
-}
-
-#[test]
-fn close_and_its_answer(rt: HostRuntime) -> Result<(), Fail> {
-    let alloc = rt.alloc();
+    comes_back(alloc, AMQPMethod::OpenOk(OpenOk {}), &[0, 10, 0, 41, 0])?;
     let method = Close {
         reply_code: 7,
         reply_text: text(alloc),
@@ -188,18 +178,13 @@ fn close_and_its_answer(rt: HostRuntime) -> Result<(), Fail> {
 }
 
 #[test]
-fn blocked_and_unblocked(rt: HostRuntime) -> Result<(), Fail> {
+fn blocked_and_update_secret(rt: HostRuntime) -> Result<(), Fail> {
     let alloc = rt.alloc();
     let method = Blocked {
         reason: text(alloc),
     };
     comes_back(alloc, AMQPMethod::Blocked(method), &[0, 10, 0, 60, 1, 97])?;
-    comes_back(alloc, AMQPMethod::Unblocked(Unblocked {}), &[0, 10, 0, 61])
-}
-
-#[test]
-fn update_secret_and_its_answer(rt: HostRuntime) -> Result<(), Fail> {
-    let alloc = rt.alloc();
+    comes_back(alloc, AMQPMethod::Unblocked(Unblocked {}), &[0, 10, 0, 61])?;
     let method = UpdateSecret {
         new_secret: bytes(alloc),
         reason: text(alloc),

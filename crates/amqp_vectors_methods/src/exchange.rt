@@ -20,7 +20,7 @@ pub fn of_class(
     payload: &[u8],
 ) -> Result<(), Fail> {
     let written = after_id(payload);
-    agree!(alloc, method, out, payload, written; gen_exchange, size_exchange, put_exchange, parse_exchange, method.copy(alloc))?;
+    agree!(alloc, method, out, payload, written; gen_exchange, size_exchange, put_exchange, parse_exchange)?;
     declaring(alloc, method, out, written)
 }
 
@@ -34,13 +34,13 @@ fn declaring(
     let fields = after_id(written);
     match method {
         AMQPMethod::Declare(m) =>
-            agree!(alloc, m, out, written, fields; gen_declare, size_declare, put_declare, parse_declare, m.copy(alloc)),
+            agree!(alloc, m, out, written, fields; gen_declare, size_declare, put_declare, parse_declare),
         AMQPMethod::DeclareOk(m) =>
-            agree!(alloc, m, out, written, fields; gen_declare_ok, size_declare_ok, put_declare_ok, parse_declare_ok, m.clone()),
+            agree!(alloc, m, out, written, fields; gen_declare_ok, size_declare_ok, put_declare_ok, parse_declare_ok),
         AMQPMethod::Delete(m) =>
-            agree!(alloc, m, out, written, fields; gen_delete, size_delete, put_delete, parse_delete, m.copy(alloc)),
+            agree!(alloc, m, out, written, fields; gen_delete, size_delete, put_delete, parse_delete),
         AMQPMethod::DeleteOk(m) =>
-            agree!(alloc, m, out, written, fields; gen_delete_ok, size_delete_ok, put_delete_ok, parse_delete_ok, m.clone()),
+            agree!(alloc, m, out, written, fields; gen_delete_ok, size_delete_ok, put_delete_ok, parse_delete_ok),
         _ => binding(alloc, method, out, written),
     }
 }
@@ -55,19 +55,19 @@ fn binding(
     let fields = after_id(written);
     match method {
         AMQPMethod::Bind(m) =>
-            agree!(alloc, m, out, written, fields; gen_bind, size_bind, put_bind, parse_bind, m.copy(alloc)),
+            agree!(alloc, m, out, written, fields; gen_bind, size_bind, put_bind, parse_bind),
         AMQPMethod::BindOk(m) =>
-            agree!(alloc, m, out, written, fields; gen_bind_ok, size_bind_ok, put_bind_ok, parse_bind_ok, m.clone()),
+            agree!(alloc, m, out, written, fields; gen_bind_ok, size_bind_ok, put_bind_ok, parse_bind_ok),
         AMQPMethod::Unbind(m) =>
-            agree!(alloc, m, out, written, fields; gen_unbind, size_unbind, put_unbind, parse_unbind, m.copy(alloc)),
+            agree!(alloc, m, out, written, fields; gen_unbind, size_unbind, put_unbind, parse_unbind),
         AMQPMethod::UnbindOk(m) =>
-            agree!(alloc, m, out, written, fields; gen_unbind_ok, size_unbind_ok, put_unbind_ok, parse_unbind_ok, m.clone()),
+            agree!(alloc, m, out, written, fields; gen_unbind_ok, size_unbind_ok, put_unbind_ok, parse_unbind_ok),
         _ => Err(Fail::new("a method of no row")),
     }
 }
 
 #[test]
-fn declare_and_its_answer(rt: HostRuntime) -> Result<(), Fail> {
+fn exchanges(rt: HostRuntime) -> Result<(), Fail> {
     let alloc = rt.alloc();
     let method = Declare {
         exchange: text(alloc),
@@ -84,12 +84,7 @@ fn declare_and_its_answer(rt: HostRuntime) -> Result<(), Fail> {
         AMQPMethod::Declare(method),
         &[0, 40, 0, 10, 0, 0, 1, 97, 1, 97, 31, 0, 0, 0, 3, 1, 107, 86],
     )?;
-    comes_back(alloc, AMQPMethod::DeclareOk(DeclareOk {}), &[0, 40, 0, 11])
-}
-
-#[test]
-fn delete_and_its_answer(rt: HostRuntime) -> Result<(), Fail> {
-    let alloc = rt.alloc();
+    comes_back(alloc, AMQPMethod::DeclareOk(DeclareOk {}), &[0, 40, 0, 11])?;
     let method = Delete {
         exchange: text(alloc),
         if_unused: true,
@@ -104,7 +99,7 @@ fn delete_and_its_answer(rt: HostRuntime) -> Result<(), Fail> {
 }
 
 #[test]
-fn bind_and_its_answer(rt: HostRuntime) -> Result<(), Fail> {
+fn bindings(rt: HostRuntime) -> Result<(), Fail> {
     let alloc = rt.alloc();
     let method = Bind {
         destination: text(alloc),
@@ -120,12 +115,7 @@ fn bind_and_its_answer(rt: HostRuntime) -> Result<(), Fail> {
             0, 40, 0, 30, 0, 0, 1, 97, 1, 97, 1, 97, 1, 0, 0, 0, 3, 1, 107, 86,
         ],
     )?;
-    comes_back(alloc, AMQPMethod::BindOk(BindOk {}), &[0, 40, 0, 31])
-}
-
-#[test]
-fn unbind_and_its_answer(rt: HostRuntime) -> Result<(), Fail> {
-    let alloc = rt.alloc();
+    comes_back(alloc, AMQPMethod::BindOk(BindOk {}), &[0, 40, 0, 31])?;
     let method = Unbind {
         destination: text(alloc),
         source: text(alloc),

@@ -1,5 +1,4 @@
-//! Tests of methods: each method of the eight classes with its bytes, the properties of messages, ids of no class or
-//! method, and memory that is refused.
+//! Tests of methods: each method of the eight classes with its bytes, and ids of no class or method.
 #![tactic(auto)]
 
 #[cfg(test)]
@@ -17,11 +16,7 @@ mod exchange;
 #[cfg(test)]
 mod made;
 #[cfg(test)]
-mod properties;
-#[cfg(test)]
 mod queue;
-#[cfg(test)]
-mod refused;
 #[cfg(test)]
 mod rows;
 #[cfg(test)]

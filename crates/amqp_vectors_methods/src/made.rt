@@ -5,17 +5,12 @@ use amqp_types::{LongString, ShortString};
 use amqp_values::{AMQPValue, FieldTable};
 use std::alloc::Global;
 
-/// The short string with this text.
-pub fn word(alloc: Global, text: &str) -> ShortString {
-    match ShortString::new(alloc, text) {
-        Ok(word) => word,
-        Err(_) => ShortString::empty(alloc),
-    }
-}
-
 /// The short string `a`.
 pub fn text(alloc: Global) -> ShortString {
-    word(alloc, "a")
+    match ShortString::new(alloc, "a") {
+        Ok(text) => text,
+        Err(_) => ShortString::empty(alloc),
+    }
 }
 
 /// The long string `b`.

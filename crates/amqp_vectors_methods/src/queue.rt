@@ -20,7 +20,7 @@ pub fn of_class(
     payload: &[u8],
 ) -> Result<(), Fail> {
     let written = after_id(payload);
-    agree!(alloc, method, out, payload, written; gen_queue, size_queue, put_queue, parse_queue, method.copy(alloc))?;
+    agree!(alloc, method, out, payload, written; gen_queue, size_queue, put_queue, parse_queue)?;
     declaring(alloc, method, out, written)
 }
 
@@ -34,15 +34,15 @@ fn declaring(
     let fields = after_id(written);
     match method {
         AMQPMethod::Declare(m) =>
-            agree!(alloc, m, out, written, fields; gen_declare, size_declare, put_declare, parse_declare, m.copy(alloc)),
+            agree!(alloc, m, out, written, fields; gen_declare, size_declare, put_declare, parse_declare),
         AMQPMethod::DeclareOk(m) =>
-            agree!(alloc, m, out, written, fields; gen_declare_ok, size_declare_ok, put_declare_ok, parse_declare_ok, m.copy(alloc)),
+            agree!(alloc, m, out, written, fields; gen_declare_ok, size_declare_ok, put_declare_ok, parse_declare_ok),
         AMQPMethod::Bind(m) =>
-            agree!(alloc, m, out, written, fields; gen_bind, size_bind, put_bind, parse_bind, m.copy(alloc)),
+            agree!(alloc, m, out, written, fields; gen_bind, size_bind, put_bind, parse_bind),
         AMQPMethod::BindOk(m) =>
-            agree!(alloc, m, out, written, fields; gen_bind_ok, size_bind_ok, put_bind_ok, parse_bind_ok, m.clone()),
+            agree!(alloc, m, out, written, fields; gen_bind_ok, size_bind_ok, put_bind_ok, parse_bind_ok),
         AMQPMethod::Purge(m) =>
-            agree!(alloc, m, out, written, fields; gen_purge, size_purge, put_purge, parse_purge, m.copy(alloc)),
+            agree!(alloc, m, out, written, fields; gen_purge, size_purge, put_purge, parse_purge),
         _ => deleting(alloc, method, out, written),
     }
 }
@@ -57,21 +57,21 @@ fn deleting(
     let fields = after_id(written);
     match method {
         AMQPMethod::PurgeOk(m) =>
-            agree!(alloc, m, out, written, fields; gen_purge_ok, size_purge_ok, put_purge_ok, parse_purge_ok, m.clone()),
+            agree!(alloc, m, out, written, fields; gen_purge_ok, size_purge_ok, put_purge_ok, parse_purge_ok),
         AMQPMethod::Delete(m) =>
-            agree!(alloc, m, out, written, fields; gen_delete, size_delete, put_delete, parse_delete, m.copy(alloc)),
+            agree!(alloc, m, out, written, fields; gen_delete, size_delete, put_delete, parse_delete),
         AMQPMethod::DeleteOk(m) =>
-            agree!(alloc, m, out, written, fields; gen_delete_ok, size_delete_ok, put_delete_ok, parse_delete_ok, m.clone()),
+            agree!(alloc, m, out, written, fields; gen_delete_ok, size_delete_ok, put_delete_ok, parse_delete_ok),
         AMQPMethod::Unbind(m) =>
-            agree!(alloc, m, out, written, fields; gen_unbind, size_unbind, put_unbind, parse_unbind, m.copy(alloc)),
+            agree!(alloc, m, out, written, fields; gen_unbind, size_unbind, put_unbind, parse_unbind),
         AMQPMethod::UnbindOk(m) =>
-            agree!(alloc, m, out, written, fields; gen_unbind_ok, size_unbind_ok, put_unbind_ok, parse_unbind_ok, m.clone()),
+            agree!(alloc, m, out, written, fields; gen_unbind_ok, size_unbind_ok, put_unbind_ok, parse_unbind_ok),
         _ => Err(Fail::new("a method of no row")),
     }
 }
 
 #[test]
-fn declare_and_its_answer(rt: HostRuntime) -> Result<(), Fail> {
+fn queues_declared_and_purged(rt: HostRuntime) -> Result<(), Fail> {
     let alloc = rt.alloc();
     let method = Declare {
         queue: text(alloc),
@@ -96,32 +96,7 @@ fn declare_and_its_answer(rt: HostRuntime) -> Result<(), Fail> {
         alloc,
         AMQPMethod::DeclareOk(method),
         &[0, 50, 0, 11, 1, 97, 0, 0, 0, 7, 0, 0, 0, 7],
-    )
-}
-
-#[test]
-fn bind_and_its_answer(rt: HostRuntime) -> Result<(), Fail> {
-    let alloc = rt.alloc();
-    let method = Bind {
-        queue: text(alloc),
-        exchange: text(alloc),
-        routing_key: text(alloc),
-        nowait: true,
-        arguments: table(alloc),
-    };
-    comes_back(
-        alloc,
-        AMQPMethod::Bind(method),
-        &[
-            0, 50, 0, 20, 0, 0, 1, 97, 1, 97, 1, 97, 1, 0, 0, 0, 3, 1, 107, 86,
-        ],
     )?;
-    comes_back(alloc, AMQPMethod::BindOk(BindOk {}), &[0, 50, 0, 21])
-}
-
-#[test]
-fn purge_and_its_answer(rt: HostRuntime) -> Result<(), Fail> {
-    let alloc = rt.alloc();
     let method = Purge {
         queue: text(alloc),
         nowait: true,
@@ -140,7 +115,7 @@ fn purge_and_its_answer(rt: HostRuntime) -> Result<(), Fail> {
 }
 
 #[test]
-fn delete_and_its_answer(rt: HostRuntime) -> Result<(), Fail> {
+fn queues_deleted(rt: HostRuntime) -> Result<(), Fail> {
     let alloc = rt.alloc();
     let method = Delete {
         queue: text(alloc),
@@ -162,8 +137,23 @@ fn delete_and_its_answer(rt: HostRuntime) -> Result<(), Fail> {
 }
 
 #[test]
-fn unbind_and_its_answer(rt: HostRuntime) -> Result<(), Fail> {
+fn bindings(rt: HostRuntime) -> Result<(), Fail> {
     let alloc = rt.alloc();
+    let method = Bind {
+        queue: text(alloc),
+        exchange: text(alloc),
+        routing_key: text(alloc),
+        nowait: true,
+        arguments: table(alloc),
+    };
+    comes_back(
+        alloc,
+        AMQPMethod::Bind(method),
+        &[
+            0, 50, 0, 20, 0, 0, 1, 97, 1, 97, 1, 97, 1, 0, 0, 0, 3, 1, 107, 86,
+        ],
+    )?;
+    comes_back(alloc, AMQPMethod::BindOk(BindOk {}), &[0, 50, 0, 21])?;
     let method = Unbind {
         queue: text(alloc),
         exchange: text(alloc),

@@ -14,6 +14,36 @@ fn message(alloc: Global) -> ShortString {
     }
 }
 
+/// The codes of soft errors, and their texts.
+const SOFT: [(Identifier, AMQPSoftError, &str); 7] = [
+    (311, AMQPSoftError::CONTENTTOOLARGE, "CONTENT-TOO-LARGE"),
+    (312, AMQPSoftError::NOROUTE, "NO-ROUTE"),
+    (313, AMQPSoftError::NOCONSUMERS, "NO-CONSUMERS"),
+    (403, AMQPSoftError::ACCESSREFUSED, "ACCESS-REFUSED"),
+    (404, AMQPSoftError::NOTFOUND, "NOT-FOUND"),
+    (405, AMQPSoftError::RESOURCELOCKED, "RESOURCE-LOCKED"),
+    (
+        406,
+        AMQPSoftError::PRECONDITIONFAILED,
+        "PRECONDITION-FAILED",
+    ),
+];
+
+/// The codes of hard errors, and their texts.
+const HARD: [(Identifier, AMQPHardError, &str); 11] = [
+    (320, AMQPHardError::CONNECTIONFORCED, "CONNECTION-FORCED"),
+    (402, AMQPHardError::INVALIDPATH, "INVALID-PATH"),
+    (501, AMQPHardError::FRAMEERROR, "FRAME-ERROR"),
+    (502, AMQPHardError::SYNTAXERROR, "SYNTAX-ERROR"),
+    (503, AMQPHardError::COMMANDINVALID, "COMMAND-INVALID"),
+    (504, AMQPHardError::CHANNELERROR, "CHANNEL-ERROR"),
+    (505, AMQPHardError::UNEXPECTEDFRAME, "UNEXPECTED-FRAME"),
+    (506, AMQPHardError::RESOURCEERROR, "RESOURCE-ERROR"),
+    (530, AMQPHardError::NOTALLOWED, "NOT-ALLOWED"),
+    (540, AMQPHardError::NOTIMPLEMENTED, "NOT-IMPLEMENTED"),
+    (541, AMQPHardError::INTERNALERROR, "INTERNAL-ERROR"),
+];
+
 /// Fails unless the code is that of this error, and its text stands after another.
 fn is_code_of(
     alloc: Global,
@@ -25,17 +55,10 @@ fn is_code_of(
     same(AMQPErrorKind::from_id(code), Some(kind))?;
     same(kind.get_id(), code)?;
     shows(alloc, &kind, front, text, "")?;
-    same(
-        AMQPError::from_id(code, message(alloc)),
-        Some(AMQPError::new(kind, message(alloc))),
-    )?;
-    tells(
-        alloc,
-        &AMQPError::new(kind, message(alloc)),
-        kind,
-        front,
-        text,
-    )
+    let told = AMQPError::from_id(code, message(alloc));
+    same(told, Some(AMQPError::new(kind, message(alloc))))?;
+    let error = AMQPError::new(kind, message(alloc));
+    tells(alloc, &error, kind, front, text)
 }
 
 /// Fails unless the error has its kind, the message, and both with the code's text.
@@ -46,75 +69,36 @@ fn tells(
     front: &str,
     text: &str,
 ) -> Result<(), Fail> {
-    same(error.get_id(), kind.get_id())?;
-    same(*error.kind(), kind)?;
+    same((error.get_id(), *error.kind()), (kind.get_id(), kind))?;
     same(error.get_message().as_str(), "x")?;
     shows(alloc, error, front, text, ": x")?;
     answers(error.copy(alloc), error)
 }
 
-fn is_soft(alloc: Global, code: Identifier, error: AMQPSoftError, text: &str) -> Result<(), Fail> {
-    same(AMQPSoftError::from_id(code), Some(error))?;
-    same(AMQPHardError::from_id(code), None)?;
-    same(error.get_id(), code)?;
-    shows(alloc, &error, "", text, "")?;
-    is_code_of(alloc, code, error.into(), "AMQP soft error: ", text)
+#[test]
+fn codes_of_soft_errors(rt: HostRuntime) -> Result<(), Fail> {
+    let alloc = rt.alloc();
+    for (code, error, text) in SOFT {
+        same(AMQPSoftError::from_id(code), Some(error))?;
+        same(AMQPHardError::from_id(code), None)?;
+        same(error.get_id(), code)?;
+        shows(alloc, &error, "", text, "")?;
+        is_code_of(alloc, code, error.into(), "AMQP soft error: ", text)?;
+    }
+    Ok(())
 }
 
 #[test]
-fn seven_codes_are_of_soft_errors(rt: HostRuntime) -> Result<(), Fail> {
+fn codes_of_hard_errors(rt: HostRuntime) -> Result<(), Fail> {
     let alloc = rt.alloc();
-    is_soft(
-        alloc,
-        311,
-        AMQPSoftError::CONTENTTOOLARGE,
-        "CONTENT-TOO-LARGE",
-    )?;
-    is_soft(alloc, 312, AMQPSoftError::NOROUTE, "NO-ROUTE")?;
-    is_soft(alloc, 313, AMQPSoftError::NOCONSUMERS, "NO-CONSUMERS")?;
-    is_soft(alloc, 403, AMQPSoftError::ACCESSREFUSED, "ACCESS-REFUSED")?;
-    is_soft(alloc, 404, AMQPSoftError::NOTFOUND, "NOT-FOUND")?;
-    is_soft(alloc, 405, AMQPSoftError::RESOURCELOCKED, "RESOURCE-LOCKED")?;
-    is_soft(
-        alloc,
-        406,
-        AMQPSoftError::PRECONDITIONFAILED,
-        "PRECONDITION-FAILED",
-    )
-}
-
-fn is_hard(alloc: Global, code: Identifier, error: AMQPHardError, text: &str) -> Result<(), Fail> {
-    same(AMQPHardError::from_id(code), Some(error))?;
-    same(AMQPSoftError::from_id(code), None)?;
-    same(error.get_id(), code)?;
-    shows(alloc, &error, "", text, "")?;
-    is_code_of(alloc, code, error.into(), "AMQP hard error: ", text)
-}
-
-#[test]
-fn eleven_codes_are_of_hard_errors(rt: HostRuntime) -> Result<(), Fail> {
-    let alloc = rt.alloc();
-    is_hard(
-        alloc,
-        320,
-        AMQPHardError::CONNECTIONFORCED,
-        "CONNECTION-FORCED",
-    )?;
-    is_hard(alloc, 402, AMQPHardError::INVALIDPATH, "INVALID-PATH")?;
-    is_hard(alloc, 501, AMQPHardError::FRAMEERROR, "FRAME-ERROR")?;
-    is_hard(alloc, 502, AMQPHardError::SYNTAXERROR, "SYNTAX-ERROR")?;
-    is_hard(alloc, 503, AMQPHardError::COMMANDINVALID, "COMMAND-INVALID")?;
-    is_hard(alloc, 504, AMQPHardError::CHANNELERROR, "CHANNEL-ERROR")?;
-    is_hard(
-        alloc,
-        505,
-        AMQPHardError::UNEXPECTEDFRAME,
-        "UNEXPECTED-FRAME",
-    )?;
-    is_hard(alloc, 506, AMQPHardError::RESOURCEERROR, "RESOURCE-ERROR")?;
-    is_hard(alloc, 530, AMQPHardError::NOTALLOWED, "NOT-ALLOWED")?;
-    is_hard(alloc, 540, AMQPHardError::NOTIMPLEMENTED, "NOT-IMPLEMENTED")?;
-    is_hard(alloc, 541, AMQPHardError::INTERNALERROR, "INTERNAL-ERROR")
+    for (code, error, text) in HARD {
+        same(AMQPHardError::from_id(code), Some(error))?;
+        same(AMQPSoftError::from_id(code), None)?;
+        same(error.get_id(), code)?;
+        shows(alloc, &error, "", text, "")?;
+        is_code_of(alloc, code, error.into(), "AMQP hard error: ", text)?;
+    }
+    Ok(())
 }
 
 #[test]
@@ -139,15 +123,6 @@ fn channel_close(alloc: Global, reply_code: u16) -> channel::Close {
     }
 }
 
-#[test]
-fn channels_close_with_errors(rt: HostRuntime) -> Result<(), Fail> {
-    let alloc = rt.alloc();
-    let told = AMQPError::try_from_channel_close(channel_close(alloc, 404));
-    same(told, Ok(not_found(alloc)))?;
-    let told = AMQPError::try_from_channel_close(channel_close(alloc, 200));
-    same(told, Err(channel_close(alloc, 200)))
-}
-
 fn connection_close(alloc: Global, reply_code: u16) -> connection::Close {
     connection::Close {
         reply_code,
@@ -157,9 +132,14 @@ fn connection_close(alloc: Global, reply_code: u16) -> connection::Close {
     }
 }
 
+/// A close without an error is handed back.
 #[test]
-fn connections_close_with_errors(rt: HostRuntime) -> Result<(), Fail> {
+fn peers_close_with_errors(rt: HostRuntime) -> Result<(), Fail> {
     let alloc = rt.alloc();
+    let told = AMQPError::try_from_channel_close(channel_close(alloc, 404));
+    same(told, Ok(not_found(alloc)))?;
+    let told = AMQPError::try_from_channel_close(channel_close(alloc, 200));
+    same(told, Err(channel_close(alloc, 200)))?;
     let told = AMQPError::try_from_connection_close(connection_close(alloc, 404));
     same(told, Ok(not_found(alloc)))?;
     let told = AMQPError::try_from_connection_close(connection_close(alloc, 200));

@@ -1,10 +1,5 @@
-//! What clients log in with, and the numbers of the protocol.
+//! What clients log in with.
 
-use amqp_protocol::constants::{
-    FRAME_BODY, FRAME_END, FRAME_HEADER, FRAME_HEARTBEAT, FRAME_METHOD, FRAME_MIN_SIZE,
-    REPLY_SUCCESS,
-};
-use amqp_protocol::metadata::PORT;
 use amqp_protocol::{AMQPUserInfo, Credentials, SASLMechanism};
 use amqp_types::{LongString, MakeError};
 use amqp_vectors::asking::{answers, same};
@@ -19,73 +14,90 @@ fn string(alloc: Global, bytes: &[u8]) -> LongString {
     }
 }
 
-/// A user name and a password that differ in each byte and in length.
-fn user_info(alloc: Global) -> AMQPUserInfo {
-    AMQPUserInfo {
-        username: string(alloc, b"me"),
-        password: string(alloc, b"abc"),
-    }
+/// Fails unless the call returned these bytes.
+fn is_string(found: Result<LongString, MakeError>, wanted: &[u8]) -> Result<(), Fail> {
+    same(found?.as_bytes(), wanted)
 }
 
-/// Fails unless a client that logs in so sends these bytes.
-fn sends(alloc: Global, mechanism: SASLMechanism, wanted: &[u8]) -> Result<(), Fail> {
-    let credentials = Credentials::from_user_info(user_info(alloc));
-    answers(
-        credentials.sasl_auth_string(alloc, mechanism),
-        &string(alloc, wanted),
-    )
-}
-
-#[test]
-fn each_mechanism_has_its_string(rt: HostRuntime) -> Result<(), Fail> {
-    let alloc = rt.alloc();
-    let entries = b"\x05LOGINS\0\0\0\x02me\x08PASSWORDS\0\0\0\x03abc";
-    sends(alloc, SASLMechanism::AMQPlain, entries)?;
-    sends(alloc, SASLMechanism::Anonymous, b"")?;
-    sends(alloc, SASLMechanism::External, b"")?;
-    sends(alloc, SASLMechanism::Plain, b"\0me\0abc")?;
-    sends(alloc, SASLMechanism::RabbitCrDemo, b"me")
-}
-
-fn demonstrates(alloc: Global, credentials: &Credentials) -> Result<(), Fail> {
+/// Fails unless a client with these credentials sends these bytes by the mechanisms, and answers a challenge so.
+fn sends(
+    alloc: Global,
+    credentials: &Credentials,
+    by_table: &[u8],
+    by_plain: &[u8],
+    by_demonstration: &[u8],
+    answer: &[u8],
+) -> Result<(), Fail> {
+    is_string(
+        credentials.sasl_auth_string(alloc, SASLMechanism::AMQPlain),
+        by_table,
+    )?;
+    is_string(
+        credentials.sasl_auth_string(alloc, SASLMechanism::Anonymous),
+        b"",
+    )?;
+    is_string(
+        credentials.sasl_auth_string(alloc, SASLMechanism::External),
+        b"",
+    )?;
+    is_string(
+        credentials.sasl_auth_string(alloc, SASLMechanism::Plain),
+        by_plain,
+    )?;
+    is_string(
+        credentials.sasl_auth_string(alloc, SASLMechanism::RabbitCrDemo),
+        by_demonstration,
+    )?;
     same(
         credentials.rabbit_cr_demo_challenge(),
         "Please tell me your password",
     )?;
-    answers(
-        credentials.rabbit_cr_demo_answer(alloc),
-        &string(alloc, b"My password is abc"),
-    )
-}
-
-#[test]
-fn the_demonstration_asks_and_answers(rt: HostRuntime) -> Result<(), Fail> {
-    let alloc = rt.alloc();
-    demonstrates(alloc, &Credentials::from_user_info(user_info(alloc)))
-}
-
-fn info_is_copied(alloc: Global, info: &AMQPUserInfo) -> Result<(), Fail> {
-    answers(info.copy(alloc), info)
-}
-
-fn credentials_are_copied(alloc: Global, credentials: &Credentials) -> Result<(), Fail> {
-    same(credentials.username().as_bytes(), b"me".as_slice())?;
-    same(credentials.password().as_bytes(), b"abc".as_slice())?;
+    is_string(credentials.rabbit_cr_demo_answer(alloc), answer)?;
     answers(credentials.copy(alloc), credentials)
 }
 
-#[test]
-fn logins_are_copied(rt: HostRuntime) -> Result<(), Fail> {
-    let alloc = rt.alloc();
-    info_is_copied(alloc, &user_info(alloc))?;
-    credentials_are_copied(alloc, &Credentials::from_user_info(user_info(alloc)))
+/// Fails unless these are the credentials of the user, whose copy is equal.
+fn are_of(alloc: Global, credentials: &Credentials, user: &AMQPUserInfo) -> Result<(), Fail> {
+    same(credentials.username(), &user.username)?;
+    same(credentials.password(), &user.password)?;
+    answers(user.copy(alloc), user)?;
+    answers(
+        user.copy(alloc).map(Credentials::from_user_info),
+        credentials,
+    )
+}
+
+fn guest_logs_in(alloc: Global, guest: &Credentials) -> Result<(), Fail> {
+    sends(
+        alloc,
+        guest,
+        b"\x05LOGINS\0\0\0\x05guest\x08PASSWORDS\0\0\0\x05guest",
+        b"\0guest\0guest",
+        b"guest",
+        b"My password is guest",
+    )?;
+    let user = AMQPUserInfo {
+        username: string(alloc, b"guest"),
+        password: string(alloc, b"guest"),
+    };
+    are_of(alloc, guest, &user)
 }
 
 #[test]
-fn the_numbers_of_the_protocol() -> Result<(), Fail> {
-    same([FRAME_METHOD, FRAME_HEADER, FRAME_BODY], [1, 2, 3])?;
-    same([FRAME_HEARTBEAT, FRAME_END], [8, 206])?;
-    same(FRAME_MIN_SIZE, 8192)?;
-    same(REPLY_SUCCESS, 200)?;
-    same(PORT, 5672)
+fn guests_log_in(rt: HostRuntime) -> Result<(), Fail> {
+    guest_logs_in(rt.alloc(), &Credentials::guest(rt.alloc())?)
+}
+
+/// The user name and the password differ in each byte and in length.
+#[test]
+fn users_log_in(rt: HostRuntime) -> Result<(), Fail> {
+    let alloc = rt.alloc();
+    sends(
+        alloc,
+        &Credentials::new(string(alloc, b"me"), string(alloc, b"abc")),
+        b"\x05LOGINS\0\0\0\x02me\x08PASSWORDS\0\0\0\x03abc",
+        b"\0me\0abc",
+        b"me",
+        b"My password is abc",
+    )
 }

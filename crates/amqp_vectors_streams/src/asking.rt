@@ -1,8 +1,9 @@
 //! How streams are tested: what canonicalizing some bytes returns, and what it writes.
 
 use amqp_lent::canonicalize_lent;
-use amqp_stream::{PieceSource, Source, StreamError, VecSink, canonicalize};
-use amqp_vectors::asking::{same, same_in};
+use amqp_stream::{PieceSource, Source, StreamError, VecSink, canonicalize, canonicalize_in};
+use amqp_types::Profile;
+use amqp_vectors::asking::same_in;
 use std::alloc::Global;
 use std::test::Fail;
 
@@ -17,6 +18,12 @@ pub const HEARTBEAT: [u8; 8] = [8, 0, 0, 0, 0, 0, 0, 206];
 
 /// Two of them.
 pub const TWO_HEARTBEATS: [u8; 16] = [8, 0, 0, 0, 0, 0, 0, 206, 8, 0, 0, 0, 0, 0, 0, 206];
+
+/// `queue.declare` of `some_queue` on channel 1, with all its flags.
+pub const DECLARE: [u8; 30] = [
+    1, 0, 1, 0, 0, 0, 22, 0, 50, 0, 10, 0, 0, 10, 115, 111, 109, 101, 95, 113, 117, 101, 117, 101,
+    31, 0, 0, 0, 0, 206,
+];
 
 /// A client's message on channel 1: `basic.publish` to the queue `hello`, its content header and its body,
 /// of 22, 34 and 13 bytes.
@@ -43,46 +50,63 @@ pub const START_IN_ORDER: [u8; 97] = [
     206,
 ];
 
-/// Fails unless canonicalizing the source returns this outcome, and writes these bytes.
+/// Fails unless a call has ended with this outcome, and written these bytes.
+pub fn has_ended(
+    row: &str,
+    found: Result<(), StreamError>,
+    outcome: Result<(), StreamError>,
+    bytes: &[u8],
+    written: &[u8],
+) -> Result<(), Fail> {
+    same_in(row, found, outcome)?;
+    same_in(row, bytes, written)
+}
+
+/// Fails unless canonicalizing the source ends so.
 pub fn ends<S: Source>(
     alloc: Global,
+    row: &str,
     source: &mut S,
     turns: u64,
     outcome: Result<(), StreamError>,
     written: &[u8],
 ) -> Result<(), Fail> {
     let mut sink = VecSink::new(alloc);
-    same(
-        canonicalize(alloc, source, &mut sink, LIMIT, turns),
-        outcome,
-    )?;
-    same(sink.bytes(), written)
+    let found = canonicalize(alloc, source, &mut sink, LIMIT, turns);
+    has_ended(row, found, outcome, sink.bytes(), written)
 }
 
-/// Fails unless canonicalizing the bytes, read in these pieces, returns this outcome and writes these bytes, by the
-/// codec and by the borrowed one. Each may make one read more than there are bytes.
-fn canonicalizes_in(
+/// Fails unless it ends so in a profile.
+pub fn ends_in<S: Source>(
     alloc: Global,
     row: &str,
-    bytes: &[u8],
-    pieces: &[usize],
+    profile: Profile,
+    source: &mut S,
+    turns: u64,
     outcome: Result<(), StreamError>,
     written: &[u8],
 ) -> Result<(), Fail> {
-    let turns = bytes.len() as u64 + 1;
-    let mut source = PieceSource::new(bytes, pieces, &[]);
     let mut sink = VecSink::new(alloc);
-    let found = canonicalize(alloc, &mut source, &mut sink, LIMIT, turns);
-    same_in(row, found, outcome)?;
-    same_in(row, sink.bytes(), written)?;
-    let mut source = PieceSource::new(bytes, pieces, &[]);
-    let mut sink = VecSink::new(alloc);
-    let found = canonicalize_lent(alloc, &mut source, &mut sink, LIMIT, turns);
-    same_in(row, found, outcome)?;
-    same_in(row, sink.bytes(), written)
+    let found = canonicalize_in(alloc, profile, source, &mut sink, LIMIT, turns);
+    has_ended(row, found, outcome, sink.bytes(), written)
 }
 
-/// The same, whole and in single bytes.
+/// Fails unless it ends so by the borrowed codec.
+fn ends_lent<S: Source>(
+    alloc: Global,
+    row: &str,
+    source: &mut S,
+    turns: u64,
+    outcome: Result<(), StreamError>,
+    written: &[u8],
+) -> Result<(), Fail> {
+    let mut sink = VecSink::new(alloc);
+    let found = canonicalize_lent(alloc, source, &mut sink, LIMIT, turns);
+    has_ended(row, found, outcome, sink.bytes(), written)
+}
+
+/// Fails unless canonicalizing the bytes, whole and in single bytes, ends so by a codec and by the borrowed one. Each
+/// may make one read more than there are bytes.
 pub fn canonicalizes(
     alloc: Global,
     row: &str,
@@ -90,6 +114,12 @@ pub fn canonicalizes(
     outcome: Result<(), StreamError>,
     written: &[u8],
 ) -> Result<(), Fail> {
-    canonicalizes_in(alloc, row, bytes, &[], outcome, written)?;
-    canonicalizes_in(alloc, row, bytes, &ONES, outcome, written)
+    let turns = bytes.len() as u64 + 1;
+    for pieces in [[].as_slice(), ONES.as_slice()] {
+        let mut source = PieceSource::new(bytes, pieces, &[]);
+        ends(alloc, row, &mut source, turns, outcome, written)?;
+        let mut source = PieceSource::new(bytes, pieces, &[]);
+        ends_lent(alloc, row, &mut source, turns, outcome, written)?;
+    }
+    Ok(())
 }

@@ -4,7 +4,11 @@
 
 #[cfg(test)]
 mod asking;
+#[cfg(test)]
+mod codec;
 pub mod counting;
+#[cfg(test)]
+mod failing;
 #[cfg(test)]
 mod faults;
 pub mod forwarding;
@@ -16,11 +20,11 @@ mod made;
 mod proxied;
 pub mod proxy;
 #[cfg(test)]
+mod reading;
+#[cfg(test)]
 mod refused;
 #[cfg(test)]
 mod rows;
-#[cfg(test)]
-mod streams;
 #[cfg(test)]
 mod tidy;
 #[cfg(test)]

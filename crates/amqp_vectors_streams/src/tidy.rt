@@ -1,18 +1,13 @@
 //! Streams of which only tidy bytes are taken: reserved fields, unused bits and heartbeat payloads stand at
 //! their constants.
 
-use crate::asking::{HEARTBEAT, LIMIT, MESSAGE, ONES, START, START_IN_ORDER};
-use amqp_stream::{Codec, PieceSource, StreamError, VecSink, canonicalize, canonicalize_in};
+use crate::asking::{
+    DECLARE, HEARTBEAT, LIMIT, MESSAGE, ONES, START, START_IN_ORDER, ends_in, has_ended,
+};
+use amqp_stream::{Codec, PieceSource, StreamError, VecSink};
 use amqp_types::Profile;
-use amqp_vectors::asking::same_in;
 use std::alloc::Global;
 use std::test::Fail;
-
-/// `queue.declare` of `some_queue` on channel 1, with all its flags.
-const DECLARE: [u8; 30] = [
-    1, 0, 1, 0, 0, 0, 22, 0, 50, 0, 10, 0, 0, 10, 115, 111, 109, 101, 95, 113, 117, 101, 117, 101,
-    31, 0, 0, 0, 0, 206,
-];
 
 /// Bytes, the outcome, and what is written for them.
 const ROWS: [(&str, &[u8], Result<(), StreamError>, &[u8]); 14] = [
@@ -100,56 +95,32 @@ const ROWS: [(&str, &[u8], Result<(), StreamError>, &[u8]); 14] = [
     ),
 ];
 
-/// Fails unless canonicalizing the bytes, read in these pieces, returns this outcome and writes these bytes: by the
-/// free call, and by a codec.
-fn canonicalizes_in(
+/// Fails unless a codec ends so.
+fn codec_ends(
     alloc: Global,
     row: &str,
-    bytes: &[u8],
-    pieces: &[usize],
+    codec: &mut Codec,
+    source: &mut PieceSource<'_>,
     outcome: Result<(), StreamError>,
     written: &[u8],
 ) -> Result<(), Fail> {
-    let mut source = PieceSource::new(bytes, pieces, &[]);
     let mut sink = VecSink::new(alloc);
-    let found = canonicalize_in(alloc, Profile::Tidy, &mut source, &mut sink, LIMIT, 98);
-    same_in(row, found, outcome)?;
-    same_in(row, sink.bytes(), written)?;
-    let mut codec = Codec::open(alloc, LIMIT)?;
-    let mut source = PieceSource::new(bytes, pieces, &[]);
-    let mut sink = VecSink::new(alloc);
-    let found = codec.canonicalize_in(alloc, Profile::Tidy, &mut source, &mut sink, 98);
-    same_in(row, found, outcome)?;
-    same_in(row, sink.bytes(), written)
+    let found = codec.canonicalize_in(alloc, Profile::Tidy, source, &mut sink, 98);
+    has_ended(row, found, outcome, sink.bytes(), written)
 }
 
 #[test]
 fn only_tidy_bytes_are_taken(rt: HostRuntime) -> Result<(), Fail> {
+    let alloc = rt.alloc();
+    let mut codec = Codec::open(alloc, LIMIT)?;
     for (row, bytes, outcome, written) in ROWS {
-        canonicalizes_in(rt.alloc(), row, bytes, &[], outcome, written)?;
-        canonicalizes_in(rt.alloc(), row, bytes, &ONES, outcome, written)?;
-    }
-    Ok(())
-}
-
-/// At the profile that takes all, which `canonicalize` is, the same cases are never refused as not tidy.
-#[test]
-fn all_bytes_are_taken_elsewhere(rt: HostRuntime) -> Result<(), Fail> {
-    for (row, bytes, outcome, _) in ROWS {
-        let wanted = match outcome {
-            Err(StreamError::NotTidy) => Ok(()),
-            outcome => outcome,
-        };
-        let mut source = PieceSource::new(bytes, &[], &[]);
-        let mut sink = VecSink::new(rt.alloc());
-        let found = canonicalize(rt.alloc(), &mut source, &mut sink, LIMIT, 98);
-        same_in(row, found, wanted)?;
-        let mut source = PieceSource::new(bytes, &[], &[]);
-        let mut plain = VecSink::new(rt.alloc());
-        let profile = Profile::Plain;
-        let found = canonicalize_in(rt.alloc(), profile, &mut source, &mut plain, LIMIT, 98);
-        same_in(row, found, wanted)?;
-        same_in(row, plain.bytes(), sink.bytes())?;
+        for pieces in [[].as_slice(), ONES.as_slice()] {
+            let mut source = PieceSource::new(bytes, pieces, &[]);
+            let tidy = Profile::Tidy;
+            ends_in(alloc, row, tidy, &mut source, 98, outcome, written)?;
+            let mut source = PieceSource::new(bytes, pieces, &[]);
+            codec_ends(alloc, row, &mut codec, &mut source, outcome, written)?;
+        }
     }
     Ok(())
 }

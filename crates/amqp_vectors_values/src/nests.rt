@@ -1,20 +1,24 @@
 //! Tables and arrays that nest deep.
 
+use crate::tables::{is_rewritten, table_fails};
 use amqp_values::{
-    AMQPValue, FieldTable, GenError, ParserError, ShortString, gen_field_table, parse_field_table,
+    AMQPValue, FieldTable, GenError, NoMemory, ParserError, ShortString, gen_field_table,
     size_field_table,
 };
+use amqp_vectors::asking::{answers, same};
 use std::alloc::Global;
 use std::test::Fail;
 
-/// The bytes of as many tables, one inside the other, each with the empty key.
-fn nested_tables(alloc: Global, depth: u8) -> Result<Vec<u8>, Fail> {
+/// The bytes of as many tables, one inside the other, each with the empty key. In the innermost stand these bytes.
+fn nested_tables(alloc: Global, depth: u8, innermost: &[u8]) -> Result<Vec<u8>, Fail> {
+    let length = u32::from(u8::try_from(innermost.len())?);
     let mut bytes = Vec::new(alloc);
     for inside in (1..depth).rev() {
-        bytes.extend_from_slice(&(6 * u32::from(inside)).to_be_bytes())?;
+        bytes.extend_from_slice(&(6 * u32::from(inside) + length).to_be_bytes())?;
         bytes.extend_from_slice(&[0, 70])?;
     }
-    bytes.extend_from_slice(&[0, 0, 0, 0])?;
+    bytes.extend_from_slice(&length.to_be_bytes())?;
+    bytes.extend_from_slice(innermost)?;
     Ok(bytes)
 }
 
@@ -31,72 +35,60 @@ fn arrays_in_table(alloc: Global, depth: u8) -> Result<Vec<u8>, Fail> {
     Ok(bytes)
 }
 
+/// Fails unless there are as many bytes, and what is read from them is written as them.
+fn is_unchanged(alloc: Global, bytes: &[u8], count: usize) -> Result<(), Fail> {
+    same(bytes.len(), count)?;
+    is_rewritten(alloc, bytes, bytes)
+}
+
+/// Arrays count as levels.
 #[test]
 fn at_most_64_levels_are_read(rt: HostRuntime) -> Result<(), Fail> {
     let alloc = rt.alloc();
-    let bytes = nested_tables(alloc, 64)?;
-    assert_eq!(rt; bytes.len(), 382);
-    let (used, table) = parse_field_table(alloc, &bytes)?;
-    assert_eq!(rt; used, 382);
-    let mut out = Vec::new(alloc);
-    gen_field_table(alloc, &mut out, &table)?;
-    assert_eq!(rt; out.as_slice(), bytes.as_slice());
-    let deeper = nested_tables(alloc, 65)?;
-    assert_eq!(rt;
-        parse_field_table(alloc, &deeper),
-        Err(ParserError::TooDeep)
-    );
-    Ok(())
-}
-
-#[test]
-fn arrays_count_as_levels(rt: HostRuntime) -> Result<(), Fail> {
-    let alloc = rt.alloc();
-    let bytes = arrays_in_table(alloc, 63)?;
-    assert_eq!(rt; bytes.len(), 320);
-    let (_, table) = parse_field_table(alloc, &bytes)?;
-    let mut out = Vec::new(alloc);
-    gen_field_table(alloc, &mut out, &table)?;
-    assert_eq!(rt; out.as_slice(), bytes.as_slice());
+    is_unchanged(alloc, &nested_tables(alloc, 64, &[])?, 382)?;
+    let deeper = nested_tables(alloc, 65, &[])?;
+    table_fails(alloc, &deeper, ParserError::TooDeep)?;
+    is_unchanged(alloc, &arrays_in_table(alloc, 63)?, 320)?;
     let deeper = arrays_in_table(alloc, 64)?;
-    assert_eq!(rt;
-        parse_field_table(alloc, &deeper),
-        Err(ParserError::TooDeep)
-    );
-    Ok(())
+    table_fails(alloc, &deeper, ParserError::TooDeep)
 }
 
 #[test]
 fn a_tag_is_tested_before_its_room(rt: HostRuntime) -> Result<(), Fail> {
     let alloc = rt.alloc();
-    for (tag, fault) in [(90, ParserError::UnknownTag), (70, ParserError::TooDeep)] {
-        let mut bytes = Vec::new(alloc);
-        for inside in (1..64u8).rev() {
-            bytes.extend_from_slice(&(6 * u32::from(inside) + 2).to_be_bytes())?;
-            bytes.extend_from_slice(&[0, 70])?;
-        }
-        bytes.extend_from_slice(&[0, 0, 0, 2, 0, tag])?;
-        assert_eq!(rt; parse_field_table(alloc, &bytes), Err(fault));
+    let unknown = nested_tables(alloc, 64, &[0, 90])?;
+    table_fails(alloc, &unknown, ParserError::UnknownTag)?;
+    let deeper = nested_tables(alloc, 64, &[0, 70])?;
+    table_fails(alloc, &deeper, ParserError::TooDeep)
+}
+
+/// The table that holds the other under the empty key.
+fn table_of(alloc: Global, inner: FieldTable) -> Result<FieldTable, NoMemory> {
+    let mut outer = FieldTable::new(alloc);
+    outer.insert(ShortString::empty(alloc), AMQPValue::FieldTable(inner))?;
+    Ok(outer)
+}
+
+fn deep_table(alloc: Global) -> Result<FieldTable, NoMemory> {
+    let mut table = FieldTable::new(alloc);
+    for _ in 1..65 {
+        table = table_of(alloc, table)?;
     }
-    Ok(())
+    Ok(table)
+}
+
+fn is_too_deep(alloc: Global, table: &FieldTable) -> Result<(), Fail> {
+    answers(table.copy(alloc), table)?;
+    same(size_field_table(table), Err(GenError::TooDeep))?;
+    let mut out = vec![in alloc; 1, 2, 3]?;
+    let appended = gen_field_table(alloc, &mut out, table);
+    same(
+        (appended, out.as_slice()),
+        (Err(GenError::TooDeep), [1, 2, 3].as_slice()),
+    )
 }
 
 #[test]
 fn deeper_tables_are_held_and_not_written(rt: HostRuntime) -> Result<(), Fail> {
-    let alloc = rt.alloc();
-    let mut table = FieldTable::new(alloc);
-    for _ in 1..65 {
-        let mut outer = FieldTable::new(alloc);
-        outer.insert(ShortString::empty(alloc), AMQPValue::FieldTable(table))?;
-        table = outer;
-    }
-    assert_eq!(rt; table.copy(alloc)?, table);
-    let mut out = vec![in alloc; 1, 2, 3]?;
-    assert_eq!(rt; size_field_table(&table), Err(GenError::TooDeep));
-    assert_eq!(rt;
-        gen_field_table(alloc, &mut out, &table),
-        Err(GenError::TooDeep)
-    );
-    assert_eq!(rt; out.as_slice(), [1, 2, 3].as_slice());
-    Ok(())
+    is_too_deep(rt.alloc(), &deep_table(rt.alloc())?)
 }

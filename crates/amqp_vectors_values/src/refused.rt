@@ -1,85 +1,13 @@
 //! Memory that runs out: `rt try --test --fail-alloc N` lets the Nth allocation of each test fail.
 
+use crate::kinds::{ARRAY, TABLE};
 use amqp_values::{
-    AMQPValue, FieldArray, FieldTable, GenError, MakeError, NoMemory, ParserError, ShortString,
-    gen_field_array, gen_field_table, parse_field_array, parse_field_table, size_field_table,
+    FieldArray, FieldTable, GenError, NoMemory, ParserError, gen_field_array, gen_field_table,
+    parse_field_array, parse_field_table,
 };
+use amqp_vectors::asking::same_in;
 use std::alloc::Global;
-
-const KEYS: [&str; 16] = [
-    "a", "b", "c", "d", "e", "f", "g", "h", "i", "j", "k", "l", "m", "n", "o", "p",
-];
-
-/// `insert` is refused with N = 2, where the table is empty, and with 18 and 19, where it holds 15 entries.
-#[test]
-fn refused_memory_leaves_a_table(rt: HostRuntime) {
-    let alloc = rt.alloc();
-    let mut table = FieldTable::new(alloc);
-    for letter in KEYS {
-        let key = match ShortString::new(alloc, letter) {
-            Ok(key) => key,
-            Err(error) => {
-                assert_eq!(rt; error, MakeError::NoMemory);
-                return;
-            }
-        };
-        let held = table.len();
-        match table.insert(key, AMQPValue::Boolean(true)) {
-            Ok(()) => assert!(rt; table.get(letter) == Some(&AMQPValue::Boolean(true))),
-            Err(error) => {
-                assert_eq!(rt; error, NoMemory);
-                assert_eq!(rt; table.len(), held);
-                assert!(rt; table.get(letter).is_none());
-                for kept in KEYS.iter().take(held) {
-                    assert!(rt; table.get(kept) == Some(&AMQPValue::Boolean(true)));
-                }
-            }
-        }
-    }
-    let mut out = Vec::new(alloc);
-    match gen_field_table(alloc, &mut out, &table) {
-        Ok(()) => assert_eq!(rt; size_field_table(&table), Ok(out.len() as u64)),
-        Err(error) => {
-            assert_eq!(rt; error, GenError::NoMemory);
-            assert_eq!(rt; out.len(), 0);
-        }
-    }
-}
-
-#[test]
-fn refused_memory_leaves_an_array(rt: HostRuntime) {
-    let mut array = FieldArray::new(rt.alloc());
-    for number in 0..9 {
-        let held = array.len();
-        match array.push(AMQPValue::ShortInt(number)) {
-            Ok(()) => {
-                let pushed = array.as_slice().get(held);
-                assert!(rt; pushed == Some(&AMQPValue::ShortInt(number)));
-            }
-            Err(error) => {
-                assert_eq!(rt; error, NoMemory);
-                assert_eq!(rt; array.len(), held);
-            }
-        }
-    }
-}
-
-/// An array of one value of each of the 17 kinds.
-const ARRAY: [u8; 87] = [
-    0, 0, 0, 83, 116, 1, 98, 255, 66, 1, 115, 255, 254, 117, 0, 2, 73, 255, 255, 255, 252, 105, 0,
-    0, 0, 4, 108, 255, 255, 255, 255, 255, 255, 255, 248, 102, 63, 128, 0, 0, 100, 63, 240, 0, 0,
-    0, 0, 0, 0, 68, 1, 0, 0, 0, 15, 83, 0, 0, 0, 1, 97, 65, 0, 0, 0, 0, 84, 0, 0, 0, 0, 0, 0, 0, 8,
-    70, 0, 0, 0, 0, 120, 0, 0, 0, 1, 98, 86,
-];
-
-/// A table of the same, each under its tag as the key.
-const TABLE: [u8; 121] = [
-    0, 0, 0, 117, 1, 65, 65, 0, 0, 0, 0, 1, 66, 66, 1, 1, 68, 68, 1, 0, 0, 0, 15, 1, 70, 70, 0, 0,
-    0, 0, 1, 73, 73, 255, 255, 255, 252, 1, 83, 83, 0, 0, 0, 1, 97, 1, 84, 84, 0, 0, 0, 0, 0, 0, 0,
-    8, 1, 86, 86, 1, 98, 98, 255, 1, 100, 100, 63, 240, 0, 0, 0, 0, 0, 0, 1, 102, 102, 63, 128, 0,
-    0, 1, 105, 105, 0, 0, 0, 4, 1, 108, 108, 255, 255, 255, 255, 255, 255, 255, 248, 1, 115, 115,
-    255, 254, 1, 116, 116, 1, 1, 117, 117, 0, 2, 1, 120, 120, 0, 0, 0, 1, 98,
-];
+use std::test::Fail;
 
 /// A vector that holds a 7 alone, and was refused to grow, or holds these bytes after it.
 fn is_appended(appended: Result<(), GenError>, out: &[u8], written: &[u8]) -> bool {
@@ -109,7 +37,7 @@ fn is_pushed(alloc: Global, array: &FieldArray) -> bool {
 }
 
 /// Whether the calls of an array return, or memory is refused and all stays.
-fn array_stays(alloc: Global, array: &FieldArray) -> bool {
+fn array_stays(alloc: Global, array: &FieldArray, bytes: &[u8]) -> bool {
     let mut out = Vec::new(alloc);
     if out.push(7).is_err() {
         return true;
@@ -119,18 +47,29 @@ fn array_stays(alloc: Global, array: &FieldArray) -> bool {
         Ok(copied) => copied == *array,
         Err(NoMemory) => true,
     };
-    is_appended(appended, &out, &ARRAY) && is_copied && is_pushed(alloc, array)
+    is_appended(appended, &out, bytes) && is_copied && is_pushed(alloc, array)
+}
+
+fn array_is_read(alloc: Global, bytes: &[u8]) -> bool {
+    match parse_field_array(alloc, bytes) {
+        Ok((used, array)) => used == bytes.len() && array_stays(alloc, &array, bytes),
+        Err(error) => error == ParserError::NoMemory,
+    }
 }
 
 #[test]
-fn refused_memory_leaves_an_array_of_each_kind(rt: HostRuntime) {
-    match parse_field_array(rt.alloc(), &ARRAY) {
-        Ok((used, array)) => {
-            assert_eq!(rt; used, 87);
-            assert!(rt; array_stays(rt.alloc(), &array));
+fn refused_memory_leaves_an_array_of_each_kind(rt: HostRuntime) -> Result<(), Fail> {
+    same_in("each kind", array_is_read(rt.alloc(), &ARRAY), true)
+}
+
+/// Whether a table holds entries of the other alone.
+fn is_part(part: &FieldTable, whole: &FieldTable) -> bool {
+    for (key, value) in part.iter() {
+        if whole.get(key.as_str()) != Some(value) {
+            return false;
         }
-        Err(error) => assert_eq!(rt; error, ParserError::NoMemory),
     }
+    true
 }
 
 /// Whether each entry is inserted, or memory is refused and the table stays.
@@ -150,11 +89,11 @@ fn is_inserted(alloc: Global, table: &FieldTable) -> bool {
             return false;
         }
     }
-    true
+    is_part(&inserted, table)
 }
 
 /// Whether the calls of a table return, or memory is refused and all stays.
-fn table_stays(alloc: Global, table: &FieldTable) -> bool {
+fn table_stays(alloc: Global, table: &FieldTable, bytes: &[u8]) -> bool {
     let mut out = Vec::new(alloc);
     if out.push(7).is_err() {
         return true;
@@ -164,28 +103,19 @@ fn table_stays(alloc: Global, table: &FieldTable) -> bool {
         Ok(copied) => copied == *table,
         Err(NoMemory) => true,
     };
-    is_appended(appended, &out, &TABLE) && is_copied && is_inserted(alloc, table)
+    is_appended(appended, &out, bytes) && is_copied && is_inserted(alloc, table)
 }
 
-#[test]
-fn refused_memory_leaves_a_table_of_each_kind(rt: HostRuntime) {
-    match parse_field_table(rt.alloc(), &TABLE) {
-        Ok((used, table)) => {
-            assert_eq!(rt; used, 121);
-            assert!(rt; table_stays(rt.alloc(), &table));
-        }
-        Err(error) => assert_eq!(rt; error, ParserError::NoMemory),
+fn table_is_read(alloc: Global, bytes: &[u8]) -> bool {
+    match parse_field_table(alloc, bytes) {
+        Ok((used, table)) => used == bytes.len() && table_stays(alloc, &table, bytes),
+        Err(error) => error == ParserError::NoMemory,
     }
 }
 
 #[test]
-fn parsing_reports_refused_memory(rt: HostRuntime) {
-    let bytes = [0, 0, 0, 14, 1, 97, 70, 0, 0, 0, 7, 1, 97, 86, 1, 98, 116, 1];
-    match parse_field_table(rt.alloc(), &bytes) {
-        Ok((used, table)) => {
-            assert_eq!(rt; used, 18);
-            assert_eq!(rt; table.len(), 1);
-        }
-        Err(error) => assert_eq!(rt; error, ParserError::NoMemory),
-    }
+fn refused_memory_leaves_tables(rt: HostRuntime) -> Result<(), Fail> {
+    let nested = [0, 0, 0, 14, 1, 97, 70, 0, 0, 0, 7, 1, 97, 86, 1, 98, 116, 1];
+    same_in("each kind", table_is_read(rt.alloc(), &TABLE), true)?;
+    same_in("nested", table_is_read(rt.alloc(), &nested), true)
 }

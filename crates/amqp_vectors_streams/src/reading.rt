@@ -1,0 +1,95 @@
+//! The frames that a reader returns, one after another, and what it holds after each.
+
+use crate::asking::{HEARTBEAT, LIMIT, MESSAGE, ONES};
+use amqp_frame::{AMQPFrameType, AMQPRawFrame};
+use amqp_stream::{FrameReader, PieceSource, ReadError, Source};
+use amqp_vectors::asking::same;
+use std::test::Fail;
+
+/// What a call returns, how many bytes are held after it, and what is left of a budget of 100 reads.
+type Step = (Result<Option<AMQPRawFrame<'static>>, ReadError>, usize, u64);
+
+/// A heartbeat.
+const BEAT: AMQPRawFrame<'static> = AMQPRawFrame {
+    frame_type: AMQPFrameType::Heartbeat,
+    channel_id: 0,
+    payload: &[],
+};
+
+/// The frames of the message.
+const METHOD: AMQPRawFrame<'static> = AMQPRawFrame {
+    frame_type: AMQPFrameType::Method,
+    channel_id: 1,
+    payload: &[0, 60, 0, 40, 0, 0, 0, 5, 104, 101, 108, 108, 111, 0],
+};
+
+const HEADER: AMQPRawFrame<'static> = AMQPRawFrame {
+    frame_type: AMQPFrameType::Header,
+    channel_id: 1,
+    payload: &[
+        0, 60, 0, 0, 0, 0, 0, 0, 0, 0, 0, 5, 144, 0, 10, 116, 101, 120, 116, 47, 112, 108, 97, 105,
+        110, 2,
+    ],
+};
+
+const BODY: AMQPRawFrame<'static> = AMQPRawFrame {
+    frame_type: AMQPFrameType::Body,
+    channel_id: 1,
+    payload: b"hello",
+};
+
+/// A message in single bytes.
+const A_MESSAGE: [Step; 4] = [
+    (Ok(Some(METHOD)), 0, 78),
+    (Ok(Some(HEADER)), 0, 44),
+    (Ok(Some(BODY)), 0, 31),
+    (Ok(None), 0, 30),
+];
+
+/// A reader goes on after a failed read.
+const A_FAILED_READ: [Step; 3] = [
+    (Err(ReadError::ReadFault), 3, 98),
+    (Ok(Some(BEAT)), 0, 97),
+    (Ok(None), 0, 96),
+];
+
+/// A fault is returned again without a read.
+const A_FAULT: [Step; 2] = [
+    (Err(ReadError::UnknownFrameType), 1, 99),
+    (Err(ReadError::UnknownFrameType), 1, 99),
+];
+
+/// A fresh source, once the fault is cleared.
+const A_HEARTBEAT: [Step; 1] = [(Ok(Some(BEAT)), 0, 99)];
+
+/// Fails unless the calls return so.
+fn returns<S: Source>(
+    reader: &mut FrameReader,
+    source: &mut S,
+    steps: &[Step],
+) -> Result<(), Fail> {
+    let mut turns = 100;
+    for (wanted, held, left) in steps {
+        same(reader.next(source, &mut turns), *wanted)?;
+        same(reader.held().len(), *held)?;
+        same(turns, *left)?;
+    }
+    Ok(())
+}
+
+#[test]
+fn frames_are_returned(rt: HostRuntime) -> Result<(), Fail> {
+    let rows: [(&[u8], &[usize], &[u64], &[Step]); 4] = [
+        (&MESSAGE, &ONES, &[], &A_MESSAGE),
+        (&HEARTBEAT, &[3], &[1], &A_FAILED_READ),
+        (&[9], &[], &[], &A_FAULT),
+        (&HEARTBEAT, &[], &[], &A_HEARTBEAT),
+    ];
+    let mut reader = FrameReader::open(rt.alloc(), LIMIT)?;
+    for (bytes, pieces, failing, steps) in rows {
+        reader.clear();
+        let mut source = PieceSource::new(bytes, pieces, failing);
+        returns(&mut reader, &mut source, steps)?;
+    }
+    Ok(())
+}

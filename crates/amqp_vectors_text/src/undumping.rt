@@ -1,0 +1,110 @@
+//! Lines read back, at once and in single bytes, calls whose reads or writes fail, and the errors.
+
+use crate::frames::{
+    BEAT, DECLARE, DECLARE_LINE, KINDS, KINDS_LINE, LIMIT, MESSAGE, MESSAGE_LINES, ONES,
+    PROPERTIES, PROPERTIES_LINE,
+};
+use crate::method_rows::{METHOD_LINES, METHODS};
+use amqp_stream::{PieceSource, ScriptSink, VecSink};
+use amqp_text::{TextError, UndumpError, equal_text_errors, equal_undump_errors, undump};
+use amqp_types::NoMemory;
+use std::test::Fail;
+
+/// Texts, the canonical bytes of the frames whose lines stand in front, and how reading them ends.
+const ROWS: [(&str, &[u8], Result<(), UndumpError>); 20] = [
+    (MESSAGE_LINES, &MESSAGE, Ok(())),
+    (DECLARE_LINE, &DECLARE, Ok(())),
+    (KINDS_LINE, &KINDS, Ok(())),
+    (PROPERTIES_LINE, &PROPERTIES, Ok(())),
+    (METHOD_LINES, &METHODS, Ok(())),
+    ("", &[], Ok(())),
+    ("proto 0.9.1\n", &[65, 77, 81, 80, 0, 0, 9, 1], Ok(())),
+    ("beat\n", &BEAT, Ok(())),
+    ("beat 65535\n", &[8, 255, 255, 0, 0, 0, 0, 206], Ok(())),
+    ("body 2 x\n", &[3, 0, 2, 0, 0, 0, 0, 206], Ok(())),
+    ("beat 0\n", &[], Err(UndumpError::BadText)),
+    (
+        "method 1 50.10 \"q\" ----- {\"b\"=V,\"a\"=V}\n",
+        &[],
+        Err(UndumpError::BadText),
+    ),
+    ("beat\nbeat", &BEAT, Err(UndumpError::CutShort)),
+    ("\n", &[], Err(UndumpError::BadText)),
+    ("beat\n\nbeat\n", &BEAT, Err(UndumpError::BadText)),
+    ("beat\nbeat 0\nbeat", &BEAT, Err(UndumpError::BadText)),
+    ("proto 300.0.0\n", &[], Err(UndumpError::BadText)),
+    ("body 1 xAB\n", &[], Err(UndumpError::BadText)),
+    ("body 01 xab\n", &[], Err(UndumpError::BadText)),
+    ("beat\r\n", &[], Err(UndumpError::BadText)),
+];
+
+#[test]
+fn lines_are_read_back(rt: HostRuntime) {
+    let alloc = rt.alloc();
+    for (text, bytes, outcome) in ROWS {
+        for pieces in [[].as_slice(), ONES.as_slice()] {
+            let mut source = PieceSource::new(text.as_bytes(), pieces, &[]);
+            let mut sink = VecSink::new(alloc);
+            let found = undump(alloc, &mut source, &mut sink, LIMIT, 200);
+            assert_eq!(rt; found, outcome, "{text}");
+            assert_eq!(rt; sink.bytes(), bytes);
+        }
+    }
+}
+
+/// Which read or write of the message's lines by single bytes fails, the read budget, how reading them back ends, and how
+/// many bytes of the message are written.
+const ENDS: [(&[u64], &[u64], u64, UndumpError, usize); 14] = [
+    (&[0], &[], 200, UndumpError::ReadFault, 0),
+    (&[28], &[], 200, UndumpError::ReadFault, 0),
+    (&[29], &[], 200, UndumpError::ReadFault, 22),
+    (&[84], &[], 200, UndumpError::ReadFault, 22),
+    (&[85], &[], 200, UndumpError::ReadFault, 56),
+    (&[104], &[], 200, UndumpError::ReadFault, 69),
+    (&[], &[0], 200, UndumpError::WriteFault, 0),
+    (&[], &[1], 200, UndumpError::WriteFault, 1),
+    (&[], &[22], 200, UndumpError::WriteFault, 22),
+    (&[], &[68], 200, UndumpError::WriteFault, 68),
+    (&[], &[], 0, UndumpError::TurnsSpent, 0),
+    (&[], &[], 28, UndumpError::TurnsSpent, 0),
+    (&[], &[], 29, UndumpError::TurnsSpent, 22),
+    (&[], &[], 104, UndumpError::TurnsSpent, 69),
+];
+
+#[test]
+fn frames_before_a_failed_end_are_written(rt: HostRuntime) {
+    let alloc = rt.alloc();
+    for (failing_reads, failing_writes, turns, error, count) in ENDS {
+        let mut source = PieceSource::new(MESSAGE_LINES.as_bytes(), &ONES, failing_reads);
+        let mut sink = ScriptSink::new(alloc, &ONES, failing_writes);
+        let found = undump(alloc, &mut source, &mut sink, LIMIT, turns);
+        assert_eq!(rt; found, Err(error));
+        assert_eq!(rt; Some(sink.bytes()), MESSAGE.as_slice().get(..count));
+    }
+}
+
+/// Errors with their names and statuses.
+const ERRORS: [(UndumpError, &str, u8); 6] = [
+    (UndumpError::BadText, "BadText", 26),
+    (UndumpError::CutShort, "CutShort", 21),
+    (UndumpError::TurnsSpent, "TurnsSpent", 22),
+    (UndumpError::ReadFault, "ReadFault", 4),
+    (UndumpError::WriteFault, "WriteFault", 5),
+    (UndumpError::NoMemory, "NoMemory", 3),
+];
+
+#[test]
+fn errors_have_names_and_statuses(rt: HostRuntime) -> Result<(), Fail> {
+    for (error, name, status) in ERRORS {
+        assert_eq!(rt; error.name(), name);
+        assert_eq!(rt; format!(in rt.alloc(); "{error}")?.as_str(), name);
+        assert_eq!(rt; error.status(), status);
+        assert!(rt; equal_undump_errors(&error, &error));
+    }
+    let error = TextError::from(NoMemory);
+    assert_eq!(rt; error.name(), "NoMemory");
+    let text = format!(in rt.alloc(); "{error} {}", TextError::BadText)?;
+    assert_eq!(rt; text.as_str(), "NoMemory BadText");
+    assert!(rt; !equal_text_errors(&error, &TextError::BadText));
+    Ok(())
+}
