@@ -3,7 +3,8 @@ use Rattle.std.proofs.Common.{◌≡◌, true, true≢false, refl, sym, ap, subs
 use Rattle.std.specs.Bool.{Decides}
 use Rattle.std.specs.Cmp.{booleans_Decides}
 use Rattle.std.specs.Cmp.Lexicographic.{bytes_decides}
-use Rattle.amqp_values.proofs.Deciding.{both, same_tables}
+use Rattle.amqp_laws.proofs.Deciding.{both}
+use Rattle.amqp_values.proofs.Deciding.{same_tables}
 use Rattle.amqp_basic.specs.declared.basic.consuming.Qos.{Qos}
 use Rattle.amqp_basic.specs.contracts.basic.consuming.QosPartialEq.TheImpl as qos
 use Rattle.amqp_basic.specs.declared.basic.consuming.Consume.{Consume}

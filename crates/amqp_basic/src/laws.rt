@@ -1,11 +1,11 @@
 //! Laws of the methods of the class basic: what equality says of them, and what they hold.
 
-ghost use Rattle.std.specs.Prelude.{◌≡◌, ◌<◌, ◌^◌, ◌↔◌, IsTrue};
-ghost use Rattle.amqp_values.specs.HeldMethods.{IsHeldMethod};
+ghost use Rattle.std.specs.Prelude.{◌≡◌, ◌↔◌, IsTrue};
+ghost use Rattle.amqp_laws.specs.HeldMethods.{IsHeldMethod};
 ghost use Rattle.amqp_basic.specs.Basic.{method_of};
 
 use crate::basic;
-use amqp_values::{LongLongUInt, LongUInt, ShortUInt, table_held, text_held};
+use amqp_values::{long_held, long_long_held, short_held, table_held, text_held};
 
 /// Two methods of the class are equal exactly where contracts see the same: no field is left out.
 #[tactic(auto, using(crate::proofs::Equality::same_method))]
@@ -14,21 +14,6 @@ pub fn equal_basic_methods(a: &basic::AMQPMethod, b: &basic::AMQPMethod) -> bool
 {
     a == b
 }
-
-/// A number of 2 bytes fits them.
-fn short_held(n: ShortUInt)
-    ensures { n < 2 ^ 16 }
-{}
-
-/// A number of 4 bytes fits them.
-fn long_held(n: LongUInt)
-    ensures { n < 2 ^ 32 }
-{}
-
-/// A number of 8 bytes fits them.
-fn long_long_held(n: LongLongUInt)
-    ensures { n < 2 ^ 64 }
-{}
 
 /// A method of the class is held, whatever a program does: the premise of the laws that read canonical bytes back.
 #[tactic(auto, unfolding(amqp_types::specs::Rows::rows_of, amqp_types::specs::Rows::slots_at))]

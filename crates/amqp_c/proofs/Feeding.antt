@@ -4,14 +4,14 @@ use Rattle.std.proofs.lemmas.List.Concat.{flat_map-append}
 use Rattle.std.specs.List.{concat}
 use Rattle.amqp_types.specs.Levels.{Level}
 use Rattle.amqp_types.specs.Judging.{Fault, Judged, past, fault, took}
-use Rattle.amqp_frame.specs.Canonical.{canon, canon_frames}
-use Rattle.amqp_frame.specs.Frames.{Frame, Raw}
-use Rattle.amqp_frame.specs.Fronts.{front, place}
-use Rattle.amqp_frame.specs.Outer.{outer}
-use Rattle.amqp_frame.specs.Verdicts.{is_at, judged, judged_frame, verdict, whole}
-use Rattle.amqp_frame.proofs.Cuts.{front-stop, verdict-append, verdict-none}
-use Rattle.amqp_frame.proofs.OuterLook.{outer-past_few}
-use Rattle.amqp_frame.proofs.Sequences.{splits_of, front_fault}
+use Rattle.amqp_wire.specs.Canonical.{canon, canon_frames}
+use Rattle.amqp_wire.specs.Frames.{Frame, Raw}
+use Rattle.amqp_wire.specs.Fronts.{front, place}
+use Rattle.amqp_wire.specs.Outer.{outer}
+use Rattle.amqp_wire.specs.Verdicts.{is_at, judged, judged_frame, verdict, whole}
+use Rattle.amqp_wire.proofs.Cuts.{front-stop, verdict-append, verdict-none}
+use Rattle.amqp_wire.proofs.OuterLook.{outer-past_few}
+use Rattle.amqp_wire.proofs.Sequences.{splits_of, front_fault}
 use Rattle.amqp_stream.specs.Canonicalizing.{canon_of}
 use Rattle.amqp_stream.specs.Transcribing.{answer_at}
 use Rattle.amqp_c.specs.Rewriting.{Call, FaultsStay, LittleIsLeft, PiecesAreWhole, called, fed_after, then_called}

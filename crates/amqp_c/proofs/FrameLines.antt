@@ -3,24 +3,24 @@ use Rattle.std.proofs.Common.{◌≡◌, ℕ, List, ◌++◌, length, take, drop
 use Rattle.std.proofs.lemmas.List.{length-take-le, take-append-drop}
 use Rattle.amqp_types.specs.Levels.{plain}
 use Rattle.amqp_types.specs.Judging.{Fault, took}
-use Rattle.amqp_frame.specs.declared.looking.FrameLayout.{FrameLayout}
-use Rattle.amqp_frame.specs.Canonical.{canon}
-use Rattle.amqp_frame.specs.Frames.{Frame, Raw}
-use Rattle.amqp_frame.specs.Looks.{laid_out}
-use Rattle.amqp_frame.specs.Outer.{outer}
-use Rattle.amqp_frame.specs.Verdicts.{verdict, whole}
-use Rattle.amqp_frame.proofs.Cuts.{verdict-whole}
+use Rattle.amqp_wire.specs.declared.looking.FrameLayout.{FrameLayout}
+use Rattle.amqp_wire.specs.Canonical.{canon}
+use Rattle.amqp_wire.specs.Frames.{Frame, Raw}
+use Rattle.amqp_wire.specs.Looks.{laid_out}
+use Rattle.amqp_wire.specs.Outer.{outer}
+use Rattle.amqp_wire.specs.Verdicts.{verdict, whole}
+use Rattle.amqp_wire.proofs.Cuts.{verdict-whole}
 use Rattle.amqp_stream.specs.declared.errors.StreamError.{StreamError}
 use Rattle.amqp_stream.specs.declared.errors.StreamError.TheVariants as errors
 use Rattle.amqp_stream.specs.Errors.{cause_of, error_for}
 use Rattle.amqp_stream.specs.Reading.{Lies}
 use Rattle.amqp_stream.specs.Writing.{IsFaulty}
-use Rattle.amqp_text.specs.LineReading.{HasNoNewline, IsFirstLine}
-use Rattle.amqp_text.specs.LineTexts.{HasNoLine}
-use Rattle.amqp_text.specs.Lines.{line}
-use Rattle.amqp_text.specs.OneLine.{IsLineOf, IsNoLine, IsStrictWithin}
-use Rattle.amqp_text.proofs.LinesApart.{same_frame}
-use Rattle.amqp_text.proofs.TextFronts.{IsAtNone, at_clean, first_line, holds_none, line_first}
+use Rattle.amqp_lines.specs.LineReading.{HasNoNewline, IsFirstLine}
+use Rattle.amqp_lines.specs.LineTexts.{HasNoLine}
+use Rattle.amqp_lines.specs.Lines.{line}
+use Rattle.amqp_lines.specs.OneLine.{IsLineOf, IsNoLine, IsStrictWithin}
+use Rattle.amqp_lines.proofs.LinesApart.{same_frame}
+use Rattle.amqp_lines.proofs.TextFronts.{IsAtNone, at_clean, first_line, holds_none, line_first}
 use Rattle.amqp_c.specs.declared.lines.FrameLine.{FrameLine}
 use Rattle.amqp_c.specs.FrameLines.{AppendsFront, Converts, IsNoFront}
 use Rattle.amqp_c.specs.Scans.{error_at}

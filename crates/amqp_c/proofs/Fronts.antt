@@ -8,18 +8,18 @@ use Rattle.amqp_types.specs.Writing.{Puts}
 use Rattle.amqp_types.specs.declared.errors.ParserError.{ParserError}
 use Rattle.amqp_types.specs.declared.errors.ParserError.TheVariants as parses
 use Rattle.amqp_types.proofs.Puts.{puts_none, puts_then}
-use Rattle.amqp_frame.specs.declared.frame_type.AMQPFrameType.TheVariants as kinds
-use Rattle.amqp_frame.specs.declared.looking.FrameLayout.{FrameLayout}
-use Rattle.amqp_frame.specs.Canonical.{canon, canon_frames}
-use Rattle.amqp_frame.specs.Frames.{Frame, Proto, Raw}
-use Rattle.amqp_frame.specs.Fronts.{front, place}
-use Rattle.amqp_frame.specs.Looks.{laid_out}
-use Rattle.amqp_frame.specs.Outer.{outer}
-use Rattle.amqp_frame.specs.Spelling.{proto}
-use Rattle.amqp_frame.specs.Verdicts.{IsPayloadError, judged, verdict, whole, whole_as}
-use Rattle.amqp_frame.proofs.Cuts.{IsStop, front-got, front-stop, front-none, place-none, verdict-got_within, verdict-whole}
-use Rattle.amqp_frame.proofs.OuterLook.{outer-in_bounds}
-use Rattle.amqp_frame.proofs.Strictness.{canon_frames-more}
+use Rattle.amqp_wire.specs.declared.frame_type.AMQPFrameType.TheVariants as kinds
+use Rattle.amqp_wire.specs.declared.looking.FrameLayout.{FrameLayout}
+use Rattle.amqp_wire.specs.Canonical.{canon, canon_frames}
+use Rattle.amqp_wire.specs.Frames.{Frame, Proto, Raw}
+use Rattle.amqp_wire.specs.Fronts.{front, place}
+use Rattle.amqp_wire.specs.Looks.{laid_out}
+use Rattle.amqp_wire.specs.Outer.{outer}
+use Rattle.amqp_wire.specs.Spelling.{proto}
+use Rattle.amqp_wire.specs.Verdicts.{IsPayloadError, judged, verdict, whole, whole_as}
+use Rattle.amqp_wire.proofs.Cuts.{IsStop, front-got, front-stop, front-none, place-none, verdict-got_within, verdict-whole}
+use Rattle.amqp_wire.proofs.OuterLook.{outer-in_bounds}
+use Rattle.amqp_wire.proofs.Strictness.{canon_frames-more}
 use Rattle.amqp_stream.specs.declared.errors.StreamError.{StreamError}
 use Rattle.amqp_stream.specs.declared.errors.StreamError.TheVariants as errors
 use Rattle.amqp_stream.specs.Errors.{error_for, stream_error_status, status_of}

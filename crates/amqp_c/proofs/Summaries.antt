@@ -5,12 +5,12 @@ use Rattle.amqp_types.specs.Judging.{Fault, too_large}
 use Rattle.amqp_types.specs.Methods.{Method, judge_payload}
 use Rattle.amqp_types.specs.ContentHeaders.{ContentHeader, judge_content_header}
 use Rattle.amqp_types.specs.ValueJudging.{read_map}
-use Rattle.amqp_frame.specs.declared.frame_type.AMQPFrameType.{AMQPFrameType}
-use Rattle.amqp_frame.specs.declared.frame_type.AMQPFrameType.TheVariants as kinds
-use Rattle.amqp_frame.specs.Frames.{Frame, Meth, Head, Beat, BadBeat, Raw, beat_on, raw_as}
-use Rattle.amqp_frame.specs.Outer.{type_of}
-use Rattle.amqp_frame.specs.Outlines.{outline_of}
-use Rattle.amqp_frame.specs.Verdicts.{all_of, is_tidy_as, is_written_for, whole, whole_as}
+use Rattle.amqp_wire.specs.declared.frame_type.AMQPFrameType.{AMQPFrameType}
+use Rattle.amqp_wire.specs.declared.frame_type.AMQPFrameType.TheVariants as kinds
+use Rattle.amqp_wire.specs.Frames.{Frame, Meth, Head, Beat, BadBeat, Raw, beat_on, raw_as}
+use Rattle.amqp_wire.specs.Outer.{type_of}
+use Rattle.amqp_wire.specs.Outlines.{outline_of}
+use Rattle.amqp_wire.specs.Verdicts.{all_of, is_tidy_as, is_written_for, whole, whole_as}
 use Rattle.amqp_c.specs.declared.check.PayloadSummary.{PayloadSummary}
 use Rattle.amqp_c.specs.Checks.{raw_after, raw_typed, no_summary, summary_at, summary_of, summed}
 use Rattle.amqp_c.specs.Scans.{fault_status}

@@ -2,13 +2,13 @@
 use Rattle.std.specs.Prelude.{◌≡◌, ℕ, ◌-◌, ◌^◌, nat_lt, Bool, false, if◌then◌else◌, List, length, Option, Some, None, Result, Ok, Err}
 use Rattle.amqp_types.specs.Levels.{tidy, strict}
 use Rattle.amqp_types.specs.Judging.{Fault, unknown_frame_type, too_large}
-use Rattle.amqp_frame.specs.declared.frame_type.AMQPFrameType.{AMQPFrameType}
-use Rattle.amqp_frame.specs.declared.outline.FrameOutline.{FrameOutline}
-use Rattle.amqp_frame.specs.declared.outline.FrameOutline.TheVariants as outlines
-use Rattle.amqp_frame.specs.Frames.{Frame, Raw}
-use Rattle.amqp_frame.specs.Outer.{type_of}
-use Rattle.amqp_frame.specs.Outlines.{outline_of}
-use Rattle.amqp_frame.specs.Verdicts.{is_at, whole}
+use Rattle.amqp_wire.specs.declared.frame_type.AMQPFrameType.{AMQPFrameType}
+use Rattle.amqp_wire.specs.declared.outline.FrameOutline.{FrameOutline}
+use Rattle.amqp_wire.specs.declared.outline.FrameOutline.TheVariants as outlines
+use Rattle.amqp_wire.specs.Frames.{Frame, Raw}
+use Rattle.amqp_wire.specs.Outer.{type_of}
+use Rattle.amqp_wire.specs.Outlines.{outline_of}
+use Rattle.amqp_wire.specs.Verdicts.{is_at, whole}
 use Rattle.amqp_stream.specs.declared.errors.StreamError.{StreamError}
 use Rattle.amqp_stream.specs.Errors.{stream_error_status}
 use Rattle.amqp_c.specs.declared.check.PayloadSummary.{PayloadSummary}

@@ -3,12 +3,12 @@ use Rattle.std.specs.Prelude.{◌≡◌, ◌≢◌, ℕ, ◌<◌, ◌≤◌, Lis
 use Rattle.amqp_types.specs.Levels.{plain}
 use Rattle.amqp_types.specs.Judging.{Judged, took, past, fault}
 use Rattle.amqp_types.specs.Writing.{written}
-use Rattle.amqp_frame.specs.Frames.{Frame}
-use Rattle.amqp_frame.specs.Verdicts.{verdict}
+use Rattle.amqp_wire.specs.Frames.{Frame}
+use Rattle.amqp_wire.specs.Verdicts.{verdict}
 use Rattle.amqp_stream.specs.declared.errors.StreamError.{StreamError}
 use Rattle.amqp_stream.specs.declared.errors.StreamError.TheVariants as errors
-use Rattle.amqp_text.specs.Lines.{line}
-use Rattle.amqp_text.specs.OneLine.{IsStrictWithin}
+use Rattle.amqp_lines.specs.Lines.{line}
+use Rattle.amqp_lines.specs.OneLine.{IsStrictWithin}
 use Rattle.amqp_c.specs.declared.lines.FrameLine.{FrameLine}
 use Rattle.amqp_c.specs.Scans.{error_at, fault_status}
 use Rattle.amqp_c.specs.Statuses.{buffer_too_small, incomplete}

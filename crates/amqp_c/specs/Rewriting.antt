@@ -6,11 +6,11 @@ use Rattle.amqp_types.specs.Judging.{Fault, past, fault, not_tidy, took}
 use Rattle.amqp_types.specs.Writing.{Puts}
 use Rattle.amqp_types.specs.declared.profile.Profile.{Profile}
 use Rattle.amqp_types.specs.declared.profile.Profile.TheVariants as profiles
-use Rattle.amqp_frame.specs.declared.frame_type.AMQPFrameType.TheVariants as kinds
-use Rattle.amqp_frame.specs.Frames.{Frame, Raw}
-use Rattle.amqp_frame.specs.Canonical.{canon}
-use Rattle.amqp_frame.specs.Verdicts.{is_at, verdict, whole, whole_as}
-use Rattle.amqp_frame.specs.Fronts.{place}
+use Rattle.amqp_wire.specs.declared.frame_type.AMQPFrameType.TheVariants as kinds
+use Rattle.amqp_wire.specs.Frames.{Frame, Raw}
+use Rattle.amqp_wire.specs.Canonical.{canon}
+use Rattle.amqp_wire.specs.Verdicts.{is_at, verdict, whole, whole_as}
+use Rattle.amqp_wire.specs.Fronts.{place}
 use Rattle.amqp_stream.specs.declared.errors.StreamError.{StreamError}
 use Rattle.amqp_stream.specs.Errors.{error_for, status_of}
 use Rattle.amqp_stream.specs.Writing.{IsFaulty}

@@ -2,19 +2,19 @@
 
 ghost use Rattle.std.specs.Prelude.{◌≡◌, ◌+◌, ◌^◌, ◌<◌, ◌≤◌, Some, None, length, IfOk};
 ghost use Rattle.amqp_types.specs.Levels.{level_of, plain, tidy};
-ghost use Rattle.amqp_frame.specs.Frames.{raw_of};
+ghost use Rattle.amqp_wire.specs.Frames.{raw_of};
 ghost use Rattle.amqp_stream.specs.Writing.{frame_length};
 ghost use Rattle.amqp_c.specs.Rewriting.{CanonicalizesPart, PutsFrame, PutsFront, PutsVersion, RefusesPart, profile_at};
 ghost use Rattle.amqp_c.specs.Statuses.{bad_argument, buffer_too_small};
 
 use crate::next::{frame_at, scan};
 use crate::statuses::{BAD_ARGUMENT, BUFFER_TOO_SMALL};
-use amqp_frame::{
+use amqp_stream::{StreamError, payload_error};
+use amqp_types::{Profile, put_bytes};
+use amqp_wire::{
     AMQPFrameType, AMQPRawFrame, EntryMark, ProtocolVersion, header_bytes, judge_frame,
     put_canonical,
 };
-use amqp_stream::{StreamError, payload_error};
-use amqp_types::{Profile, put_bytes};
 
 /// How many entries of a table in no order are sorted without a scratch of the caller's. A table with more of them
 /// takes quadratic time then.

@@ -2,12 +2,12 @@
 
 ghost use Rattle.std.specs.Prelude.{◌≡◌, ℕ};
 ghost use Rattle.amqp_c.specs.Checks.{raw_after, standing, summary_of, summary_or, summed, SumsUp};
-ghost use Rattle.amqp_frame.specs.Frames.{raw_of};
+ghost use Rattle.amqp_wire.specs.Frames.{raw_of};
 
 use crate::frame_types::type_of_byte;
-use amqp_frame::{AMQPRawFrame, FrameJudgement, FrameOutline, judge_frame, outline_raw};
 use amqp_stream::{StreamError, payload_error};
 use amqp_types::{Identifier, PayloadSize};
+use amqp_wire::{AMQPRawFrame, FrameJudgement, FrameOutline, judge_frame, outline_raw};
 
 /// What stands in a whole payload. Where it is no frame, all but the status is 0.
 #[repr(C)]

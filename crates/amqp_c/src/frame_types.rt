@@ -1,11 +1,11 @@
 //! Frame types as the bytes that name them.
 
 ghost use Rattle.std.specs.Prelude.{◌≡◌};
-ghost use Rattle.amqp_frame.specs.Outer.{type_of};
-ghost use Rattle.amqp_frame.specs.Spelling.{byte_of};
+ghost use Rattle.amqp_wire.specs.Outer.{type_of};
+ghost use Rattle.amqp_wire.specs.Spelling.{byte_of};
 
-use amqp_frame::{AMQPFrameType, PROTOCOL_BYTE};
 use amqp_types::{FRAME_BODY, FRAME_HEADER, FRAME_HEARTBEAT, FRAME_METHOD};
+use amqp_wire::{AMQPFrameType, PROTOCOL_BYTE};
 
 /// The first byte of a frame of this type.
 pub(crate) fn byte_of_type(frame_type: AMQPFrameType) -> u8

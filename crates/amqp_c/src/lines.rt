@@ -2,20 +2,20 @@
 
 ghost use Rattle.std.specs.Prelude.{◌≡◌, ◌≢◌, ◌++◌, ◌≤◌, ℕ, List, length, take, Some};
 ghost use Rattle.amqp_types.specs.Levels.{plain};
-ghost use Rattle.amqp_frame.specs.Canonical.{canon};
-ghost use Rattle.amqp_frame.specs.Frames.{Frame};
-ghost use Rattle.amqp_frame.specs.Verdicts.{verdict};
-ghost use Rattle.amqp_text.specs.LineReading.{HasNoNewline};
-ghost use Rattle.amqp_text.specs.Lines.{line};
-ghost use Rattle.amqp_text.specs.OneLine.{IsStrictWithin};
-ghost use Rattle.amqp_text.specs.Undumping.{HoldsNewline};
+ghost use Rattle.amqp_wire.specs.Canonical.{canon};
+ghost use Rattle.amqp_wire.specs.Frames.{Frame};
+ghost use Rattle.amqp_wire.specs.Verdicts.{verdict};
+ghost use Rattle.amqp_lines.specs.LineReading.{HasNoNewline};
+ghost use Rattle.amqp_lines.specs.Lines.{line};
+ghost use Rattle.amqp_lines.specs.OneLine.{IsStrictWithin};
+ghost use Rattle.amqp_lines.specs.Undumping.{HoldsNewline};
 ghost use Rattle.amqp_c.specs.FrameLines.{AppendsFront, Converts, DumpedAt, IsNoFront, RefusesLine, nothing_with};
 ghost use Rattle.amqp_c.specs.Statuses.{bad_text, incomplete, out_of_memory};
 
 use crate::next::{frame_at, scan};
 use crate::statuses::{BAD_TEXT, BUFFER_TOO_SMALL};
+use amqp_lines::{TextError, dump_line, line_end, undump_line};
 use amqp_stream::StreamError;
-use amqp_text::{TextError, dump_line, line_end, undump_line};
 use amqp_types::put_bytes;
 use std::alloc::Global;
 

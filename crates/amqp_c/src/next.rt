@@ -1,14 +1,14 @@
 //! The header scan: what stands at the front of some bytes, whatever its payload is.
 
 ghost use Rattle.std.specs.Prelude.{◌≡◌, ◌+◌, ◌≤◌, Some, length};
-ghost use Rattle.amqp_frame.specs.Frames.{raw_of};
-ghost use Rattle.amqp_frame.specs.Looks.{laid_out};
-ghost use Rattle.amqp_frame.specs.Outer.{outer};
+ghost use Rattle.amqp_wire.specs.Frames.{raw_of};
+ghost use Rattle.amqp_wire.specs.Looks.{laid_out};
+ghost use Rattle.amqp_wire.specs.Outer.{outer};
 ghost use Rattle.amqp_c.specs.Scans.{Locates, Scans, judged_status};
 
 use crate::frame_types::byte_of_type;
-use amqp_frame::{AMQPRawFrame, FrameLayout, Look, look_at};
 use amqp_stream::StreamError;
+use amqp_wire::{AMQPRawFrame, FrameLayout, Look, look_at};
 
 /// Where the frame at the front of some bytes lies in them. Where none does, all numbers but the status are 0.
 #[repr(C)]

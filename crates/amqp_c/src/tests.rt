@@ -7,7 +7,7 @@ use crate::lines::{feksroum_dump, feksroum_undump};
 use crate::next::feksroum_next;
 use crate::scratch::feksroum_scratch;
 use crate::statuses::feksroum_name;
-use amqp_frame::EntryMark;
+use amqp_wire::EntryMark;
 
 const LIMIT: u32 = 131_072;
 

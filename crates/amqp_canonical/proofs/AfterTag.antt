@@ -22,13 +22,13 @@ use Rattle.amqp_types.proofs.Bytes.{IsBytes-drop}
 use Rattle.amqp_types.proofs.FormLaws.{signed_only}
 use Rattle.amqp_types.proofs.Numbers.{number_exact}
 use Rattle.amqp_types.proofs.Texts.{short_string_exact, long_string_exact}
-use Rattle.amqp_values.proofs.Filling.{nested_none, nested_more}
+use Rattle.amqp_laws.proofs.Filling.{nested_none, nested_more}
 use Rattle.amqp_canonical.specs.declared.values.Layout.TheVariants as layout
 use Rattle.amqp_canonical.specs.declared.values.ValueJudgement.{ValueJudgement}
 use Rattle.amqp_canonical.specs.Judgements.{layout_at, IsCanonicalBoolean, IsCanonicalAfterTag, IsCanonicalValue, IsCanonicalArray, IsCanonicalTable, DecodesAs, DecodesAsEntry, Judges}
 use Rattle.amqp_canonical.proofs.Refusing.{Fails, fully, fails_next}
 use Rattle.amqp_canonical.proofs.Children.{decided_as, both_decided, split_two, value_few}
-use Rattle.amqp_values.proofs.Exactly.{tag_behind}
+use Rattle.amqp_laws.proofs.Exactly.{tag_behind}
 
 -- ---- which tag a value has that was read after a tag
 

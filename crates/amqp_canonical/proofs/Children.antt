@@ -17,11 +17,11 @@ use Rattle.amqp_types.specs.ValueBytes.{values_bytes, entries_bytes, tagged_byte
 use Rattle.amqp_types.specs.ValueJudging.{filled, judge_entry, judge_value}
 use Rattle.amqp_types.specs.ValueSpelling.{SpellsValue}
 use Rattle.amqp_types.proofs.Bytes.{IsBytes-drop}
-use Rattle.amqp_values.proofs.Filling.{after, goes_on, ends, after_none}
-use Rattle.amqp_values.proofs.Filled.{entry_exact}
-use Rattle.amqp_values.proofs.Exactly.{value_exact}
-use Rattle.amqp_values.proofs.Bounded.{value_bounded}
-use Rattle.amqp_values.proofs.Settling.{none_risen}
+use Rattle.amqp_laws.proofs.Filling.{after, goes_on, ends, after_none}
+use Rattle.amqp_laws.proofs.Filled.{entry_exact}
+use Rattle.amqp_laws.proofs.Exactly.{value_exact}
+use Rattle.amqp_laws.proofs.Bounded.{value_bounded}
+use Rattle.amqp_laws.proofs.Settling.{none_risen}
 use Rattle.std.specs.declared.cmp.Ordering.{Ordering}
 use Rattle.std.specs.declared.cmp.Ordering.TheVariants.{Less, Equal, Greater}
 use Rattle.amqp_canonical.specs.Judgements.{IsAbove, IsBelow, AreCanonicalValues, AreCanonicalEntries, Fills}

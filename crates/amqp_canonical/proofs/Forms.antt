@@ -1,5 +1,6 @@
 -- Fields one after another, decoded at every level.
 use Rattle.std.proofs.Common.{◌≡◌, ◌&&◌, get_or, drop, ℕ, ◌+◌, ◌<◌, ◌≤◌, Bool, true, List, [], ◌∷◌, ◌++◌, length, Result, Ok, Err, refl, sym, ap, ap₂, ◌∙◌}
+use Rattle.std.proofs.lemmas.Bool.{and_from}
 use Rattle.std.proofs.lemmas.List.{at_drop_more, drop_all}
 use Rattle.amqp_types.specs.Levels.{Level, plain, tidy, strict}
 use Rattle.amqp_types.specs.Judging.{Judge, took, IsBytes}
@@ -11,8 +12,8 @@ use Rattle.amqp_types.specs.FormLaws.{IsLawful}
 use Rattle.amqp_types.specs.SlotLaws.{is_least, are_least}
 use Rattle.amqp_types.specs.declared.errors.ParserError.{ParserError}
 use Rattle.amqp_types.proofs.Sequences.{map_taken}
-use Rattle.amqp_values.proofs.SlotForms.{forms_lawful}
-use Rattle.amqp_values.proofs.SlotLaws.{both_true, slots_lawful, form_is_plain}
+use Rattle.amqp_laws.proofs.SlotForms.{forms_lawful}
+use Rattle.amqp_laws.proofs.SlotLaws.{both_true, slots_lawful, form_is_plain}
 use Rattle.amqp_canonical.specs.declared.shapes.Shape.{Shape}
 use Rattle.amqp_canonical.specs.declared.slots.Judgement.{Judgement}
 use Rattle.amqp_canonical.specs.Shapes.{slot_of, slots_of}
@@ -91,9 +92,6 @@ slots_all = reached_all one_slot OneSlot all_slots AllSlots no_slots
 -- where the rest of the constants are the least of their forms, all are
 abbrev pub AreLeastTo : List Shape → ℕ → Type 0
 AreLeastTo shapes k = are_least (slots_of (drop k shapes)) ≡ true → are_least (slots_of shapes) ≡ true
-
-and_from : (a b : Bool) → a ≡ true → b ≡ true → (a && b) ≡ true
-and_from a b p q = ap (λ x. x && b) p ∙ q
 
 one_more : (slot : Slot) (slots : List Slot) → are_least (slot ∷ []) ≡ true → are_least slots ≡ true → are_least (slot ∷ slots) ≡ true
 one_more (kept_slot form) slots h k = k

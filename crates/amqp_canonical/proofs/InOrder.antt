@@ -14,7 +14,7 @@ use Rattle.std.specs.Map.{keys_of}
 use Rattle.std.specs.Ordering.{is_eq}
 use Rattle.amqp_types.specs.Settling.{IsSettled, value_at, later, last_at}
 use Rattle.amqp_types.specs.Values.{FieldValue, Entry}
-use Rattle.amqp_values.proofs.Settling.{cmp, absent, settled_is}
+use Rattle.amqp_laws.proofs.Settling.{cmp, absent, settled_is}
 use Rattle.amqp_canonical.specs.Judgements.{IsBelow}
 use Rattle.amqp_canonical.specs.Writes.{IsRead}
 use Rattle.amqp_canonical.specs.Leads.{key_at}
@@ -78,10 +78,6 @@ earlier true None v w = refl
 earlier true (Some u) v w = refl
 earlier false None v w = refl
 earlier false (Some u) v w = refl
-
-pub later-None : (found : Option FieldValue) → later found None ≡ found
-later-None None = refl
-later-None (Some v) = refl
 
 -- ---- the last of ties are the table
 

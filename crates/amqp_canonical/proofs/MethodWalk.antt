@@ -17,7 +17,7 @@ use Rattle.amqp_types.specs.MethodSpelling.{SpellsPayload}
 use Rattle.amqp_types.specs.declared.errors.ParserError.{ParserError}
 use Rattle.amqp_types.proofs.Bytes.{IsBytes-drop}
 use Rattle.amqp_types.proofs.FormLaws.{numbers_lawful}
-use Rattle.amqp_values.proofs.MethodLaws.{in_table, rows_lawful, payloads_lawful}
+use Rattle.amqp_laws.proofs.MethodLaws.{in_table, rows_lawful, payloads_lawful}
 use Rattle.amqp_canonical.specs.declared.slots.Judgement.{Judgement}
 use Rattle.amqp_canonical.specs.SlotJudgements.{TakesTidily, AreCanonicalSlots, IsCanonicalPayload}
 use Rattle.amqp_canonical.proofs.Refusing.{Fails, fully, fails_next}

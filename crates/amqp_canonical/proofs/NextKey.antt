@@ -10,11 +10,11 @@ use Rattle.std.specs.Map.{keys_of}
 use Rattle.std.specs.Ordering.{is_eq, ordering_reverse}
 use Rattle.amqp_types.specs.Settling.{IsRising, value_at, later, last_at, settled}
 use Rattle.amqp_types.specs.Values.{FieldValue, Entry}
-use Rattle.amqp_values.proofs.Settling.{cmp, first_value, settles, absent}
+use Rattle.amqp_laws.proofs.Settling.{cmp, first_value, settles, absent, later-None}
 use Rattle.amqp_canonical.specs.Judgements.{IsBelow}
 use Rattle.amqp_canonical.specs.Writes.{IsRead, key_in}
 use Rattle.amqp_canonical.specs.Marks.{entry_at, judged_entry, entries_in, AreEntries, IsAfter, IsNext, HasNoNext, ComesFirst, FindsNext}
-use Rattle.amqp_canonical.proofs.InOrder.{each_weaker, later-None}
+use Rattle.amqp_canonical.proofs.InOrder.{each_weaker}
 use Rattle.amqp_canonical.proofs.Marking.{EntriesTo, EntryHere, entries_none, entries_end}
 use Rattle.amqp_canonical.proofs.ReadParts.{entry_key}
 use Rattle.amqp_canonical.proofs.Children.{all_last}

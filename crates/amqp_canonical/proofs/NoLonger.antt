@@ -13,12 +13,12 @@ use Rattle.amqp_types.specs.SlotSpelling.{SpellsSlots}
 use Rattle.amqp_types.specs.Methods.{judge_payload, payload_bytes}
 use Rattle.amqp_types.specs.MethodSpelling.{SpellsPayload}
 use Rattle.amqp_types.specs.ContentHeaders.{judge_content_header, content_header_bytes, SpellsContentHeader}
-use Rattle.amqp_values.proofs.Filled.{array_exact, table_exact}
-use Rattle.amqp_values.proofs.Exactly.{value_exact, value_some}
-use Rattle.amqp_values.proofs.Bounded.{value_bounded, array_bounded, table_bounded}
-use Rattle.amqp_values.proofs.SlotLaws.{slots_lawful}
-use Rattle.amqp_values.proofs.MethodLaws.{payloads_lawful}
-use Rattle.amqp_properties.proofs.HeaderLaws.{content_headers_lawful}
+use Rattle.amqp_laws.proofs.Filled.{array_exact, table_exact}
+use Rattle.amqp_laws.proofs.Exactly.{value_exact, value_some}
+use Rattle.amqp_laws.proofs.Bounded.{value_bounded, array_bounded, table_bounded}
+use Rattle.amqp_laws.proofs.SlotLaws.{slots_lawful}
+use Rattle.amqp_laws.proofs.MethodLaws.{payloads_lawful}
+use Rattle.amqp_laws.proofs.HeaderLaws.{content_headers_lawful}
 use Rattle.amqp_canonical.specs.Writes.{canonical_of}
 use Rattle.amqp_canonical.specs.WritingLaws.{WritesNoLonger, ValuesAreNoLonger, ArraysAreNoLonger, TablesAreNoLonger, SlotsAreNoLonger, PayloadsAreNoLonger, ContentHeadersAreNoLonger}
 use Rattle.amqp_canonical.proofs.ReadParts.{took_of}

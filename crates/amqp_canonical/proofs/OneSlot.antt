@@ -24,9 +24,9 @@ use Rattle.amqp_types.specs.declared.errors.ParserError.{ParserError}
 use Rattle.amqp_types.proofs.FormLaws.{numbers_lawful}
 use Rattle.amqp_types.proofs.Numbers.{number_exact}
 use Rattle.amqp_types.proofs.Texts.{short_string_exact, long_string_exact}
-use Rattle.amqp_values.proofs.PlainValues.{field_table_plain_is_tidy}
-use Rattle.amqp_values.proofs.SlotForms.{forms_lawful}
-use Rattle.amqp_values.proofs.SlotLaws.{reserved_lawful}
+use Rattle.amqp_laws.proofs.PlainValues.{field_table_plain_is_tidy}
+use Rattle.amqp_laws.proofs.SlotForms.{forms_lawful}
+use Rattle.amqp_laws.proofs.SlotLaws.{reserved_lawful}
 use Rattle.amqp_canonical.specs.declared.shapes.Shape.{Shape}
 use Rattle.amqp_canonical.specs.declared.slots.Judgement.{Judgement}
 use Rattle.amqp_canonical.specs.declared.values.ValueJudgement.{ValueJudgement}

@@ -22,19 +22,19 @@ use Rattle.amqp_types.specs.Writing.{Puts}
 use Rattle.amqp_types.proofs.Bytes.{IsBytes-drop}
 use Rattle.amqp_types.proofs.Puts.{puts_none}
 use Rattle.amqp_types.proofs.Took.{bind_took, guard_took, value_took, count_took}
-use Rattle.amqp_values.proofs.SlotForms.{forms_lawful, form_gives}
-use Rattle.amqp_values.proofs.SlotLaws.{both_true}
+use Rattle.amqp_laws.proofs.SlotForms.{forms_lawful, form_gives}
+use Rattle.amqp_laws.proofs.SlotLaws.{both_true}
 use Rattle.amqp_types.proofs.FormLaws.{numbers_lawful}
-use Rattle.amqp_properties.proofs.Masks.{set_flags, mask_is, mask_of-flags}
-use Rattle.amqp_properties.proofs.Options.{sets_lawful, set_gives, counted_one}
-use Rattle.amqp_properties.proofs.PropertyLaws.{one_each}
+use Rattle.amqp_laws.proofs.Masks.{set_flags, mask_is, mask_of-flags}
+use Rattle.amqp_laws.proofs.Options.{sets_lawful, set_gives, counted_one}
+use Rattle.amqp_laws.proofs.PropertyLaws.{one_each}
 use Rattle.amqp_canonical.specs.declared.shapes.Shape.{Shape}
 use Rattle.amqp_canonical.specs.Shapes.{property_of}
 use Rattle.amqp_canonical.specs.Writes.{IsRead, canonical_of}
 use Rattle.amqp_canonical.proofs.InTurn.{FirstOf, PutInTurn, HereInTurn, turn_none, turn_here, turn_end}
 use Rattle.amqp_canonical.proofs.ReadParts.{took_of, is_read}
 use Rattle.amqp_canonical.proofs.SlotParts.{map_read, map_used}
-use Rattle.amqp_values.proofs.MethodLaws.{known_took}
+use Rattle.amqp_laws.proofs.MethodLaws.{known_took}
 use Rattle.amqp_types.specs.Tidiness.{used_by}
 
 -- ---- numbers

@@ -13,7 +13,7 @@ use Rattle.std.specs.Map.{keys_of}
 use Rattle.std.specs.Ordering.{match_ordering, ordering_reverse, nat_cmp, is_eq}
 use Rattle.amqp_types.specs.Settling.{IsRising, IsSettled, later, last_at, settled_on}
 use Rattle.amqp_types.specs.Values.{FieldValue, Entry}
-use Rattle.amqp_values.proofs.Settling.{cmp, settles, settled_is}
+use Rattle.amqp_laws.proofs.Settling.{cmp, settles, settled_is}
 use Rattle.amqp_canonical.specs.Places.{Precedes, ArePlaced}
 
 -- ---- one more thing at the end

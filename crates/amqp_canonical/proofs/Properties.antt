@@ -24,10 +24,10 @@ use Rattle.amqp_types.specs.declared.errors.ParserError.{ParserError}
 use Rattle.amqp_types.proofs.FormLaws.{numbers_lawful}
 use Rattle.amqp_types.proofs.Sequences.{map_taken}
 use Rattle.amqp_types.proofs.Took.{value_took}
-use Rattle.amqp_values.proofs.SlotForms.{forms_lawful}
-use Rattle.amqp_values.proofs.SlotLaws.{slots_lawful, form_is_plain}
-use Rattle.amqp_properties.proofs.PropertyLaws.{properties_lawful}
-use Rattle.amqp_properties.proofs.HeaderLaws.{least, content_headers_lawful}
+use Rattle.amqp_laws.proofs.SlotForms.{forms_lawful}
+use Rattle.amqp_laws.proofs.SlotLaws.{slots_lawful, form_is_plain}
+use Rattle.amqp_laws.proofs.PropertyLaws.{properties_lawful}
+use Rattle.amqp_laws.proofs.HeaderLaws.{least, content_headers_lawful}
 use Rattle.amqp_canonical.specs.declared.shapes.Shape.{Shape}
 use Rattle.amqp_canonical.specs.declared.slots.Judgement.{Judgement}
 use Rattle.amqp_canonical.specs.Shapes.{form_of, property_of}

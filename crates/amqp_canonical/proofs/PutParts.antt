@@ -20,11 +20,11 @@ use Rattle.amqp_types.specs.declared.tag.FieldTag.TheVariants as tag
 use Rattle.amqp_types.proofs.Numbers.{number_bytes-length}
 use Rattle.amqp_types.proofs.Puts.{puts_then, puts-length}
 use Rattle.amqp_types.proofs.Texts.{long_string_exact}
-use Rattle.amqp_values.proofs.Filling.{nested_more}
-use Rattle.amqp_values.proofs.Filled.{array_exact, table_exact}
-use Rattle.amqp_values.proofs.Exactly.{value_exact, value_some}
-use Rattle.amqp_values.proofs.Bounded.{value_bounded, array_bounded, table_bounded}
-use Rattle.amqp_values.proofs.Strictly.{fits_four}
+use Rattle.amqp_laws.proofs.Filling.{nested_more}
+use Rattle.amqp_laws.proofs.Filled.{array_exact, table_exact}
+use Rattle.amqp_laws.proofs.Exactly.{value_exact, value_some}
+use Rattle.amqp_laws.proofs.Bounded.{value_bounded, array_bounded, table_bounded}
+use Rattle.amqp_laws.proofs.Strictly.{fits_four}
 use Rattle.amqp_canonical.specs.declared.values.Layout.{Layout}
 use Rattle.amqp_canonical.specs.declared.values.Layout.TheVariants as layout
 use Rattle.amqp_canonical.specs.Judgements.{layout_at}

@@ -15,9 +15,9 @@ use Rattle.amqp_types.specs.declared.tag.FieldTag.{FieldTag}
 use Rattle.amqp_types.specs.declared.errors.ParserError.{ParserError}
 use Rattle.amqp_types.specs.declared.errors.ParserError.TheVariants as errors
 use Rattle.amqp_types.proofs.Took.{bind_took, guard_took, test_took, value_took, count_took}
-use Rattle.amqp_values.proofs.Filling.{filled_next, none_left}
-use Rattle.amqp_values.proofs.Filled.{HasBytes, entry_exact, entry_some}
-use Rattle.amqp_values.proofs.Exactly.{value_exact, value_some, tag_behind}
+use Rattle.amqp_laws.proofs.Filling.{filled_next, none_left}
+use Rattle.amqp_laws.proofs.Filled.{HasBytes, entry_exact, entry_some}
+use Rattle.amqp_laws.proofs.Exactly.{value_exact, value_some, tag_behind}
 use Rattle.amqp_canonical.specs.Writes.{IsRead, canonical_of, IsFilled, items_of, key_in, after_key}
 use Rattle.amqp_canonical.specs.Marks.{judged_entry}
 use Rattle.amqp_canonical.proofs.Refusing.{Fails}

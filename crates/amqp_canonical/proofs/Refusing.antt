@@ -8,7 +8,7 @@ use Rattle.amqp_types.specs.ValueJudging.{took_all, inside_error}
 use Rattle.amqp_types.specs.declared.errors.ParserError.{ParserError}
 use Rattle.amqp_types.specs.declared.errors.ParserError.TheVariants as errors
 use Rattle.amqp_types.proofs.Judged.{refuses_next}
-use Rattle.amqp_values.proofs.Filling.{refuses_whole}
+use Rattle.amqp_laws.proofs.Filling.{refuses_whole}
 use Rattle.amqp_canonical.specs.declared.values.ValueJudgement.{ValueJudgement}
 use Rattle.amqp_canonical.specs.Judgements.{MayRefuse, Judges, JudgesEntry}
 

@@ -19,7 +19,7 @@ use Rattle.amqp_types.specs.SlotSpelling.{SpellsForm}
 use Rattle.amqp_types.specs.Writing.{Puts}
 use Rattle.amqp_types.proofs.FormLaws.{flags_byte_back}
 use Rattle.amqp_types.proofs.Took.{bind_took, value_took, count_took}
-use Rattle.amqp_values.proofs.SlotForms.{flags_of-map, forms_lawful, form_gives}
+use Rattle.amqp_laws.proofs.SlotForms.{flags_of-map, forms_lawful, form_gives}
 use Rattle.amqp_canonical.specs.declared.shapes.Shape.{Shape}
 use Rattle.amqp_canonical.specs.declared.shapes.Shape.TheVariants as shapes
 use Rattle.amqp_canonical.specs.Shapes.{form_of, slot_of, slots_of}

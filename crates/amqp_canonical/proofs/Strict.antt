@@ -6,11 +6,11 @@ use Rattle.amqp_types.specs.FormLaws.{IsLawful}
 use Rattle.amqp_types.specs.ValueBytes.{tagged_bytes}
 use Rattle.amqp_types.specs.ValueJudging.{judge_value}
 use Rattle.amqp_types.specs.ValueSpelling.{SpellsValue, SpellsArray, SpellsTable}
-use Rattle.amqp_values.proofs.Filled.{array_exact, table_exact}
-use Rattle.amqp_values.proofs.Exactly.{value_exact, value_some}
-use Rattle.amqp_values.proofs.Bounded.{value_bounded, array_bounded, table_bounded}
-use Rattle.amqp_values.proofs.Strictly.{value_only, only_array, only_table, value_again, array_again, table_again}
-use Rattle.amqp_values.proofs.ValueLaws.{values_lawful}
+use Rattle.amqp_laws.proofs.Filled.{array_exact, table_exact}
+use Rattle.amqp_laws.proofs.Exactly.{value_exact, value_some}
+use Rattle.amqp_laws.proofs.Bounded.{value_bounded, array_bounded, table_bounded}
+use Rattle.amqp_laws.proofs.Strictly.{value_only, only_array, only_table, value_again, array_again, table_again}
+use Rattle.amqp_laws.proofs.ValueLaws.{values_lawful}
 use Rattle.amqp_canonical.specs.CanonicalLaws.{CanonicalIsStrict, CanonicalValuesAreStrict, CanonicalArraysAreStrict, CanonicalTablesAreStrict}
 
 -- what is lawful

@@ -12,13 +12,13 @@ use Rattle.amqp_types.specs.ValueJudging.{took_all, read_map, filled, judge_valu
 use Rattle.amqp_types.specs.ValueSpelling.{SpellsEach, SpellsEntry, SpellsValue}
 use Rattle.amqp_types.specs.declared.errors.ParserError.{ParserError}
 use Rattle.amqp_types.proofs.Texts.{long_string_exact}
-use Rattle.amqp_values.proofs.Settling.{settles}
-use Rattle.amqp_values.proofs.Filling.{filled_next, RefusesWhole-map}
-use Rattle.amqp_values.proofs.Filled.{HasBytes, entry_exact, table_exact, entry_some}
-use Rattle.amqp_values.proofs.Exactly.{value_exact, value_some}
-use Rattle.amqp_values.proofs.Bounded.{value_bounded, table_bounded}
-use Rattle.amqp_values.proofs.Strictly.{each_into, entry_into, table_again, value_again, in_order}
-use Rattle.amqp_values.proofs.ValueLaws.{value_is_plain}
+use Rattle.amqp_laws.proofs.Settling.{settles}
+use Rattle.amqp_laws.proofs.Filling.{filled_next, RefusesWhole-map}
+use Rattle.amqp_laws.proofs.Filled.{HasBytes, entry_exact, table_exact, entry_some}
+use Rattle.amqp_laws.proofs.Exactly.{value_exact, value_some}
+use Rattle.amqp_laws.proofs.Bounded.{value_bounded, table_bounded}
+use Rattle.amqp_laws.proofs.Strictly.{each_into, entry_into, table_again, value_again, in_order}
+use Rattle.amqp_laws.proofs.ValueLaws.{value_is_plain}
 use Rattle.amqp_canonical.specs.Judgements.{MayRefuse, AreCanonicalValues, AreCanonicalEntries, IsCanonicalArray, IsCanonicalTable, DecodesAs, Fills}
 use Rattle.amqp_canonical.proofs.Refusing.{Fails, fully, fails_next, fails_whole}
 use Rattle.amqp_canonical.proofs.Children.{decided_as}

@@ -1,13 +1,13 @@
 //! Laws of the methods of the classes channel, tx and confirm: what equality says of them, and what they hold.
 
-ghost use Rattle.std.specs.Prelude.{◌≡◌, ◌<◌, ◌^◌, ◌↔◌, IsTrue};
-ghost use Rattle.amqp_values.specs.HeldMethods.{IsHeldMethod};
+ghost use Rattle.std.specs.Prelude.{◌≡◌, ◌↔◌, IsTrue};
+ghost use Rattle.amqp_laws.specs.HeldMethods.{IsHeldMethod};
 ghost use Rattle.amqp_channel.specs.Channel as channel;
 ghost use Rattle.amqp_channel.specs.Tx as tx;
 ghost use Rattle.amqp_channel.specs.Confirm as confirm;
 
 use crate::{channel, confirm, tx};
-use amqp_values::{ShortUInt, text_held};
+use amqp_values::{short_held, text_held};
 
 /// Two methods of the class channel are equal exactly where contracts see the same: no field is left out.
 #[tactic(auto, using(crate::proofs::ChannelEquality::same_method))]
@@ -32,11 +32,6 @@ pub fn equal_confirm_methods(a: &confirm::AMQPMethod, b: &confirm::AMQPMethod) -
 {
     a == b
 }
-
-/// A number of 2 bytes fits them.
-fn short_held(n: ShortUInt)
-    ensures { n < 2 ^ 16 }
-{}
 
 /// A method of the class channel is held, whatever a program does: the premise of the laws that read canonical bytes back.
 #[tactic(auto, unfolding(amqp_types::specs::Rows::rows_of, amqp_types::specs::Rows::slots_at))]

@@ -3,7 +3,7 @@ use Rattle.std.proofs.Common.{◌≡◌, true, true≢false, refl, sym, ap, subs
 use Rattle.std.specs.Bool.{Decides}
 use Rattle.std.specs.Cmp.{booleans_Decides}
 use Rattle.std.specs.Cmp.Lexicographic.{bytes_decides}
-use Rattle.amqp_values.proofs.Deciding.{both}
+use Rattle.amqp_laws.proofs.Deciding.{both}
 use Rattle.amqp_connection.specs.declared.methods.access.Request.{Request}
 use Rattle.amqp_connection.specs.contracts.methods.access.RequestPartialEq.TheImpl as request
 use Rattle.amqp_connection.specs.declared.methods.access.AMQPMethod.{AMQPMethod}

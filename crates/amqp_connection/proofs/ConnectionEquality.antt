@@ -3,7 +3,8 @@ use Rattle.std.proofs.Common.{◌≡◌, true, true≢false, refl, sym, ap, subs
 use Rattle.std.specs.Bool.{Decides}
 use Rattle.std.specs.Cmp.{unsigned_Decides}
 use Rattle.std.specs.Cmp.Lexicographic.{bytes_decides}
-use Rattle.amqp_values.proofs.Deciding.{both, same_tables}
+use Rattle.amqp_laws.proofs.Deciding.{both}
+use Rattle.amqp_values.proofs.Deciding.{same_tables}
 use Rattle.amqp_connection.specs.declared.methods.connection.negotiating.Start.{Start}
 use Rattle.amqp_connection.specs.contracts.methods.connection.negotiating.StartPartialEq.TheImpl as start
 use Rattle.amqp_connection.specs.declared.methods.connection.negotiating.StartOk.{StartOk}

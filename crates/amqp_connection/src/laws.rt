@@ -1,12 +1,12 @@
 //! Laws of the methods of the classes connection and access: what equality says of them, and what they hold.
 
-ghost use Rattle.std.specs.Prelude.{◌≡◌, ◌<◌, ◌^◌, ◌↔◌, IsTrue};
-ghost use Rattle.amqp_values.specs.HeldMethods.{IsHeldMethod};
+ghost use Rattle.std.specs.Prelude.{◌≡◌, ◌↔◌, IsTrue};
+ghost use Rattle.amqp_laws.specs.HeldMethods.{IsHeldMethod};
 ghost use Rattle.amqp_connection.specs.Connection as connection;
 ghost use Rattle.amqp_connection.specs.Access as access;
 
 use crate::{access, connection};
-use amqp_values::{LongUInt, ShortShortUInt, ShortUInt, table_held, text_held};
+use amqp_values::{long_held, octet_held, short_held, table_held, text_held};
 
 /// Two methods of the class connection are equal exactly where contracts see the same: no field is left out.
 #[tactic(auto, using(crate::proofs::ConnectionEquality::same_method))]
@@ -23,21 +23,6 @@ pub fn equal_access_methods(a: &access::AMQPMethod, b: &access::AMQPMethod) -> b
 {
     a == b
 }
-
-/// A number of 1 byte fits it.
-fn octet_held(n: ShortShortUInt)
-    ensures { n < 2 ^ 8 }
-{}
-
-/// A number of 2 bytes fits them.
-fn short_held(n: ShortUInt)
-    ensures { n < 2 ^ 16 }
-{}
-
-/// A number of 4 bytes fits them.
-fn long_held(n: LongUInt)
-    ensures { n < 2 ^ 32 }
-{}
 
 /// A method of the class connection is held, whatever a program does: the premise of the laws that read canonical bytes back.
 #[tactic(auto, unfolding(amqp_types::specs::Rows::rows_of, amqp_types::specs::Rows::slots_at))]

@@ -1,44 +1,23 @@
--- What is kept of channels, after one entry of their map has changed.
-use Rattle.std.proofs.Common.{◌≡◌, ◌≢◌, ℕ, Bool, true, false, cond, List, [], ◌∷◌, map, refl, sym, ap, ◌∙◌, arith, Option, Some, None, Result, Ok, Err}
-use Rattle.std.specs.Prelude.{option_map, IsSome, OnErr}
-use Rattle.std.proofs.lemmas.Grind.{common_steps}
+-- What is kept of channels, by what an assembler holds of them.
+use Rattle.std.proofs.Common.{◌≡◌, ℕ, Bool, true, false, cond, List, [], ◌∷◌, map, refl, sym, ap, subst, ◌∙◌, Option, Some, Result, Ok, Err}
+use Rattle.std.specs.Prelude.{option_map, OnOk}
 use Rattle.std.specs.Map.{set_value}
 use Rattle.std.specs.Ordering.{nat_cmp}
-use Rattle.std.specs.BTreeMap.{BTreeMap, is_at, Updates, WritesThrough}
+use Rattle.std.specs.BTreeMap.{is_at}
 use Rattle.std.proofs.lemmas.Map.Steps.{set_value_same}
+use Rattle.amqp_turns.specs.Stands.{kept_at, OthersStay}
+use Rattle.amqp_turns.specs.Outcomes.{Kept, Assembling}
+use Rattle.amqp_turns.proofs.Entries.{kept-set_same, kept-set_other}
 use Rattle.amqp_content.specs.declared.pending.Pending.{Pending}
-use Rattle.amqp_content.specs.Stands.{kept_at}
-use Rattle.amqp_content.specs.Outcomes.{Kept, Assembling, pending_kept, entry_kept}
+use Rattle.amqp_content.specs.Outcomes.{pending_kept, entry_kept}
 
-pub kept_at-map : (es : List (ℕ × Pending)) (channel : ℕ) → kept_at (map entry_kept es) channel ≡ option_map pending_kept (kept_at es channel)
+kept_at-map : (es : List (ℕ × Pending)) (channel : ℕ) → kept_at (map entry_kept es) channel ≡ option_map pending_kept (kept_at es channel)
 kept_at-map [] channel = refl
 kept_at-map (e ∷ es) channel = by_test (is_at (nat_cmp channel) e.0) (kept_at-map es channel)
   where
     by_test : (test : Bool) → kept_at (map entry_kept es) channel ≡ option_map pending_kept (kept_at es channel) → cond test (Some (pending_kept e.1)) (kept_at (map entry_kept es) channel) ≡ option_map pending_kept (cond test (Some e.1) (kept_at es channel))
     by_test true rest = refl
     by_test false rest = rest
-
-apart : (k q : ℕ) → q ≢ k → is_at (nat_cmp k) q ≡ false
-apart k q ne = grind (arith, common_steps)
-
--- one channel has this now, and every other what it had
-pub record Updated (old new : List (ℕ × Kept)) (channel : ℕ) (kept : Option Kept) : Type 0 where
-  pub here : kept_at new channel ≡ kept
-  pub others : (other : ℕ) → other ≢ channel → kept_at new other ≡ kept_at old other
-
-pub updates_kept : (m n : BTreeMap ℕ Pending) (channel : ℕ) (w : Option Pending) → Updates nat_cmp m n channel w → Updated (map entry_kept m.entries) (map entry_kept n.entries) channel (option_map pending_kept w)
-updates_kept m n channel w h = record {
-  here = kept_at-map n.entries channel ∙ ap (option_map pending_kept) h.1;
-  others = λ other ne. kept_at-map n.entries other ∙ ap (option_map pending_kept) (h.2 other (apart channel other ne)) ∙ sym (kept_at-map m.entries other);
-}
-
--- the same where the value is written in place
-pub writes_kept : (m n : BTreeMap ℕ Pending) (channel : ℕ) (v w : Pending) → kept_at m.entries channel ≡ Some v → WritesThrough nat_cmp (nat_cmp channel) m w n → Updated (map entry_kept m.entries) (map entry_kept n.entries) channel (Some (pending_kept w))
-writes_kept m n channel v w found h = updates_kept m n channel (Some w) (h.3 (some_there (kept_at m.entries channel) found))
-  where
-    some_there : (o : Option Pending) → o ≡ Some v → IsSome o
-    some_there (Some u) e = refl
-    some_there None e = absurd cc
 
 map-set_value : (test : ℕ → Bool) (es : List (ℕ × Pending)) (w : Pending) → map entry_kept (set_value test es w) ≡ set_value test (map entry_kept es) (pending_kept w)
 map-set_value test [] w = refl
@@ -48,27 +27,35 @@ map-set_value test (e ∷ es) w = by_test (test e.0) (map-set_value test es w)
     by_test true rest = refl
     by_test false rest = ap (λ xs. entry_kept e ∷ xs) rest
 
--- where what is kept stays, nothing is changed
-pub writes_same : (m n : BTreeMap ℕ Pending) (channel : ℕ) (v w : Pending) → kept_at m.entries channel ≡ Some v → pending_kept w ≡ pending_kept v → WritesThrough nat_cmp (nat_cmp channel) m w n → map entry_kept n.entries ≡ map entry_kept m.entries
-writes_same m n channel v w found same h =
-    ap (map entry_kept) h.0 ∙ map-set_value (is_at (nat_cmp channel)) m.entries w
-    ∙ set_value_same (is_at (nat_cmp channel)) (map entry_kept m.entries) (pending_kept w) (kept_at-map m.entries channel ∙ ap (option_map pending_kept) found ∙ ap (λ k. Some k) (sym same))
+-- a channel that has a value now
+pub here : {found : Option Pending} (new : List (ℕ × Pending)) (channel : ℕ) → kept_at new channel ≡ found → kept_at (map entry_kept new) channel ≡ option_map pending_kept found
+here new channel e = kept_at-map new channel ∙ ap (option_map pending_kept) e
 
--- what is kept, by what the map has
-pub kept_of_map : (es : List (ℕ × Pending)) (channel : ℕ) {found : Option Pending} → kept_at es channel ≡ found → option_map pending_kept found ≡ kept_at (map entry_kept es) channel
-kept_of_map es channel e = ap (option_map pending_kept) (sym e) ∙ sym (kept_at-map es channel)
+pub here_if : {T E : Type 0} (result : Result T E) (new : List (ℕ × Pending)) (channel : ℕ) (pending : Pending) → OnOk result (kept_at new channel ≡ Some pending) → OnOk result (kept_at (map entry_kept new) channel ≡ Some (pending_kept pending))
+here_if (Ok x) new channel pending e = here new channel e
+here_if (Err x) new channel pending e = tt
 
--- where the channel is not found, nothing is changed
-pub nothing_kept : (m n : BTreeMap ℕ Pending) (channel : ℕ) (kept : Option Kept) → n ≡ m → kept_at m.entries channel ≡ None → kept_at (map entry_kept m.entries) channel ≡ kept → (kept_at (map entry_kept n.entries) channel ≡ None) × (kept ≡ None)
-nothing_kept m n channel kept same none is =
-    let old : kept_at (map entry_kept m.entries) channel ≡ None = kept_at-map m.entries channel ∙ ap (option_map pending_kept) none in
-    (ap (λ (b : BTreeMap ℕ Pending). kept_at (map entry_kept b.entries) channel) same ∙ old, sym is ∙ old)
+-- an assembler as contracts see it, by what it holds
+module _ {max : ℕ} (held : List (ℕ × Pending)) (seen : Assembling) (view : ◌≡◌ {A = Assembling} (record { max_body = max; channels = map entry_kept held }) seen) where
+  pub found_is : {found : Option Pending} (channel : ℕ) → found ≡ kept_at held channel → option_map pending_kept found ≡ kept_at seen.channels channel
+  found_is channel e = ap (option_map pending_kept) e ∙ sym (kept_at-map held channel) ∙ ap (λ (a : Assembling). kept_at a.channels channel) view
 
-pub same_assembling : (max : ℕ) (xs ys : List (ℕ × Kept)) (seen : Assembling) → xs ≡ ys → ◌≡◌ {A = Assembling} (record { max_body = max; channels = ys }) seen → ◌≡◌ {A = Assembling} (record { max_body = max; channels = xs }) seen
-same_assembling max xs ys seen e is =
-    let make : List (ℕ × Kept) → Assembling = λ cs. record { max_body = max; channels = cs } in
-    ap make e ∙ is
+  pub others : (channel : ℕ) (new : List (ℕ × Pending)) → OthersStay channel held new → OthersStay channel seen.channels (map entry_kept new)
+  others channel new stay = λ other ne. here new other (stay other ne) ∙ found_is other refl
 
-pub on_err : {T E P : Type 0} (result : Result T E) → P → OnErr result P
-on_err (Ok x) p = tt
-on_err (Err e) p = p
+  -- a message that is written in its place
+  pub record Written (channel : ℕ) (new : List (ℕ × Pending)) (v w : Pending) : Type 0 where
+    pub kept : kept_at (map entry_kept new) channel ≡ Some (pending_kept w)
+    pub others : OthersStay channel seen.channels (map entry_kept new)
+    pub same : pending_kept w ≡ pending_kept v → ◌≡◌ {A = Assembling} (record { max_body = max; channels = map entry_kept new }) seen
+
+  pub written : (channel : ℕ) (new : List (ℕ × Pending)) (v w : Pending) → Some v ≡ kept_at held channel → new ≡ set_value (is_at (nat_cmp channel)) held w → Written channel new v w
+  written channel new v w found is = record {
+    kept = here new channel (ap (λ (es : List (ℕ × Pending)). kept_at es channel) is ∙ kept-set_same held channel v w (sym found));
+    others = others channel new (subst (λ (es : List (ℕ × Pending)). OthersStay channel held es) (sym is) (kept-set_other held channel w));
+    same = λ e.
+        let there : kept_at (map entry_kept held) channel ≡ Some (pending_kept w) = here held channel (sym found) ∙ ap (λ k. Some k) (sym e) in
+        let channels : map entry_kept new ≡ map entry_kept held = ap (map entry_kept) is ∙ map-set_value (is_at (nat_cmp channel)) held w ∙ set_value_same (is_at (nat_cmp channel)) (map entry_kept held) (pending_kept w) there in
+        let make : List (ℕ × Kept) → Assembling = λ cs. record { max_body = max; channels = cs } in
+        ap make channels ∙ view;
+  }

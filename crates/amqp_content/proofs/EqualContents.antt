@@ -3,12 +3,12 @@ use Rattle.std.proofs.Common.{◌≡◌, true, true≢false, refl, sym, ap, subs
 use Rattle.std.specs.Bool.{Decides}
 use Rattle.std.specs.Cmp.{unsigned_Decides}
 use Rattle.std.specs.Cmp.Lexicographic.{bytes_decides}
-use Rattle.amqp_values.proofs.Deciding.{both}
+use Rattle.amqp_laws.proofs.Deciding.{both}
 use Rattle.amqp_basic.proofs.Equality.{same_publish, same_return, same_deliver, same_get_ok}
 use Rattle.amqp_properties.proofs.Equality.{all_equal-decides}
 use Rattle.amqp_frame.proofs.EqualFrames.{same_frame}
-use Rattle.amqp_content.specs.declared.fault.ContentFault.{ContentFault}
-use Rattle.amqp_content.specs.contracts.fault.ContentFaultPartialEq.TheImpl as fault
+use Rattle.amqp_turns.specs.declared.fault.ContentFault.{ContentFault}
+use Rattle.amqp_turns.specs.contracts.fault.ContentFaultPartialEq.TheImpl as fault
 use Rattle.amqp_content.specs.declared.opening.Opening.{Opening}
 use Rattle.amqp_content.specs.declared.opening.Opening.TheVariants as openings
 use Rattle.amqp_content.specs.contracts.opening.OpeningPartialEq.TheImpl as opening

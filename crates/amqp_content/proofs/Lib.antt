@@ -1,9 +1,5 @@
 -- The lemmas of amqp_content.
-pub mod Moving
-pub mod Running
-pub mod Tracking
 pub mod Telling
-pub mod Pieces
 pub mod Whole
 pub mod Apart
 pub mod Entries

@@ -1,12 +1,14 @@
--- The definitions of amqp_content.
-pub mod Faults
-pub mod Units
-pub mod Answers
-pub mod Stands
-pub mod Marks
-pub mod Steps
+-- The definitions of amqp_content, and those of amqp_turns that are passed on.
+pub use Rattle.amqp_turns.specs.Faults
+pub use Rattle.amqp_turns.specs.Units
+pub use Rattle.amqp_turns.specs.Answers
+pub use Rattle.amqp_turns.specs.Stands
+pub use Rattle.amqp_turns.specs.LastEntry
+pub use Rattle.amqp_turns.specs.Lent
+pub use Rattle.amqp_turns.specs.Marks
+pub use Rattle.amqp_turns.specs.Steps
 pub mod Messages
 pub mod Outcomes
-pub mod Sequences
+pub use Rattle.amqp_turns.specs.Sequences
 pub mod Splits
 pub mod Laws

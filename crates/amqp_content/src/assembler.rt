@@ -3,23 +3,20 @@
 ghost use Rattle.std.specs.Prelude.{◌≡◌, ℕ, [], Ok, Some, None, IfOk, OnOk, OnErr, IsTrue, false};
 ghost use Rattle.amqp_protocol.specs.Classes.{method_of};
 ghost use Rattle.amqp_frame.specs.Frames.{Meth, Head, Body, frame_of, header_of, channel_id_of};
-ghost use Rattle.amqp_frame.specs.Outlines.{outline_of};
-ghost use Rattle.amqp_content.specs.Units.{is_content};
-ghost use Rattle.amqp_content.specs.Stands.{kept_at, OthersStay};
+ghost use Rattle.amqp_wire.specs.Outlines.{outline_of};
+ghost use Rattle.amqp_turns.specs.Units.{is_content};
+ghost use Rattle.amqp_turns.specs.Stands.{kept_at, OthersStay};
 ghost use Rattle.amqp_content.specs.Outcomes.{AssemblerStands, PushesIn, TakesIn, TakesMarked, IsHeadedThere, IsMessage, outcome_of, wrong, fault, pending_kept, kept_progress, with_header, with_bytes, whole_kept};
-ghost use Rattle.amqp_content.specs.Steps.{mark_after, method_mark};
+ghost use Rattle.amqp_turns.specs.Steps.{mark_after, method_mark};
 
-use crate::fault::ContentFault;
-use crate::mark::Mark;
 use crate::opening::Opening;
 use crate::outcome::Outcome;
 use crate::pending::Pending;
-use crate::progress::{Progress, mark};
 use amqp_frame::{AMQPContentHeader, AMQPFrame, FrameOutline};
 use amqp_protocol::AMQPClass;
+use amqp_turns::{Channels, ContentFault, Mark, Progress, step};
 use amqp_types::{ByteArray, ChannelId, NoMemory};
 use std::alloc::Global;
-use std::collections::BTreeMap;
 use std::marker::Model;
 
 /// Puts the messages of many channels together. It holds what has come of the messages that are not
@@ -28,7 +25,7 @@ use std::marker::Model;
 pub struct Assembler {
     alloc: Global,
     max_body: u64,
-    channels: BTreeMap<ChannelId, Pending>,
+    channels: Channels<Pending>,
 }
 
 impl Model for Assembler {
@@ -41,7 +38,7 @@ impl Model for Assembler {
 
     ghost coded = { Prim.hlevel (codes, value_code) };
 
-    ghost view = { λ assembler. record { max_body = assembler.max_body; channels = map entry_kept assembler.channels.entries } };
+    ghost view = { λ assembler. record { max_body = assembler.max_body; channels = map entry_kept assembler.channels } };
 }
 
 impl Assembler {
@@ -55,7 +52,7 @@ impl Assembler {
         Assembler {
             alloc,
             max_body,
-            channels: BTreeMap::new(alloc),
+            channels: Channels::new(alloc),
         }
     }
 
@@ -63,7 +60,7 @@ impl Assembler {
     fn progress(&self, channel_id: ChannelId) -> Option<Progress>
         ensures { result ≡ kept_progress (kept_at self.now.channels channel_id) }
     {
-        match self.channels.get(&channel_id) {
+        match self.channels.get(channel_id) {
             Some(pending) => Some(pending.progress()),
             None => None,
         }
@@ -73,7 +70,7 @@ impl Assembler {
     fn mark(&self, channel_id: ChannelId, outline: FrameOutline) -> Mark
         ensures { result ≡ mark_after self.now.max_body (kept_progress (kept_at self.now.channels channel_id)) outline }
     {
-        mark(self.max_body, self.progress(channel_id), outline)
+        step(self.max_body, self.progress(channel_id), outline).0
     }
 
     /// Keeps this of a channel. Where memory runs out, all stays.
@@ -83,8 +80,7 @@ impl Assembler {
         ensures max_body { self.new.max_body ≡ self.old.max_body }
         ensures err { OnErr result (self.new ≡ self.old) }
     {
-        self.channels.insert(channel_id, pending)?;
-        Ok(())
+        self.channels.insert(channel_id, pending)
     }
 
     /// Keeps a content header with the opening before it.
@@ -93,7 +89,7 @@ impl Assembler {
         ensures others { OthersStay channel_id self.old.channels self.new.channels }
         ensures max_body { self.new.max_body ≡ self.old.max_body }
     {
-        let Some(pending) = self.channels.get_mut(&channel_id) else {
+        let Some(pending) = self.channels.get_mut(channel_id) else {
             return;
         };
         pending.set_header(header);
@@ -106,7 +102,7 @@ impl Assembler {
         ensures max_body { self.new.max_body ≡ self.old.max_body }
         ensures err { OnErr result (self.new ≡ self.old) }
     {
-        let Some(pending) = self.channels.get_mut(&channel_id) else {
+        let Some(pending) = self.channels.get_mut(channel_id) else {
             return Ok(());
         };
         pending.append(bytes)?;
@@ -121,7 +117,7 @@ impl Assembler {
         ensures others { OthersStay channel_id self.old.channels self.new.channels }
         ensures max_body { self.new.max_body ≡ self.old.max_body }
     {
-        let Some(pending) = self.channels.remove(&channel_id) else {
+        let Some(pending) = self.channels.remove(channel_id) else {
             unreachable!()
         };
         pending.into_outcome(channel_id)

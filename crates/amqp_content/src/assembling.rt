@@ -3,7 +3,7 @@
 ghost use Rattle.std.specs.Prelude.{[], map, IfOk};
 ghost use Rattle.amqp_frame.specs.Frames.{frame_of};
 ghost use Rattle.amqp_content.specs.Outcomes.{outcome_of};
-ghost use Rattle.amqp_content.specs.Sequences.{AreGiven};
+ghost use Rattle.amqp_turns.specs.Sequences.{AreGiven};
 
 use crate::assembler::Assembler;
 use crate::outcome::Outcome;

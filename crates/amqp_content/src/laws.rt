@@ -1,26 +1,8 @@
-//! Laws of content, each the contract of a function that does nothing.
+//! The law of split messages, the contract of a function that does nothing.
 
-ghost use Rattle.amqp_frame.specs.Outlines.{outline_of};
-ghost use Rattle.amqp_content.specs.Marks.{itself};
-ghost use Rattle.amqp_content.specs.Laws.{AnswersAreSteps, SplitsAreWhole, ChannelsAreAnswered, ChannelsAreApart};
-
-/// The outcomes of the frames of a channel are those of one step after another.
-pub fn answers_are_steps()
-    ensures frames { AnswersAreSteps outline_of }
-    ensures outlines { AnswersAreSteps itself }
-{}
+ghost use Rattle.amqp_content.specs.Laws.{SplitsAreWhole};
 
 /// Messages that are split into frames come back whole and in order, and no frame is a fault.
 pub fn splits_are_whole()
     ensures { SplitsAreWhole }
-{}
-
-/// What an assembler gives for the frames of a channel are the outcomes of these frames.
-pub fn channels_are_answered()
-    ensures { ChannelsAreAnswered }
-{}
-
-/// What comes on other channels changes nothing.
-pub fn channels_are_apart()
-    ensures { ChannelsAreApart }
 {}

@@ -3,7 +3,7 @@
 ghost use Rattle.std.specs.Prelude.{◌≡◌, IfOk, IfErr, OnOk, OnErr, IsTrue, false};
 ghost use Rattle.amqp_protocol.specs.Classes.{method_of};
 ghost use Rattle.amqp_content.specs.Messages.{opening_method};
-ghost use Rattle.amqp_content.specs.Units.{is_opening_id};
+ghost use Rattle.amqp_turns.specs.Units.{is_opening_id};
 
 use amqp_protocol::{AMQPClass, basic};
 use amqp_types::NoMemory;

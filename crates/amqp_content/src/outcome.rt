@@ -1,8 +1,8 @@
 //! What an assembler gives for a frame.
 
-use crate::fault::ContentFault;
 use crate::message::Message;
 use amqp_frame::AMQPFrame;
+use amqp_turns::ContentFault;
 
 /// What becomes of a frame.
 #[derive(Debug, Drop, PartialEq)]

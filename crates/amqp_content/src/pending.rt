@@ -7,8 +7,8 @@ ghost use Rattle.amqp_content.specs.Outcomes.{pending_kept, progress_kept, with_
 use crate::message::Message;
 use crate::opening::Opening;
 use crate::outcome::Outcome;
-use crate::progress::Progress;
 use amqp_frame::AMQPContentHeader;
+use amqp_turns::Progress;
 use amqp_types::{ByteArray, ChannelId, NoMemory};
 
 /// What is kept of a channel on which a message has begun, or a fault has come.

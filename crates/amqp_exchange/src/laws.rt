@@ -1,7 +1,7 @@
 //! Laws of the methods of the class exchange: what equality says of them, and what they hold.
 
 ghost use Rattle.std.specs.Prelude.{◌≡◌, ◌↔◌, IsTrue};
-ghost use Rattle.amqp_values.specs.HeldMethods.{IsHeldMethod};
+ghost use Rattle.amqp_laws.specs.HeldMethods.{IsHeldMethod};
 ghost use Rattle.amqp_exchange.specs.Exchange.{method_of};
 
 use crate::exchange;

@@ -1,15 +1,14 @@
 -- Content headers, and frames, are equal exactly where contracts see the same.
-use Rattle.std.proofs.Common.{◌≡◌, true, true≢false, refl, sym, ap, subst, rules}
+use Rattle.std.proofs.Common.{◌≡◌, true, true≢false, refl, sym, ap, subst}
 use Rattle.std.specs.Bool.{Decides}
 use Rattle.std.specs.Cmp.{unsigned_Decides}
 use Rattle.std.specs.Cmp.Lexicographic.{bytes_decides}
-use Rattle.amqp_values.proofs.Deciding.{both}
+use Rattle.amqp_laws.proofs.Deciding.{both}
 use Rattle.amqp_properties.specs.declared.properties.AMQPProperties.{AMQPProperties}
 use Rattle.amqp_properties.specs.contracts.properties.AMQPPropertiesPartialEq.TheImpl as properties
 use Rattle.amqp_properties.proofs.Equality.{all_equal-decides}
 use Rattle.amqp_protocol.proofs.Equality.{same_class}
-use Rattle.amqp_frame.specs.declared.version.ProtocolVersion.{ProtocolVersion}
-use Rattle.amqp_frame.specs.contracts.version.ProtocolVersionPartialEq.TheImpl as version
+use Rattle.amqp_wire.proofs.EqualVersions.{same_version}
 use Rattle.amqp_frame.specs.declared.content_header.AMQPContentHeader.{AMQPContentHeader}
 use Rattle.amqp_frame.specs.contracts.content_header.AMQPContentHeaderPartialEq.TheImpl as header
 use Rattle.amqp_frame.specs.declared.frame.AMQPFrame.{AMQPFrame}
@@ -37,9 +36,6 @@ pub same_header : (a b : AMQPContentHeader) → Decides (header.ghosts.eq a b) (
 same_header a b = (λ h. header_of_parts a b ((header_parts a b).0 h), λ e. (header_parts a b).1 (parts_of_header a b e))
 
 -- ---- frames
-
-pub same_version : (a b : ProtocolVersion) → Decides (version.ghosts.eq a b) (a ≡ b)
-same_version a b = search rules
 
 same : (a b : AMQPFrame) → frame.ghosts.eq a b ≡ true → a ≡ b
 same (frames.ProtocolHeader a) (frames.ProtocolHeader b) h = ap frames.ProtocolHeader ((same_version a b).0 h)

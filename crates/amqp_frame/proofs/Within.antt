@@ -1,119 +1,25 @@
--- What was read has a size, which is no more than it was read from; and which errors a whole payload has.
-use Rattle.std.proofs.Common.{◌≡◌, ℕ, ◌+◌, ◌^◌, ◌<◌, List, [], ◌∷◌, length, take, None, Result, Ok, Err, IfOk, refl, subst, ap, arith, inl, inr}
+-- What a typed frame was decoded from: its size is no more, and which errors there are.
+use Rattle.std.proofs.Common.{ℕ, ◌+◌, ◌^◌, ◌<◌, List, length, None, Result, Ok, Err, IfOk}
 use Rattle.std.specs.Prelude.{IfErr}
-use Rattle.std.proofs.lemmas.Bool.{cases_eq, eq-eqb, ne_eqb}
-use Rattle.std.proofs.lemmas.List.{length-take-le}
 use Rattle.amqp_types.specs.Levels.{plain}
-use Rattle.amqp_types.specs.Judging.{Fault, Judged, past, fault, took, trailing_bytes, short_payload, unknown_frame_type, bad_protocol_header, bad_frame_end, IsBytes}
-use Rattle.amqp_types.specs.Answers.{Answers, AnswersWhole, RefusesWhole}
-use Rattle.amqp_types.specs.PayloadFaults.{IsInside}
-use Rattle.amqp_types.specs.ValueJudging.{read_map}
+use Rattle.amqp_types.specs.Judging.{IsBytes}
+use Rattle.amqp_types.specs.Answers.{Answers, AnswersWhole}
 use Rattle.amqp_types.specs.ValueLaws.{IsNoLonger as IsSizedWithin}
-use Rattle.amqp_types.specs.Methods.{judge_payload}
-use Rattle.amqp_types.specs.ContentHeaders.{judge_content_header}
 use Rattle.amqp_types.specs.declared.errors.ParserError.{ParserError}
-use Rattle.amqp_types.specs.declared.errors.ParserError.TheVariants as errors
-use Rattle.amqp_values.proofs.PayloadFaults.{payloads_inside}
-use Rattle.amqp_properties.proofs.PropertyFaults.{content_headers_inside}
+use Rattle.amqp_wire.specs.declared.frame_type.AMQPFrameType.{AMQPFrameType}
+use Rattle.amqp_wire.specs.Canonical.{canon, size_of}
+use Rattle.amqp_wire.specs.Verdicts.{IsPayloadError, whole_as, verdict}
+use Rattle.amqp_wire.proofs.Within.{whole_sized, verdict_sized, whole_fails, error_whole}
 use Rattle.amqp_frame.specs.declared.frame.AMQPFrame.{AMQPFrame}
-use Rattle.amqp_frame.specs.declared.frame_type.AMQPFrameType.{AMQPFrameType}
-use Rattle.amqp_frame.specs.declared.frame_type.AMQPFrameType.TheVariants as kinds
-use Rattle.amqp_frame.specs.Frames.{Frame, Proto, Meth, Head, frame_of}
-use Rattle.amqp_frame.specs.Spelling.{framed, proto, byte_of}
-use Rattle.amqp_frame.specs.Canonical.{canon, size_of}
-use Rattle.amqp_frame.specs.Verdicts.{IsPayloadError, filling, all_of, whole_as, verdict}
-use Rattle.amqp_frame.proofs.Cuts.{verdict-got_within}
-use Rattle.amqp_frame.proofs.Encoded.{spells_as, verdict-spells}
-use Rattle.amqp_frame.proofs.Strictness.{spelled_sized}
-use Rattle.amqp_frame.proofs.Sizes.{framed_length}
-
--- ---- sizes
-
--- a frame around the payload is encoded by eight bytes more
-around : (kind : AMQPFrameType) (channel : ℕ) (payload : List ℕ) (f : Frame) → (kind ≡ kinds.ProtocolHeader → ⊥) → channel < 2 ^ 16 → IsBytes payload → length payload < 2 ^ 32 → whole_as kind channel payload ≡ Ok f → IsSizedWithin (size_of f) (canon f) (length payload + 8)
-around kind channel payload f other on fits few e =
-    let bytes = framed (byte_of kind) channel payload in
-    let spelled = spells_as plain bytes kind channel payload f fits (record { channel_fits = on; length_fits = few; bytes_are = refl }) e refl other in
-    subst (IsSizedWithin (size_of f) (canon f)) (framed_length (byte_of kind) channel payload) (spelled_sized bytes f spelled)
-
-header_sized : (a b c : ℕ) (f : Frame) → Proto a b c ≡ f → IsSizedWithin (size_of f) (canon f) 11
-header_sized a b c f same =
-    let sized = spelled_sized (proto a b c) (Proto a b c) refl in
-    subst (λ g. IsSizedWithin (size_of g) (canon g) 11) same (record { sized = sized.sized; shorter = omega (arith, sized.shorter) })
-
-whole_sized : (kind : AMQPFrameType) (channel : ℕ) (payload : List ℕ) (f : Frame) → channel < 2 ^ 16 → IsBytes payload → length payload < 2 ^ 32 → whole_as kind channel payload ≡ Ok f → IsSizedWithin (size_of f) (canon f) (length payload + 8)
-unfolding whole_as
-whole_sized kinds.ProtocolHeader channel [] f on fits few e = absurd cc
-whole_sized kinds.ProtocolHeader channel (a ∷ []) f on fits few e = absurd cc
-whole_sized kinds.ProtocolHeader channel (a ∷ b ∷ []) f on fits few e = absurd cc
-whole_sized kinds.ProtocolHeader channel (a ∷ b ∷ c ∷ []) f on fits few e = header_sized a b c f cc
-whole_sized kinds.ProtocolHeader channel (a ∷ b ∷ c ∷ d ∷ more) f on fits few e = absurd cc
-whole_sized kinds.Method channel payload f on fits few e = around kinds.Method channel payload f (λ h. absurd cc) on fits few e
-whole_sized kinds.Header channel payload f on fits few e = around kinds.Header channel payload f (λ h. absurd cc) on fits few e
-whole_sized kinds.Body channel payload f on fits few e = around kinds.Body channel payload f (λ h. absurd cc) on fits few e
-whole_sized kinds.Heartbeat channel payload f on fits few e = around kinds.Heartbeat channel payload f (λ h. absurd cc) on fits few e
+use Rattle.amqp_frame.specs.Frames.{frame_of}
 
 pub payload_within : (kind : AMQPFrameType) (channel : ℕ) (payload : List ℕ) (r : Result AMQPFrame ParserError) → channel < 2 ^ 16 → IsBytes payload → length payload < 2 ^ 32 → AnswersWhole frame_of r (whole_as kind channel payload) → IfOk r (λ frame. IsSizedWithin (size_of (frame_of frame)) (canon (frame_of frame)) (length payload + 8))
 payload_within kind channel payload (Ok frame) on fits few h = whole_sized kind channel payload (frame_of frame) on fits few h
 payload_within kind channel payload (Err error) on fits few h = tt
 
-verdict_sized : (bytes : List ℕ) (f : Frame) (n : ℕ) → IsBytes bytes → verdict plain None bytes ≡ took f n → IsSizedWithin (size_of f) (canon f) n
-verdict_sized bytes f n fits e =
-    let spelled = verdict-spells plain None bytes f n fits e in
-    subst (IsSizedWithin (size_of f) (canon f)) (length-take-le n bytes (verdict-got_within plain None bytes f n e).1) (spelled_sized (take n bytes) f spelled.0)
-
 pub frame_within : (bytes : List ℕ) (r : Result (ℕ × AMQPFrame) ParserError) → IsBytes bytes → Answers frame_of r (verdict plain None bytes) → IfOk r (λ found. IsSizedWithin (size_of (frame_of found.1)) (canon (frame_of found.1)) found.0)
 frame_within bytes (Ok found) fits h = verdict_sized bytes (frame_of found.1) found.0 fits h
 frame_within bytes (Err error) fits h = tt
-
--- ---- errors
-
--- a fault of what stands in a whole payload, or after it
-abbrev pub IsWhole : Fault → Type 0
-IsWhole trailing_bytes = Unit {0}
-IsWhole bad = IsInside bad
-
-inside_whole : (bad : Fault) → IsInside bad → IsWhole bad
-inside_whole trailing_bytes h = tt
-inside_whole bad h = h
-
-pub filling_fails : {A : Type 0} (n : ℕ) (j : Judged A) (bad : Fault) → ((one : Fault) → j ≡ fault one → IsInside one) → filling n j ≡ Err bad → IsWhole bad
-filling_fails n past bad inside h = let same : short_payload ≡ bad = cc in subst IsWhole same tt
-filling_fails n (fault one) bad inside h = let same : one ≡ bad = cc in subst IsWhole same (inside_whole one (inside one refl))
-filling_fails n (took x used) bad inside h = elim (cases_eq used n) [
-  | inl same ↦ absurd (let e = rw (eq-eqb used n same) at h in cc)
-  | inr other ↦ let e = rw (ne_eqb used n other) at h in let same : trailing_bytes ≡ bad = cc in subst IsWhole same tt
-]
-
-map_fails : {A B : Type 0} (make : A → B) (r : Result A Fault) (bad : Fault) → read_map make r ≡ Err bad → r ≡ Err bad
-map_fails make (Ok x) bad h = absurd cc
-map_fails make (Err one) bad h = let same : one ≡ bad = cc in ap Err same
-
-whole_fails : (kind : AMQPFrameType) (channel : ℕ) (payload : List ℕ) (bad : Fault) → whole_as kind channel payload ≡ Err bad → IsWhole bad
-unfolding whole_as
-whole_fails kinds.ProtocolHeader channel [] bad h = let same : short_payload ≡ bad = cc in subst IsWhole same tt
-whole_fails kinds.ProtocolHeader channel (a ∷ []) bad h = let same : short_payload ≡ bad = cc in subst IsWhole same tt
-whole_fails kinds.ProtocolHeader channel (a ∷ b ∷ []) bad h = let same : short_payload ≡ bad = cc in subst IsWhole same tt
-whole_fails kinds.ProtocolHeader channel (a ∷ b ∷ c ∷ []) bad h = absurd cc
-whole_fails kinds.ProtocolHeader channel (a ∷ b ∷ c ∷ d ∷ more) bad h = let same : trailing_bytes ≡ bad = cc in subst IsWhole same tt
-whole_fails kinds.Method channel payload bad h = filling_fails (length payload) (judge_payload payload) bad (payloads_inside payload) (map_fails (λ m. Meth channel m) (all_of judge_payload payload) bad h)
-whole_fails kinds.Header channel payload bad h = filling_fails (length payload) (judge_content_header payload) bad (content_headers_inside payload) (map_fails (λ header. Head channel header) (all_of judge_content_header payload) bad h)
-whole_fails kinds.Body channel payload bad h = absurd cc
-whole_fails kinds.Heartbeat channel payload bad h = absurd cc
-
-pub error_whole : {A : Type 0} (error : ParserError) (read : Result A Fault) → ((bad : Fault) → read ≡ Err bad → IsWhole bad) → RefusesWhole error read → IsPayloadError error
-error_whole errors.Incomplete read fails h = h
-error_whole errors.UnknownFrameType read fails h = fails unknown_frame_type h
-error_whole errors.BadProtocolHeader read fails h = fails bad_protocol_header h
-error_whole errors.BadFrameEnd read fails h = fails bad_frame_end h
-error_whole errors.UnknownClass read fails h = tt
-error_whole errors.UnknownMethod read fails h = tt
-error_whole errors.ShortPayload read fails h = tt
-error_whole errors.TrailingBytes read fails h = tt
-error_whole errors.NotUtf8 read fails h = tt
-error_whole errors.UnknownTag read fails h = tt
-error_whole errors.TooDeep read fails h = tt
-error_whole errors.NoMemory read fails h = tt
 
 pub payload_error : (kind : AMQPFrameType) (channel : ℕ) (payload : List ℕ) (r : Result AMQPFrame ParserError) → AnswersWhole frame_of r (whole_as kind channel payload) → IfErr r IsPayloadError
 payload_error kind channel payload (Ok frame) h = tt

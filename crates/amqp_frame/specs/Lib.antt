@@ -1,14 +1,14 @@
--- The definitions of amqp_frame.
+-- The definitions of amqp_frame, and those of amqp_wire that are passed on.
 pub mod Frames
-pub mod Channels
-pub mod Display
-pub mod Outer
-pub mod Looks
-pub mod Verdicts
-pub mod Spelling
-pub mod Canonical
-pub mod Outlines
-pub mod Fronts
-pub mod Laws
-pub mod Rewrites
-pub mod Judgements
+pub use Rattle.amqp_wire.specs.Channels
+pub use Rattle.amqp_wire.specs.Display
+pub use Rattle.amqp_wire.specs.Outer
+pub use Rattle.amqp_wire.specs.Looks
+pub use Rattle.amqp_wire.specs.Verdicts
+pub use Rattle.amqp_wire.specs.Spelling
+pub use Rattle.amqp_wire.specs.Canonical
+pub use Rattle.amqp_wire.specs.Outlines
+pub use Rattle.amqp_wire.specs.Fronts
+pub use Rattle.amqp_wire.specs.Laws
+pub use Rattle.amqp_wire.specs.Rewrites
+pub use Rattle.amqp_wire.specs.Judgements

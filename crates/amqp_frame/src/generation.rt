@@ -1,68 +1,24 @@
-//! Writing frames: the number of their canonical bytes, these bytes at a place of a slice, and appended to a vector.
+//! Writing typed frames: the number of their canonical bytes, these bytes at a place of a slice, and appended to a vector.
+//! What writes frames around payloads is passed on.
 
-ghost use Rattle.std.specs.Prelude.{◌≡◌, ℕ, ◌+◌, ◌^◌, ◌<◌, ◌≤◌, List, [], length, IsOk};
+ghost use Rattle.std.specs.Prelude.{◌≡◌, ◌+◌, ◌^◌, ◌<◌, ◌≤◌, length, IsOk};
 ghost use Rattle.amqp_types.specs.Writing.{Puts, Appends};
 ghost use Rattle.amqp_types.specs.Methods.{payload_bytes, payload_size};
 ghost use Rattle.amqp_types.specs.ContentHeaders.{content_header_bytes, content_header_size};
+ghost use Rattle.amqp_types.specs.Constants.{header_byte, method_byte};
 ghost use Rattle.amqp_protocol.specs.Classes.{method_of};
+ghost use Rattle.amqp_wire.specs.Canonical.{canon, size_of, framed_size, SliceAnswers};
+ghost use Rattle.amqp_wire.specs.Spelling.{framed};
 ghost use Rattle.amqp_frame.specs.Frames.{frame_of, header_of};
-ghost use Rattle.amqp_frame.specs.Spelling.{head, framed, proto};
-ghost use Rattle.amqp_frame.specs.Canonical.{canon, size_of, framed_size, SliceAnswers};
-ghost use Rattle.amqp_types.specs.Constants.{header_byte, heartbeat_byte, method_byte};
 
 use crate::content_header::{AMQPContentHeader, put_content_header, size_content_header};
 use crate::frame::AMQPFrame;
-use crate::version::ProtocolVersion;
 use amqp_protocol::{AMQPClass, put_class, size_class};
-use amqp_types::{
-    ChannelId, ChunkSize, FRAME_BODY, FRAME_END, FRAME_HEADER, FRAME_HEARTBEAT, FRAME_METHOD,
-    GenError, PROTOCOL_BYTE, grow, put_bytes, put_long_uint, put_short_uint,
+use amqp_types::{ChannelId, FRAME_BODY, FRAME_HEADER, FRAME_METHOD, GenError, grow, put_bytes};
+pub use amqp_wire::generation::{
+    frame_head, header_bytes, heartbeat_bytes, put_around, put_framed,
 };
 use std::alloc::Global;
-
-/// Type, channel and length, which come before a payload of this length in bytes (AMQP 0-9-1, section 4.2.3).
-pub fn frame_head(frame_type: u8, channel_id: ChannelId, len: ChunkSize) -> [u8; 7]
-    ensures { result ≡ head frame_type channel_id len }
-{
-    let channel = channel_id.to_be_bytes();
-    let len = len.to_be_bytes();
-    [
-        frame_type, channel[0], channel[1], len[0], len[1], len[2], len[3],
-    ]
-}
-
-/// The bytes of a protocol header (AMQP 0-9-1, section 4.2.2).
-pub fn header_bytes(version: ProtocolVersion) -> [u8; 8]
-    ensures { result ≡ proto version.major version.minor version.revision }
-{
-    [
-        PROTOCOL_BYTE,
-        77,
-        81,
-        80,
-        0,
-        version.major,
-        version.minor,
-        version.revision,
-    ]
-}
-
-/// The bytes of a heartbeat (AMQP 0-9-1, section 4.2.7), whose payload is empty.
-pub fn heartbeat_bytes(channel_id: ChannelId) -> [u8; 8]
-    ensures { result ≡ framed heartbeat_byte channel_id [] }
-{
-    let channel = channel_id.to_be_bytes();
-    [
-        FRAME_HEARTBEAT,
-        channel[0],
-        channel[1],
-        0,
-        0,
-        0,
-        0,
-        FRAME_END,
-    ]
-}
 
 /// The number of bytes of a frame, by that of its payload.
 fn size_framed(payload: Result<u64, GenError>) -> Result<u64, GenError>
@@ -76,7 +32,7 @@ fn size_framed(payload: Result<u64, GenError>) -> Result<u64, GenError>
 }
 
 /// The number of canonical bytes. Nothing but `TooDeep` or `TooLong` is returned as an error.
-#[tactic(auto, using(crate::proofs::Sizes::framed_length), unfolding(crate::specs::Canonical::size_of, crate::specs::Canonical::canon))]
+#[tactic(auto, using(amqp_wire::proofs::Sizes::framed_length), unfolding(amqp_wire::specs::Canonical::size_of, amqp_wire::specs::Canonical::canon))]
 pub fn frame_size(frame: &AMQPFrame) -> Result<u64, GenError>
     ensures { result ≡ size_of (frame_of frame.now) }
 {
@@ -88,74 +44,6 @@ pub fn frame_size(frame: &AMQPFrame) -> Result<u64, GenError>
         AMQPFrame::Heartbeat => Ok(8),
         AMQPFrame::InvalidHeartbeat(_) => Ok(8),
     }
-}
-
-/// Puts an array at a place of a slice, and returns the place after it. The length is a constant, so
-/// that small arrays are stored and not copied by a call.
-#[inline(always)]
-#[tactic(auto, unfolding(amqp_types::specs::Writing::written))]
-fn put_array<const N: usize>(buf: &mut [u8], at: usize, bytes: [u8; N]) -> usize
-    requires { at + length bytes ≤ length buf.old }
-    ensures { Puts buf.old buf.new at bytes.entry result }
-{
-    let end = at + N;
-    buf[at..end].copy_from_slice(&bytes);
-    end
-}
-
-/// Puts type, channel and length. Each number is stored by itself, so that no array goes through memory.
-#[inline(always)]
-fn put_head(
-    buf: &mut [u8],
-    at: usize,
-    frame_type: u8,
-    channel_id: ChannelId,
-    len: ChunkSize,
-) -> usize
-    requires { at + 7 ≤ length buf.old }
-    ensures { Puts buf.old buf.new at (head frame_type channel_id len) result }
-{
-    let at = put_array(buf, at, [frame_type]);
-    let at = put_short_uint(buf, at, &channel_id);
-    put_long_uint(buf, at, &len)
-}
-
-/// Puts a frame of this type around a payload that stands from 7 bytes after a place to `end`, and returns the place
-/// after the frame.
-#[inline(always)]
-pub fn put_around(
-    buf: &mut [u8],
-    at: usize,
-    end: usize,
-    frame_type: u8,
-    channel_id: ChannelId,
-) -> usize
-    requires payload { at + 7 ≤ end }
-    requires few { end < at + 7 + 2 ^ 32 }
-    requires room { end < length buf.old }
-    ensures { (before payload : List ℕ) → Puts before buf.old (at + 7) payload end
-        → at + length (framed frame_type channel_id payload) ≤ length before
-        → Puts before buf.new at (framed frame_type channel_id payload) result }
-{
-    put_head(buf, at, frame_type, channel_id, (end - at - 7) as u32);
-    put_array(buf, end, [FRAME_END])
-}
-
-/// Puts a frame of this type with a payload, and returns the place after it.
-#[inline(always)]
-pub fn put_framed(
-    buf: &mut [u8],
-    at: usize,
-    frame_type: u8,
-    channel_id: ChannelId,
-    payload: &[u8],
-) -> usize
-    requires short { length payload.now < 2 ^ 32 }
-    requires room { at + length (framed frame_type channel_id payload.now) ≤ length buf.old }
-    ensures { Puts buf.old buf.new at (framed frame_type channel_id payload.now) result }
-{
-    let end = put_bytes(buf, at + 7, payload);
-    put_around(buf, at, end, frame_type, channel_id)
 }
 
 /// Puts the frame of a method.
@@ -181,7 +69,7 @@ fn put_header(buf: &mut [u8], at: usize, channel_id: ChannelId, header: &AMQPCon
 }
 
 /// Puts the canonical bytes at a place of a slice, and returns the place after them.
-#[tactic(auto, unfolding(crate::specs::Canonical::canon))]
+#[tactic(auto, unfolding(amqp_wire::specs::Canonical::canon))]
 pub fn put_frame(buf: &mut [u8], at: usize, frame: &AMQPFrame) -> usize
     requires fits { IsOk (size_of (frame_of frame.now)) }
     requires room { at + length (canon (frame_of frame.now)) ≤ length buf.old }
@@ -203,7 +91,7 @@ pub fn put_frame(buf: &mut [u8], at: usize, frame: &AMQPFrame) -> usize
 
 /// Appends the canonical bytes to a vector, which stays as it was where there is an error: that of measuring them, or
 /// out of memory.
-#[tactic(auto, using(crate::proofs::Sizes::size_is_length))]
+#[tactic(auto, using(amqp_wire::proofs::Sizes::size_is_length))]
 pub fn gen_frame(_alloc: Global, out: &mut Vec<u8>, frame: &AMQPFrame) -> Result<(), GenError>
     ensures { Appends out.old.items out.new.items (size_of (frame_of frame.now)) (canon (frame_of frame.now)) result }
 {
@@ -215,7 +103,7 @@ pub fn gen_frame(_alloc: Global, out: &mut Vec<u8>, frame: &AMQPFrame) -> Result
 
 /// Puts the canonical bytes at the front of a slice, and returns how many they are. Where there is an error the slice
 /// stays as it was; a slice that is too short is `BufferTooSmall`.
-#[tactic(auto, using(crate::proofs::Sizes::size_is_length, crate::proofs::Sizes::slice_refused))]
+#[tactic(auto, using(amqp_wire::proofs::Sizes::size_is_length, amqp_wire::proofs::Sizes::slice_refused))]
 pub fn gen_frame_slice(buf: &mut [u8], frame: &AMQPFrame) -> Result<usize, GenError>
     ensures { SliceAnswers buf.old buf.new (size_of (frame_of frame.now)) (canon (frame_of frame.now)) result }
 {

@@ -1,54 +1,13 @@
-//! Laws of frames and sequences, each the contract of a function that changes nothing.
+//! The law of typed frames, the contract of a function that changes nothing. Those of frames and sequences are passed on.
 
 ghost use Rattle.std.specs.Prelude.{IsOk};
 ghost use Rattle.amqp_types.specs.Levels.{Level};
-ghost use Rattle.amqp_frame.specs.Canonical.{size_of};
+ghost use Rattle.amqp_wire.specs.Canonical.{size_of};
+ghost use Rattle.amqp_wire.specs.Laws.{ReadsBack};
 ghost use Rattle.amqp_frame.specs.Frames.{frame_of};
-ghost use Rattle.amqp_frame.specs.Laws.{OneMeaning, NoFrameBeginsAnother, VerdictsAreSpellings, VerdictsAreStable, LevelsNest, OneCanonicalSpelling, EqualBytesAreEqualFrames, CanonicalBytesReadBack, CanonicalBytesAreShortest, FrontIsLongest, ReadsBack, WrittenAgain, OuterLookIsItsParts};
 
 use crate::frame::AMQPFrame;
 use crate::held::frame_held;
-
-/// No bytes encode two sequences of frames.
-pub fn one_meaning()
-    ensures { OneMeaning }
-{}
-
-/// No encoding of a frame begins another.
-pub fn no_frame_begins_another()
-    ensures { NoFrameBeginsAnother }
-{}
-
-/// A verdict is a frame exactly where the first bytes encode it.
-pub fn verdicts_are_spellings()
-    ensures { VerdictsAreSpellings }
-{}
-
-/// A verdict other than incomplete stays, whatever follows.
-pub fn verdicts_are_stable()
-    ensures { VerdictsAreStable }
-{}
-
-/// What is strict is tidy, and what is tidy is plain.
-pub fn levels_nest()
-    ensures { LevelsNest }
-{}
-
-/// What was decoded has one strict encoding, its canonical bytes, within the same limit.
-pub fn one_canonical_spelling()
-    ensures { OneCanonicalSpelling }
-{}
-
-/// Two sequences have equal canonical bytes exactly where they are the same frames.
-pub fn equal_bytes_are_equal_frames()
-    ensures { EqualBytesAreEqualFrames }
-{}
-
-/// Canonical bytes are decoded to the frame that they were written for, but that `InvalidHeartbeat(0)` is decoded to
-/// `Heartbeat`.
-pub fn canonical_bytes_read_back()
-    ensures { CanonicalBytesReadBack }
-{}
 
 /// The bytes that are written for a frame are decoded to that frame at each level, whatever follows them, but that
 /// `InvalidHeartbeat(0)` is decoded to `Heartbeat`; and fewer of them are incomplete.
@@ -57,23 +16,3 @@ pub fn frame_reads_back(frame: &AMQPFrame)
 {
     frame_held(frame);
 }
-
-/// Canonical bytes are as short as any encoding of the same frames.
-pub fn canonical_bytes_are_shortest()
-    ensures { CanonicalBytesAreShortest }
-{}
-
-/// The front of some bytes is the longest sequence that they begin with, and the place is what follows.
-pub fn front_is_longest()
-    ensures { FrontIsLongest }
-{}
-
-/// What was written, given again, is decoded whole and written as itself.
-pub fn written_again()
-    ensures { WrittenAgain }
-{}
-
-/// The header scan without a limit is a type byte, and after it a version or a raw frame.
-pub fn outer_look_is_its_parts()
-    ensures { OuterLookIsItsParts }
-{}

@@ -1,109 +1,27 @@
-//! Decoding frames and their parts from the front of a slice.
+//! Decoding typed frames from the front of a slice, and from whole payloads. The parts of frames are passed on.
 
 ghost use Rattle.std.specs.Prelude.{◌≡◌, ◌≤◌, ◌<◌, ◌+◌, ◌^◌, length, None, Err, IfOk, IfErr};
 ghost use Rattle.amqp_types.specs.Levels.{plain};
-ghost use Rattle.amqp_types.specs.Answers.{Answers, AnswersFully, AnswersWhole};
+ghost use Rattle.amqp_types.specs.Answers.{Answers, AnswersWhole};
 ghost use Rattle.amqp_types.specs.ValueLaws.{IsNoLonger as IsSizedWithin};
 ghost use Rattle.amqp_types.specs.Methods.{judge_payload};
 ghost use Rattle.amqp_types.specs.ContentHeaders.{judge_content_header};
 ghost use Rattle.amqp_protocol.specs.Classes.{method_of};
-ghost use Rattle.amqp_frame.specs.Channels.{judge_channel};
-ghost use Rattle.amqp_frame.specs.Canonical.{canon, size_of};
+ghost use Rattle.amqp_wire.specs.Canonical.{canon, size_of};
+ghost use Rattle.amqp_wire.specs.Outer.{BeginsWith};
+ghost use Rattle.amqp_wire.specs.Verdicts.{IsPayloadError, all_of, verdict, whole, whole_as};
 ghost use Rattle.amqp_frame.specs.Frames.{frame_of, header_of, raw_of, beat_on, OwnsMemory};
-ghost use Rattle.amqp_frame.specs.Outer.{judge_frame_type, judge_version, judge_raw, BeginsWith};
-ghost use Rattle.amqp_frame.specs.Verdicts.{IsPayloadError, all_of, verdict, whole, whole_as};
 
-use crate::channel::AMQPChannel;
 use crate::content_header::AMQPContentHeader;
 pub use crate::content_header::parse_content_header;
 use crate::frame::AMQPFrame;
-use crate::frame_type::AMQPFrameType;
-use crate::looking::{Look, agrees, look_at, look_raw};
-use crate::raw_frame::AMQPRawFrame;
-use crate::version::ProtocolVersion;
 use amqp_protocol::{AMQPClass, parse_class};
-use amqp_types::{
-    ByteArray, ChannelId, FRAME_BODY, FRAME_HEADER, FRAME_HEARTBEAT, FRAME_METHOD, PROTOCOL_BYTE,
-    ParserError, parse_id,
+use amqp_types::{ByteArray, ChannelId, ParserError};
+pub use amqp_wire::parsing::{
+    parse_channel, parse_frame_type, parse_protocol_header, parse_raw_frame,
 };
+use amqp_wire::{AMQPFrameType, AMQPRawFrame, Look, ProtocolVersion, look_at};
 use std::alloc::Global;
-
-/// Decodes a channel's number, 2 bytes. Fewer are `Incomplete`.
-#[tactic(auto, using(amqp_types::proofs::Judged::refuses_next))]
-pub fn parse_channel(i: &[u8]) -> Result<(usize, AMQPChannel), ParserError>
-    ensures judged { AnswersFully (λ channel. channel) result (judge_channel i.now) }
-    ensures used { IfOk result (λ found. found.0 ≤ length i.now) }
-{
-    match parse_id(i) {
-        Ok((used, id)) => Ok((used, AMQPChannel::from(id))),
-        Err(error) => Err(error),
-    }
-}
-
-/// Decodes the first byte of a frame. No byte is `Incomplete`.
-pub fn parse_frame_type(i: &[u8]) -> Result<(usize, AMQPFrameType), ParserError>
-    ensures judged { AnswersFully (λ kind. kind) result (judge_frame_type i.now) }
-    ensures used { IfOk result (λ found. found.0 ≤ length i.now) }
-{
-    match i {
-        [] => Err(ParserError::Incomplete),
-        [PROTOCOL_BYTE, ..] => Ok((1, AMQPFrameType::ProtocolHeader)),
-        [FRAME_METHOD, ..] => Ok((1, AMQPFrameType::Method)),
-        [FRAME_HEADER, ..] => Ok((1, AMQPFrameType::Header)),
-        [FRAME_BODY, ..] => Ok((1, AMQPFrameType::Body)),
-        [FRAME_HEARTBEAT, ..] => Ok((1, AMQPFrameType::Heartbeat)),
-        [_, ..] => Err(ParserError::UnknownFrameType),
-    }
-}
-
-/// Decodes the seven bytes of a protocol header that follow its `A`. Any version is decoded.
-#[tactic(auto, unfolding(crate::specs::Outer::judge_version))]
-pub fn parse_protocol_header(i: &[u8]) -> Result<(usize, ProtocolVersion), ParserError>
-    ensures judged { AnswersFully (λ version. version) result (judge_version i.now) }
-    ensures used { IfOk result (λ found. found.0 ≤ length i.now) }
-{
-    if !agrees(i, b"MQP\0") {
-        return Err(ParserError::BadProtocolHeader);
-    }
-    if i.len() < 7 {
-        return Err(ParserError::Incomplete);
-    }
-    let version = ProtocolVersion {
-        major: i[4],
-        minor: i[5],
-        revision: i[6],
-    };
-    Ok((7, version))
-}
-
-/// Decodes what follows a type byte: channel, length, payload and the end byte 206. The payload is borrowed, and not
-/// decoded. `ProtocolHeader` is a type like the others here.
-#[tactic(auto, using(crate::proofs::OuterLook::raw_never_large))]
-pub fn parse_raw_frame<'a>(
-    frame_type: AMQPFrameType,
-    i: &'a [u8],
-) -> Result<(usize, AMQPRawFrame<'a>), ParserError>
-    ensures judged { AnswersFully raw_of result (judge_raw None frame_type i.now) }
-    ensures used { IfOk result (λ found. found.0 ≤ length i.now) }
-    ensures few { IfOk result (λ found. length found.1.payload.now < 2 ^ 32) }
-{
-    match look_raw(None, frame_type, i) {
-        Look::Incomplete => Err(ParserError::Incomplete),
-        Look::UnknownFrameType => Err(ParserError::UnknownFrameType),
-        Look::BadProtocolHeader => Err(ParserError::BadProtocolHeader),
-        Look::TooLarge => unreachable!(),
-        Look::BadFrameEnd => Err(ParserError::BadFrameEnd),
-        Look::Whole(layout) => {
-            let start = layout.payload_start - 1;
-            let raw = AMQPRawFrame {
-                frame_type: layout.frame_type,
-                channel_id: layout.channel_id,
-                payload: &i[start..start + layout.payload_len],
-            };
-            Ok((layout.frame_len - 1, raw))
-        }
-    }
-}
 
 /// A heartbeat on this channel.
 fn heartbeat(channel_id: ChannelId) -> AMQPFrame
@@ -117,7 +35,7 @@ fn heartbeat(channel_id: ChannelId) -> AMQPFrame
 }
 
 /// Decodes the method that fills a payload.
-#[tactic(auto, using(crate::proofs::Payloads::refused_all))]
+#[tactic(auto, using(amqp_wire::proofs::Payloads::refused_all))]
 fn parse_method(alloc: Global, payload: &[u8]) -> Result<AMQPClass, ParserError>
     ensures { AnswersWhole method_of result (all_of judge_payload payload.now) }
 {
@@ -129,7 +47,7 @@ fn parse_method(alloc: Global, payload: &[u8]) -> Result<AMQPClass, ParserError>
 }
 
 /// Decodes the content header that fills a payload.
-#[tactic(auto, using(crate::proofs::Payloads::refused_all))]
+#[tactic(auto, using(amqp_wire::proofs::Payloads::refused_all))]
 fn parse_header(alloc: Global, payload: &[u8]) -> Result<AMQPContentHeader, ParserError>
     ensures { AnswersWhole header_of result (all_of judge_content_header payload.now) }
 {
@@ -141,7 +59,7 @@ fn parse_header(alloc: Global, payload: &[u8]) -> Result<AMQPContentHeader, Pars
 }
 
 /// Decodes the frame that a whole payload of this type encodes.
-#[tactic(auto, using(crate::proofs::Payloads::refused_map), unfolding(crate::specs::Verdicts::whole_as))]
+#[tactic(auto, using(amqp_wire::proofs::Payloads::refused_map), unfolding(amqp_wire::specs::Verdicts::whole_as))]
 fn read_as(
     alloc: Global,
     frame_type: AMQPFrameType,
@@ -207,7 +125,7 @@ pub fn parse_payload(alloc: Global, raw: AMQPRawFrame<'_>) -> Result<AMQPFrame, 
 }
 
 /// Decodes the frame at the front. Split for the proof.
-#[tactic(auto, using(crate::proofs::Payloads::refused_frame, crate::proofs::OuterLook::never_large), unfolding(crate::specs::Verdicts::verdict))]
+#[tactic(auto, using(amqp_wire::proofs::Payloads::refused_frame, amqp_wire::proofs::OuterLook::never_large), unfolding(amqp_wire::specs::Verdicts::verdict))]
 fn read_frame(alloc: Global, i: &[u8]) -> Result<(usize, AMQPFrame), ParserError>
     ensures judged { Answers frame_of result (verdict plain None i.now) }
     ensures used { IfOk result (λ found. found.0 ≤ length i.now) }

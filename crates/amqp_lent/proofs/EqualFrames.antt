@@ -3,12 +3,12 @@ use Rattle.std.proofs.Common.{◌≡◌, true, true≢false, refl, sym, ap}
 use Rattle.std.specs.Bool.{Decides}
 use Rattle.std.specs.Cmp.{unsigned_Decides}
 use Rattle.std.specs.Cmp.Lexicographic.{bytes_decides}
-use Rattle.amqp_values.proofs.Deciding.{both}
+use Rattle.amqp_laws.proofs.Deciding.{both}
 use Rattle.amqp_lent.specs.declared.frame.LentFrame.{LentFrame}
 use Rattle.amqp_lent.specs.declared.frame.LentFrame.TheVariants as frames
 use Rattle.amqp_lent.specs.contracts.frame.LentFramePartialEq.TheImpl as frame
 use Rattle.amqp_lent.specs.Frames.{protocol_header, method, content_header, body, invalid_heartbeat, parts_of}
-use Rattle.amqp_frame.proofs.EqualFrames.{same_version}
+use Rattle.amqp_wire.proofs.EqualVersions.{same_version}
 
 same : (a b : LentFrame) → frame.ghosts.eq a b ≡ true → parts_of a ≡ parts_of b
 same (frames.ProtocolHeader a) (frames.ProtocolHeader b) h = ap protocol_header ((same_version a b).0 h)

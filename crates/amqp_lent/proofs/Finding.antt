@@ -3,7 +3,7 @@ use Rattle.std.proofs.Common.{◌≡◌, ℕ, ◌+◌, ◌<◌, ◌≤◌, List,
 use Rattle.amqp_types.specs.Judging.{Judged, IsBytes, took, past, fault}
 use Rattle.amqp_types.specs.Settling.{last_at, settled}
 use Rattle.amqp_types.specs.Values.{Entry}
-use Rattle.amqp_values.proofs.Settling.{settles}
+use Rattle.amqp_laws.proofs.Settling.{settles}
 use Rattle.amqp_canonical.specs.Marks.{AreEntries, IsNext, IsNextAt, HasNoNext, entries_in, entry_at, judged_entry}
 use Rattle.amqp_canonical.specs.Writes.{IsRead, key_in}
 use Rattle.amqp_canonical.proofs.Marking.{EntriesTo, entries_none, entries_next, entries_end}

@@ -4,8 +4,8 @@ use Rattle.std.proofs.lemmas.Bool.{le-ltb}
 use Rattle.std.proofs.lemmas.List.{drop-drop, length-drop, take-append-drop}
 use Rattle.amqp_types.specs.Judging.{IsBytes, took, ◌>>=◌}
 use Rattle.amqp_types.specs.Numbers.{NumberWidth, byte_count, bytes2, bytes8, number_bytes, number_limit, judge_number}
-use Rattle.amqp_types.specs.Slots.{Item, Slot, kept_slot, reserved_slot, number_form, number_item}
-use Rattle.amqp_types.specs.SlotJudging.{judge_dropped, judge_form, judge_slot, judge_slots}
+use Rattle.amqp_types.specs.Slots.{Slot, kept_slot, reserved_slot, number_form, number_item}
+use Rattle.amqp_types.specs.SlotJudging.{judge_dropped, judge_form, judge_slots}
 use Rattle.amqp_types.specs.SlotBytes.{form_bytes, slots_bytes}
 use Rattle.amqp_types.specs.Rows.{slots_at}
 use Rattle.amqp_types.specs.Methods.{judge_payload, payload_bytes}
@@ -15,6 +15,7 @@ use Rattle.amqp_types.specs.ContentHeaders.{header_of_parts, content_header_byte
 use Rattle.amqp_types.proofs.Numbers.{number_exact}
 use Rattle.amqp_types.proofs.Bytes.{IsBytes-drop}
 use Rattle.amqp_types.proofs.Took.{bind_took, count_took, guard_took}
+use Rattle.amqp_laws.proofs.SlotLaws.{slot_then}
 use Rattle.amqp_canonical.specs.Writes.{IsRead, canonical_of}
 use Rattle.amqp_canonical.proofs.PayloadParts.{header_put, payload_put}
 use Rattle.amqp_canonical.proofs.ReadParts.{is_read, took_of}
@@ -71,11 +72,6 @@ method_parts class id slots class_fits id_fits read =
     record { shapes = h.slots; known = h.known_slots; read = h.read; bytes_are = h.bytes_are }
 
 -- ---- content headers
-
-slot_then : (slot : Slot) (slots : List Slot) (bytes : List ℕ) (xs ys : List Item) (k m : ℕ) → judge_slot slot bytes ≡ took xs k → judge_slots slots (drop k bytes) ≡ took ys m → judge_slots (slot ∷ slots) bytes ≡ took (xs ++ ys) (k + m)
-unfolding judge_slots
-slot_then slot slots bytes xs ys k m one two =
-    ap (λ j. j >>= λ x. (judge_slots slots (drop x.1 bytes)) >>= λ y. took (x.0 ++ y.0) (x.1 + y.1)) one ∙ ap (λ j. j >>= λ y. took (xs ++ y.0) (k + y.1)) two
 
 no_slots : (bytes : List ℕ) → judge_slots [] bytes ≡ took [] 0
 unfolding judge_slots

@@ -12,7 +12,7 @@ use Rattle.amqp_types.specs.declared.tag.FieldTag.{FieldTag}
 use Rattle.amqp_types.specs.declared.tag.FieldTag.TheVariants as tag
 use Rattle.amqp_types.proofs.Bytes.{IsBytes-drop}
 use Rattle.amqp_types.proofs.Puts.{puts-length}
-use Rattle.amqp_values.proofs.Exactly.{value_exact}
+use Rattle.amqp_laws.proofs.Exactly.{value_exact}
 use Rattle.amqp_canonical.specs.Marks.{FindsNext, entries_in, entry_at}
 use Rattle.amqp_canonical.specs.Writes.{IsRead, IsCopied, IsFilled, canonical_of, entry_bytes, array_content, table_content, key_in, after_key}
 use Rattle.amqp_canonical.proofs.NoLonger.{values_no_longer}

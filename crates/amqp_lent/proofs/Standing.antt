@@ -8,13 +8,13 @@ use Rattle.amqp_types.specs.ContentHeaders.{judge_content_header, content_header
 use Rattle.amqp_types.specs.PropertyBytes.{properties_bytes}
 use Rattle.amqp_canonical.specs.Writes.{IsRead, canonical_of}
 use Rattle.amqp_canonical.proofs.ReadParts.{is_read, took_of}
-use Rattle.amqp_frame.specs.declared.frame_type.AMQPFrameType.TheVariants as kinds
-use Rattle.amqp_frame.specs.Frames.{Frame, Proto, Meth, Head, Body, beat_on}
-use Rattle.amqp_frame.specs.Canonical.{canon}
-use Rattle.amqp_frame.specs.Spelling.{framed, proto}
-use Rattle.amqp_frame.specs.Verdicts.{all_of, filling, whole_as}
-use Rattle.amqp_frame.proofs.Payloads.{filled_took}
-use Rattle.amqp_frame.proofs.Rewritten.{canon_beat, header_shorter, method_shorter, mapped}
+use Rattle.amqp_wire.specs.declared.frame_type.AMQPFrameType.TheVariants as kinds
+use Rattle.amqp_wire.specs.Frames.{Frame, Proto, Meth, Head, Body, beat_on}
+use Rattle.amqp_wire.specs.Canonical.{canon}
+use Rattle.amqp_wire.specs.Spelling.{framed, proto}
+use Rattle.amqp_wire.specs.Verdicts.{all_of, filling, whole_as}
+use Rattle.amqp_wire.proofs.Payloads.{filled_took}
+use Rattle.amqp_wire.proofs.Rewritten.{canon_beat, header_shorter, method_shorter, mapped}
 use Rattle.amqp_lent.proofs.Parts.{front_bytes}
 
 pub method_canon : (channel : ℕ) (payload : List ℕ) (frame : Frame) → whole_as kinds.Method channel payload ≡ Ok frame → IsRead (judge_payload payload) × (framed 1 channel (canonical_of payload_bytes (judge_payload payload)) ≡ canon frame)

@@ -4,10 +4,10 @@ use Rattle.amqp_types.specs.Judging.{Fault}
 use Rattle.amqp_types.specs.Answers.{RefusesWhole}
 use Rattle.amqp_types.specs.declared.errors.ParserError.{ParserError}
 use Rattle.amqp_types.specs.declared.errors.ParserError.TheVariants as errors
-use Rattle.amqp_frame.specs.declared.frame_type.AMQPFrameType.TheVariants as kinds
-use Rattle.amqp_frame.specs.declared.version.ProtocolVersion.{ProtocolVersion}
-use Rattle.amqp_frame.specs.Frames.{Frame, Raw, raw_as}
-use Rattle.amqp_frame.specs.Verdicts.{whole}
+use Rattle.amqp_wire.specs.declared.frame_type.AMQPFrameType.TheVariants as kinds
+use Rattle.amqp_wire.specs.declared.version.ProtocolVersion.{ProtocolVersion}
+use Rattle.amqp_wire.specs.Frames.{Frame, Raw, raw_as}
+use Rattle.amqp_wire.specs.Verdicts.{whole}
 use Rattle.amqp_lent.specs.Payloads.{header_payload, method_payload}
 use Rattle.amqp_lent.specs.declared.frame.LentFrame.{LentFrame}
 use Rattle.amqp_lent.specs.declared.frame.LentFrame.TheVariants as frames

@@ -1,14 +1,14 @@
 //! Frames that are borrowed from payloads that were decoded before.
 
 ghost use Rattle.std.specs.Prelude.{◌≡◌, ◌≤◌, [], length, IfOk, IsOk};
-ghost use Rattle.amqp_frame.specs.declared.frame_type.AMQPFrameType.TheVariants as kinds;
-ghost use Rattle.amqp_frame.specs.Frames.{raw_of, raw_as};
-ghost use Rattle.amqp_frame.specs.Verdicts.{whole, whole_as};
+ghost use Rattle.amqp_wire.specs.declared.frame_type.AMQPFrameType.TheVariants as kinds;
+ghost use Rattle.amqp_wire.specs.Frames.{raw_of, raw_as};
+ghost use Rattle.amqp_wire.specs.Verdicts.{whole, whole_as};
 ghost use Rattle.amqp_lent.specs.Frames.{Lends, payload_of, raw_of as raw_of_lent};
 
 use crate::payload_parts::{header_parts, method_parts};
-use amqp_frame::{AMQPFrameType, AMQPRawFrame, ProtocolVersion, judge_frame};
 use amqp_types::{ChannelId, Identifier, ParserError, PayloadSize};
+use amqp_wire::{AMQPFrameType, AMQPRawFrame, ProtocolVersion, judge_frame};
 
 /// A frame whose payload is borrowed where it is more than numbers.
 #[derive(Clone, Copy, Debug, PartialEq, Eq)]

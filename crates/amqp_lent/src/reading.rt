@@ -10,11 +10,11 @@ ghost use Rattle.amqp_lent.specs.Views.{entry_of, taken, value_of};
 use crate::value::{LentArray, LentTable, LentValue};
 use amqp_canonical::{bytes_from, value_size};
 use amqp_types::{
-    FieldTag, ParserError, parse_boolean, parse_double, parse_float, parse_long_bytes,
-    parse_long_int, parse_long_long_int, parse_long_uint, parse_short_int, parse_short_short_int,
-    parse_short_short_uint, parse_short_str, parse_short_uint, parse_timestamp,
+    FieldTag, ParserError, parse_boolean, parse_decimal_value, parse_double, parse_float,
+    parse_long_bytes, parse_long_int, parse_long_long_int, parse_long_uint, parse_short_int,
+    parse_short_short_int, parse_short_short_uint, parse_short_str, parse_short_uint,
+    parse_timestamp,
 };
-use amqp_values::parse_decimal_value;
 
 /// Borrows an array, in whose values tables and arrays may nest `room` deep.
 #[tactic(auto, using(crate::proofs::Rereading::fully_next), unfolding(amqp_types::specs::ValueJudging::judge_array))]
@@ -42,7 +42,7 @@ pub(crate) fn read_table<'a>(
 }
 
 /// Reads the value after a tag.
-#[tactic(auto, using(crate::proofs::Rereading::fully_next, amqp_values::proofs::Filling::nested_none, amqp_values::proofs::Filling::nested_more), unfolding(amqp_types::specs::ValueJudging::judge_behind))]
+#[tactic(auto, using(crate::proofs::Rereading::fully_next, amqp_laws::proofs::Filling::nested_none, amqp_laws::proofs::Filling::nested_more), unfolding(amqp_types::specs::ValueJudging::judge_behind))]
 fn read_after<'a>(
     tag: FieldTag,
     i: &'a [u8],

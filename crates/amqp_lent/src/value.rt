@@ -7,10 +7,9 @@ ghost use Rattle.amqp_lent.specs.Finding.{FindsAfter};
 use crate::reading::first_item;
 use crate::table::{entry_after, value_of_key};
 use amqp_types::{
-    Boolean, Double, Float, LongInt, LongLongInt, LongUInt, ShortInt, ShortShortInt,
+    Boolean, DecimalValue, Double, Float, LongInt, LongLongInt, LongUInt, ShortInt, ShortShortInt,
     ShortShortUInt, ShortUInt, Timestamp,
 };
-use amqp_values::DecimalValue;
 use std::marker::Model;
 
 /// A value in a table or an array (AMQP 0-9-1, section 4.2.5.5). Strings, arrays and tables are borrowed.

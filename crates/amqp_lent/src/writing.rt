@@ -5,9 +5,9 @@ ghost use Rattle.amqp_types.specs.Methods.{judge_payload, payload_bytes};
 ghost use Rattle.amqp_types.specs.ContentHeaders.{judge_content_header, content_header_bytes};
 ghost use Rattle.amqp_types.specs.Writing.{Puts};
 ghost use Rattle.amqp_canonical.specs.Writes.{IsRead, canonical_of};
-ghost use Rattle.amqp_frame.specs.Canonical.{SliceAnswers, canon};
-ghost use Rattle.amqp_frame.specs.Frames.{Frame};
-ghost use Rattle.amqp_frame.specs.Spelling.{framed};
+ghost use Rattle.amqp_wire.specs.Canonical.{SliceAnswers, canon};
+ghost use Rattle.amqp_wire.specs.Frames.{Frame};
+ghost use Rattle.amqp_wire.specs.Spelling.{framed};
 ghost use Rattle.amqp_lent.specs.Frames.{IsFrame, StandsFor, payload_of};
 ghost use Rattle.amqp_lent.specs.Payloads.{header_payload, method_payload};
 ghost use Rattle.amqp_types.specs.Constants.{header_byte, method_byte};
@@ -15,10 +15,10 @@ ghost use Rattle.amqp_types.specs.Constants.{header_byte, method_byte};
 use crate::frame::LentFrame;
 use crate::payload_measuring::{size_header, size_method};
 use crate::payload_writing::{put_header, put_method};
-use amqp_frame::{header_bytes, heartbeat_bytes, put_around, put_framed};
 use amqp_types::{
     ChannelId, FRAME_BODY, FRAME_HEADER, FRAME_METHOD, GenError, Identifier, PayloadSize, put_bytes,
 };
+use amqp_wire::{header_bytes, heartbeat_bytes, put_around, put_framed};
 
 /// How many canonical bytes the frame has that a borrowed frame stands for.
 pub fn lent_size(frame: LentFrame<'_>) -> u64

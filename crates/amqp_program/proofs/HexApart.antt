@@ -6,13 +6,13 @@ use Rattle.hex.specs.Hex.{decode_of, encode_lower}
 use Rattle.hex.proofs.HexLemmas.{decode_of-encode_lower, decode_of-ok, decode_of-same}
 use Rattle.amqp_types.specs.Judging.{IsBytes}
 use Rattle.amqp_types.specs.Levels.{Level}
-use Rattle.amqp_frame.specs.Frames.{Frame}
-use Rattle.amqp_frame.specs.Spelling.{SpellsFrames}
-use Rattle.amqp_frame.proofs.Sequences.{sequence_front}
-use Rattle.amqp_frame.proofs.Strictness.{same_frames, sequence_is_plain}
+use Rattle.amqp_wire.specs.Frames.{Frame}
+use Rattle.amqp_wire.specs.Spelling.{SpellsFrames}
+use Rattle.amqp_wire.proofs.Sequences.{sequence_front}
+use Rattle.amqp_wire.proofs.Strictness.{same_frames, sequence_is_plain}
 use Rattle.amqp_stream.specs.Ends.{Supply}
 use Rattle.amqp_stream.specs.Canonicalizing.{canon_of}
-use Rattle.amqp_text.proofs.CanonBytes.{canonical_bytes}
+use Rattle.amqp_lines.proofs.CanonBytes.{canonical_bytes}
 use Rattle.amqp_program.specs.HexLaws.{EqualHexIsEqualBytes, EqualOutputIsEqualFrames, frames_accepted}
 use Rattle.amqp_program.specs.Reports.{max_payload}
 use Rattle.amqp_program.specs.Runs.{AcceptsHex}

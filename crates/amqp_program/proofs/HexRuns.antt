@@ -7,11 +7,11 @@ use Rattle.hex.specs.declared.error.FromHexError.{FromHexError}
 use Rattle.hex.proofs.HexLemmas.{decode_of-ok}
 use Rattle.amqp_types.specs.Levels.{Level}
 use Rattle.amqp_types.specs.Judging.{Judged, past, fault, took, IsBytes}
-use Rattle.amqp_frame.specs.Frames.{Frame}
-use Rattle.amqp_frame.specs.Canonical.{canon_frames}
-use Rattle.amqp_frame.specs.Fronts.{front, place}
-use Rattle.amqp_frame.proofs.Cuts.{IsStop}
-use Rattle.amqp_frame.proofs.Sequences.{sequence_of_all, splits_of}
+use Rattle.amqp_wire.specs.Frames.{Frame}
+use Rattle.amqp_wire.specs.Canonical.{canon_frames}
+use Rattle.amqp_wire.specs.Fronts.{front, place}
+use Rattle.amqp_wire.proofs.Cuts.{IsStop}
+use Rattle.amqp_wire.proofs.Sequences.{sequence_of_all, splits_of}
 use Rattle.amqp_stream.specs.declared.errors.StreamError.{StreamError}
 use Rattle.amqp_stream.specs.Scripts.{KeptBytes, store_of}
 use Rattle.amqp_stream.specs.Ends.{Supply, Store, Takes, Gains, prepended, Bytes}

@@ -3,7 +3,7 @@ use Rattle.std.proofs.Common.{◌≡◌, ◌≢◌, ℕ, List, ◌⊎◌, Some, 
 use Rattle.amqp_types.specs.Levels.{plain}
 use Rattle.amqp_stream.specs.declared.errors.StreamError.{StreamError}
 use Rattle.amqp_stream.specs.declared.errors.StreamError.TheVariants as errors
-use Rattle.amqp_frame.specs.Canonical.{canon_frames}
+use Rattle.amqp_wire.specs.Canonical.{canon_frames}
 use Rattle.amqp_stream.specs.Ends.{Supply, Store, Gains}
 use Rattle.amqp_stream.specs.Transcribing.{HasCause, HasWritten, transcript, NeverBegan, IsValid, NoFaults, IsOkOrNoMemory}
 use Rattle.amqp_stream.specs.Canonicalizing.{canon_of, Canonicalizes, AnswersExactly}

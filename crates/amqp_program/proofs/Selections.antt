@@ -14,7 +14,7 @@ use Rattle.amqp_select.specs.Covering.{uncovered}
 use Rattle.amqp_select.specs.Selecting.{selection}
 use Rattle.amqp_select.proofs.Words.{one_rule}
 use Rattle.amqp_select.proofs.Covered.{kept_same}
-use Rattle.amqp_frame.specs.Canonical.{canon_frames}
+use Rattle.amqp_wire.specs.Canonical.{canon_frames}
 use Rattle.amqp_program.specs.Commands.{after_select, command_of, IsNoForm}
 
 same_rules : (rules others : List Rule) → AllByRecursion IsRule rules → AllByRecursion IsRule others → map spelled rules ≡ map spelled others → rules ≡ others

@@ -4,13 +4,13 @@ use Rattle.amqp_types.specs.Levels.{plain}
 use Rattle.amqp_stream.specs.declared.errors.StreamError.{StreamError}
 use Rattle.amqp_stream.specs.Ends.{Supply, Store}
 use Rattle.amqp_stream.specs.Transcribing.{TranscribesExactly, NeverBegan, IsValid, NoFaults, IsOkOrNoMemory}
-use Rattle.amqp_text.specs.Lines.{lines}
-use Rattle.amqp_text.specs.Dumping.{Dumps}
-use Rattle.amqp_text.specs.Undumping.{Undumps, UndumpsExactly}
-use Rattle.amqp_text.specs.Undumping.{IsValidText}
-use Rattle.amqp_text.specs.Undumping.{IsOkOrNoMemory as IsUndumpedOrNoMemory}
-use Rattle.amqp_text.specs.declared.errors.UndumpError.{UndumpError}
-use Rattle.amqp_text.specs.declared.errors.UndumpError.TheVariants as undumps
+use Rattle.amqp_lines.specs.Lines.{lines}
+use Rattle.amqp_lines.specs.Dumping.{Dumps}
+use Rattle.amqp_lines.specs.Undumping.{Undumps, UndumpsExactly}
+use Rattle.amqp_lines.specs.Undumping.{IsValidText}
+use Rattle.amqp_lines.specs.Undumping.{IsOkOrNoMemory as IsUndumpedOrNoMemory}
+use Rattle.amqp_lines.specs.declared.errors.UndumpError.{UndumpError}
+use Rattle.amqp_lines.specs.declared.errors.UndumpError.TheVariants as undumps
 use Rattle.amqp_program.specs.Reports.{max_payload}
 use Rattle.amqp_program.specs.Runs.{IsDoneOrNoMemory, RunsDump, RunsUndump, raw_turns, undump_status_of}
 use Rattle.amqp_program.proofs.RawRuns.{done_or_no_memory}

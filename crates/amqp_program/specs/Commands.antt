@@ -1,9 +1,8 @@
 -- The forms of words.
-use Rattle.std.specs.Prelude.{◌≡◌, ℕ, List, [], ◌∷◌, codes, Option, Some, None, ◌==◌, ◌&&◌, ◌||◌, Bool, nat_lt, nat_le, length, slice_index, if◌then◌else◌}
-use Rattle.std.specs.Fmt.{decimal}
+use Rattle.std.specs.Prelude.{◌≡◌, ℕ, List, [], ◌∷◌, codes, Option, Some, None, ◌==◌, if◌then◌else◌}
 use Rattle.std.specs.Option.{option_map}
 use Rattle.std.specs.Str.{bytes_eq}
-use Rattle.std.specs.Str.Parse.{digits_value}
+use Rattle.amqp_types.specs.Numerals.{number_named}
 use Rattle.amqp_stream.specs.Made.{most_frames}
 use Rattle.amqp_select.specs.declared.rule.Rule.{Rule}
 use Rattle.amqp_select.specs.Refusals.{Spell}
@@ -23,16 +22,6 @@ command_named word =
     else (if bytes_eq word (codes "--help") then Some commands.Help
     else (if bytes_eq word (codes "--version") then Some commands.Version else None)))))))
 
--- the number that a word names, up to a greatest: the word is how the number is printed
-unfoldable pub count_named : ℕ → List ℕ → Option ℕ
-count_named most word =
-    let n = digits_value 10 word in
-    if bytes_eq word (decimal n) && nat_le n most then Some n else None
-
--- no number is printed so: a plus stands first, or a zero and more after it
-abbrev pub has_padding : List ℕ → Bool
-has_padding word = (slice_index word 0 == 43) || (nat_lt 1 (length word) && (slice_index word 0 == 48))
-
 -- bodies are cut into some bytes
 abbrev pub recut_by : Option ℕ → Option Command
 recut_by None = None
@@ -41,8 +30,8 @@ recut_by (Some size) = if size == 0 then None else Some (commands.Recut size)
 -- the command of two words: `make` and a number of frames, or `recut` and a size from 1 to the limit on payloads
 abbrev pub command_with : List ℕ → List ℕ → Option Command
 command_with word number =
-    if bytes_eq word (codes "make") then option_map commands.Make (count_named most_frames number)
-    else (if bytes_eq word (codes "recut") then recut_by (count_named max_payload number) else None)
+    if bytes_eq word (codes "make") then option_map commands.Make (number_named most_frames number)
+    else (if bytes_eq word (codes "recut") then recut_by (number_named max_payload number) else None)
 
 -- the command that the words after the program's name ask for, but for selections: each form is one word, or two
 abbrev pub command_of : List (List ℕ) → Option Command

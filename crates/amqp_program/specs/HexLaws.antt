@@ -3,8 +3,8 @@ use Rattle.std.specs.Prelude.{◌≡◌, ◌↔◌, ℕ, List, Some}
 use Rattle.hex.specs.Hex.{encode_lower}
 use Rattle.amqp_types.specs.Judging.{IsBytes}
 use Rattle.amqp_types.specs.Levels.{Level}
-use Rattle.amqp_frame.specs.Frames.{Frame}
-use Rattle.amqp_frame.specs.Fronts.{front}
+use Rattle.amqp_wire.specs.Frames.{Frame}
+use Rattle.amqp_wire.specs.Fronts.{front}
 use Rattle.amqp_stream.specs.Ends.{Supply}
 use Rattle.amqp_program.specs.Reports.{max_payload}
 use Rattle.amqp_program.specs.Runs.{AcceptsHex}

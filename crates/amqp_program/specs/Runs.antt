@@ -16,12 +16,12 @@ use Rattle.amqp_recut.specs.declared.errors.RecutError.{RecutError}
 use Rattle.amqp_recut.specs.Errors.{recut_error_status}
 use Rattle.amqp_recut.specs.Recutting.{Recuts, RecutsExactly, IsComplete}
 use Rattle.amqp_recut.specs.Recutting.{NeverBegan as NeverRecut}
-use Rattle.amqp_text.specs.Lines.{lines}
-use Rattle.amqp_text.specs.Dumping.{Dumps}
-use Rattle.amqp_text.specs.Undumping.{Undumps, UndumpsExactly}
-use Rattle.amqp_text.specs.Undumping.{IsValidText}
-use Rattle.amqp_text.specs.Errors.{undump_error_status}
-use Rattle.amqp_text.specs.declared.errors.UndumpError.{UndumpError}
+use Rattle.amqp_lines.specs.Lines.{lines}
+use Rattle.amqp_lines.specs.Dumping.{Dumps}
+use Rattle.amqp_lines.specs.Undumping.{Undumps, UndumpsExactly}
+use Rattle.amqp_lines.specs.Undumping.{IsValidText}
+use Rattle.amqp_lines.specs.Errors.{undump_error_status}
+use Rattle.amqp_lines.specs.declared.errors.UndumpError.{UndumpError}
 use Rattle.amqp_program.specs.Texts.{longest}
 use Rattle.amqp_program.specs.Reports.{max_payload, report}
 use Rattle.amqp_program.specs.declared.command.Command.{Command}

@@ -3,12 +3,14 @@
 ghost use Rattle.std.specs.Prelude.{◌≡◌};
 ghost use Rattle.std.specs.Option.{option_map};
 ghost use Rattle.amqp_select.specs.Refusals.{texts_of};
+ghost use Rattle.amqp_types.specs.Numerals.{number_named};
 ghost use Rattle.amqp_stream.specs.Made.{most_frames};
 ghost use Rattle.amqp_program.specs.declared.command.Command.TheVariants as commands;
-ghost use Rattle.amqp_program.specs.Commands.{after_select, command_named, command_of, command_with, has_padding, count_named, recut_by};
+ghost use Rattle.amqp_program.specs.Commands.{after_select, command_named, command_of, command_with, recut_by};
 ghost use Rattle.amqp_program.specs.Reports.{max_payload};
 
 use crate::report::MAX_PAYLOAD;
+use amqp_types::parse_decimal;
 
 /// What the words ask for.
 #[derive(Clone, Copy, Debug, PartialEq, Eq)]
@@ -51,26 +53,6 @@ const MAX_FRAMES: u32 = 100_000;
 /// The largest size that bodies are cut into, in bytes: that of the largest payload.
 const MAX_SIZE: u32 = MAX_PAYLOAD;
 
-/// Whether a word begins with a plus, or with a zero and more after it.
-fn is_padded(word: &str) -> bool
-    ensures { result ≡ has_padding word.now }
-{
-    word.starts_with('+') || word.len() > 1 && word.starts_with('0')
-}
-
-/// The number that a word names, up to `most`: `0`, or digits without a leading zero.
-fn parse_number(word: &str, most: u32) -> Option<u32>
-    ensures { result ≡ count_named most word.now }
-{
-    if is_padded(word) {
-        return None;
-    }
-    match word.parse::<u32>() {
-        Ok(number) if number <= most => Some(number),
-        _ => None,
-    }
-}
-
 /// The command of a single word.
 fn parse_word(word: &str) -> Option<Command>
     ensures { result ≡ command_named word.now }
@@ -90,9 +72,9 @@ fn parse_word(word: &str) -> Option<Command>
 
 /// The command `make` with this number of frames.
 fn parse_make(number: &str) -> Option<Command>
-    ensures { result ≡ option_map commands.Make (count_named most_frames number.now) }
+    ensures { result ≡ option_map commands.Make (number_named most_frames number.now) }
 {
-    match parse_number(number, MAX_FRAMES) {
+    match parse_decimal(number, MAX_FRAMES) {
         Some(frames) => Some(Command::Make(frames)),
         None => None,
     }
@@ -100,9 +82,9 @@ fn parse_make(number: &str) -> Option<Command>
 
 /// The command `recut` with this size, which is not 0.
 fn parse_recut(number: &str) -> Option<Command>
-    ensures { result ≡ recut_by (count_named max_payload number.now) }
+    ensures { result ≡ recut_by (number_named max_payload number.now) }
 {
-    match parse_number(number, MAX_SIZE) {
+    match parse_decimal(number, MAX_SIZE) {
         Some(0) => None,
         Some(size) => Some(Command::Recut(size)),
         None => None,

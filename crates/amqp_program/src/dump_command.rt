@@ -5,8 +5,8 @@ ghost use Rattle.amqp_program.specs.Runs.{RunsDump};
 
 use crate::raw_command::RAW_TURNS;
 use crate::report::MAX_PAYLOAD;
+use amqp_lines::dump;
 use amqp_stream::{Sink, Source};
-use amqp_text::dump;
 use std::alloc::Global;
 
 /// Writes the line of each frame, and reports a fault by the status alone.

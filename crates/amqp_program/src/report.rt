@@ -2,7 +2,7 @@
 
 ghost use Rattle.std.specs.Prelude.{◌≡◌, ◌≢◌, ◌≤◌, ◌++◌, ◌∷◌, [], Err, IfOk};
 ghost use Rattle.amqp_types.specs.Levels.{level_of};
-ghost use Rattle.amqp_frame.specs.Canonical.{canon_frames};
+ghost use Rattle.amqp_wire.specs.Canonical.{canon_frames};
 ghost use Rattle.amqp_stream.specs.Transcribing.{IsAnswerTo};
 ghost use Rattle.amqp_stream.specs.Writing.{AsksTidy};
 ghost use Rattle.amqp_program.specs.Reports.{max_payload, printed_of, printed, report, report_at};

@@ -5,8 +5,8 @@ ghost use Rattle.amqp_program.specs.Runs.{RunsUndump};
 
 use crate::raw_command::RAW_TURNS;
 use crate::report::MAX_PAYLOAD;
+use amqp_lines::undump;
 use amqp_stream::{Sink, Source};
-use amqp_text::undump;
 use std::alloc::Global;
 
 /// Writes the canonical bytes of the frame of each line, and reports an error by the status alone.

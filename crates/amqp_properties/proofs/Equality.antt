@@ -6,9 +6,10 @@ use Rattle.std.specs.Option.{option_eq}
 use Rattle.std.specs.Cmp.{unsigned_Decides}
 use Rattle.std.specs.Cmp.Lexicographic.{pointwise}
 use lib.Pointwise.{bytes_decides}
-use Rattle.amqp_types.specs.Values.{Entry, pairs, entries_of}
-use Rattle.amqp_values.specs.Sameness.{same_entries, same_entries-decides}
-use Rattle.amqp_values.proofs.Conversions.{pairs-entries_of}
+use Rattle.amqp_types.specs.Values.{Entry, entries_of}
+use Rattle.amqp_laws.proofs.Deciding.{both}
+use Rattle.amqp_values.specs.Sameness.{same_entries}
+use Rattle.amqp_values.proofs.Deciding.{same_tables}
 use Rattle.amqp_properties.specs.declared.properties.AMQPProperties.{AMQPProperties}
 
 -- ---- options
@@ -33,19 +34,10 @@ text_decides = option_decides (pointwise nat_eq) bytes_decides
 pub number_decides : (a b : Option ℕ) → Decides (option_eq nat_eq a b) (a ≡ b)
 number_decides = option_decides nat_eq unsigned_Decides
 
-entries_decide : (es fs : List Entry) → Decides (same_entries (entries_of es) (entries_of fs)) (es ≡ fs)
-entries_decide es fs =
-    let decides = same_entries-decides (entries_of es) (entries_of fs) in
-    (λ h. sym (pairs-entries_of es) ∙ ap pairs (decides.0 h) ∙ pairs-entries_of fs, λ e. decides.1 (ap entries_of e))
-
 pub table_decides : (a b : Option (List Entry)) → Decides (option_eq (λ es fs. same_entries (entries_of es) (entries_of fs)) a b) (a ≡ b)
-table_decides = option_decides (λ es fs. same_entries (entries_of es) (entries_of fs)) entries_decide
+table_decides = option_decides (λ es fs. same_entries (entries_of es) (entries_of fs)) same_tables
 
 -- ---- all of them
-
-pub both : (s t : Bool) {P Q : Type 0} → Decides s P → Decides t Q → Decides (s && t) (P × Q)
-both true t p q = (λ h. (p.0 refl, q.0 h), λ w. q.1 w.1)
-both false t p q = (λ h. absurd (true≢false (sym h)), λ w. absurd (true≢false (sym (p.1 w.0))))
 
 abbrev pub AreSame : AMQPProperties → AMQPProperties → Type 0
 AreSame p q =

@@ -2,7 +2,7 @@
 
 ghost use Rattle.std.specs.Prelude.{◌≡◌, ◌∷◌, ◌++◌, [], map, codes};
 ghost use Rattle.amqp_types.specs.Tags.{tag_byte, tags, short_int_read_byte, long_long_int_read_byte};
-ghost use Rattle.amqp_values.specs.HeldMethods.{IsHeldMethod};
+ghost use Rattle.amqp_laws.specs.HeldMethods.{IsHeldMethod};
 ghost use Rattle.amqp_protocol.specs.Classes.{method_of};
 ghost use Rattle.amqp_protocol.specs.ProtocolLaws.{CodesNameErrors, PlainLoginsNameCredentials, PayloadsBeginWithIds};
 

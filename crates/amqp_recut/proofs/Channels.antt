@@ -4,22 +4,22 @@ use Rattle.std.proofs.lemmas.List.{append-nil, drop_all}
 use Rattle.std.proofs.lemmas.Bool.Decides.{nat_tests}
 use Rattle.amqp_types.specs.Methods.{Method}
 use Rattle.amqp_types.specs.ContentHeaders.{ContentHeader}
-use Rattle.amqp_frame.specs.Frames.{Frame, Proto, Meth, Head, Body, Beat, BadBeat}
-use Rattle.amqp_frame.specs.Outlines.{outline_of}
-use Rattle.amqp_frame.specs.Canonical.{canon, canon_frames}
-use Rattle.amqp_content.specs.declared.fault.ContentFault.{ContentFault}
-use Rattle.amqp_content.specs.declared.fault.ContentFault.TheVariants as faults
-use Rattle.amqp_content.specs.declared.mark.Mark.{Mark}
-use Rattle.amqp_content.specs.declared.mark.Mark.TheVariants as marks
-use Rattle.amqp_content.specs.declared.progress.Progress.{Progress}
-use Rattle.amqp_content.specs.declared.progress.Progress.TheVariants as progresses
-use Rattle.amqp_content.specs.Units.{is_content, is_opening_id, size_in, bytes_in, Begun, Nothing, Opened, Headed, IsBegun}
-use Rattle.amqp_content.specs.Answers.{Wrong}
-use Rattle.amqp_content.specs.Stands.{State, At, Lost}
-use Rattle.amqp_content.specs.Steps.{mark_after, step}
-use Rattle.amqp_content.specs.Messages.{joined}
-use Rattle.amqp_content.proofs.Moving.{bytes_in-push}
-use Rattle.amqp_content.proofs.Telling.{joined-push, length-joined}
+use Rattle.amqp_wire.specs.Frames.{Frame, Proto, Meth, Head, Body, Beat, BadBeat}
+use Rattle.amqp_wire.specs.Outlines.{outline_of}
+use Rattle.amqp_wire.specs.Canonical.{canon, canon_frames}
+use Rattle.amqp_turns.specs.declared.fault.ContentFault.{ContentFault}
+use Rattle.amqp_turns.specs.declared.fault.ContentFault.TheVariants as faults
+use Rattle.amqp_turns.specs.declared.mark.Mark.{Mark}
+use Rattle.amqp_turns.specs.declared.mark.Mark.TheVariants as marks
+use Rattle.amqp_turns.specs.declared.progress.Progress.{Progress}
+use Rattle.amqp_turns.specs.declared.progress.Progress.TheVariants as progresses
+use Rattle.amqp_turns.specs.Units.{is_content, is_opening_id, size_in, bytes_in, Begun, Nothing, Opened, Headed, IsBegun}
+use Rattle.amqp_turns.specs.Answers.{Wrong}
+use Rattle.amqp_turns.specs.Stands.{State, At, Lost}
+use Rattle.amqp_turns.specs.Steps.{mark_after, step}
+use Rattle.amqp_turns.specs.Messages.{joined}
+use Rattle.amqp_turns.proofs.Moving.{bytes_in-push}
+use Rattle.amqp_turns.proofs.Telling.{joined-push, length-joined}
 use Rattle.amqp_recut.specs.InTurn.{greatest}
 use Rattle.amqp_recut.specs.Cuts.{frame_recut}
 use Rattle.amqp_recut.specs.Held.{Held, progress_in, kept_in, held_with}

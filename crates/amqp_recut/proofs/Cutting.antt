@@ -3,8 +3,8 @@ use Rattle.std.proofs.Common.{◌≡◌, ℕ, ◌+◌, ◌-◌, ◌*◌, ◌/◌
 use Rattle.std.proofs.lemmas.List.{drop-drop, length-drop, length-append, take_all, take_min, drop_all, drop-append-le, nil_from_length}
 use Rattle.std.proofs.lemmas.Bool.Decides.{nat_tests}
 use Rattle.std.specs.List.{range_with_len, filter}
-use Rattle.amqp_content.specs.Splits.{piece_count, pieces}
-use Rattle.amqp_content.proofs.Pieces.{pieces-none, pieces-more}
+use Rattle.amqp_turns.specs.Splits.{piece_count, pieces}
+use Rattle.amqp_turns.proofs.Pieces.{pieces-none, pieces-more}
 use Rattle.amqp_recut.specs.Cuts.{cut_end, is_reached, cuts_reached, cut_bytes, cuts_of}
 use Rattle.amqp_recut.specs.Stepping.{whole_pieces, left_over, pieces_given}
 

@@ -1,7 +1,7 @@
 -- What is gathered one after another, and the steps that are made of it.
 use Rattle.std.proofs.Common.{◌≡◌, ℕ, List, [], ◌++◌, refl, sym, ap, subst, ◌∙◌, append_assoc, append-nil, Result, Ok, Err}
-use Rattle.amqp_frame.specs.Frames.{Raw, Body}
-use Rattle.amqp_frame.specs.Verdicts.{whole_as}
+use Rattle.amqp_wire.specs.Frames.{Raw, Body}
+use Rattle.amqp_wire.specs.Verdicts.{whole_as}
 use Rattle.amqp_stream.specs.declared.sink.SinkFault.{SinkFault}
 use Rattle.amqp_stream.specs.Ends.{Store}
 use Rattle.amqp_stream.specs.Writing.{Gathered, GatherFails, Gathers, WritesAll}

@@ -6,16 +6,16 @@ use Rattle.std.proofs.lemmas.Bool.Decides.{nat_tests}
 use Rattle.std.proofs.lemmas.List.{append_assoc, drop_all, take_all}
 use Rattle.amqp_types.specs.Methods.{Method}
 use Rattle.amqp_types.specs.ContentHeaders.{ContentHeader}
-use Rattle.amqp_frame.specs.Frames.{Frame, Proto, Meth, Head, Body, Beat, BadBeat, channel_id_of}
-use Rattle.amqp_frame.specs.Outlines.{outline_of}
-use Rattle.amqp_content.specs.Units.{is_content, is_opening_id, of_channel, Nothing, Opened, Headed, size_in, bytes_in, IsInTurn}
-use Rattle.amqp_content.specs.Stands.{State, At, Lost}
-use Rattle.amqp_content.specs.Steps.{step, run_state}
-use Rattle.amqp_content.specs.Messages.{joined}
-use Rattle.amqp_content.specs.Splits.{pieces}
-use Rattle.amqp_content.proofs.Pieces.{pieces-none, pieces-more}
-use Rattle.amqp_content.proofs.Running.{turn_runs, stands_run}
-use Rattle.amqp_content.proofs.Telling.{joined-push, length-joined}
+use Rattle.amqp_wire.specs.Frames.{Frame, Proto, Meth, Head, Body, Beat, BadBeat, channel_id_of}
+use Rattle.amqp_wire.specs.Outlines.{outline_of}
+use Rattle.amqp_turns.specs.Units.{is_content, is_opening_id, of_channel, Nothing, Opened, Headed, size_in, bytes_in, IsInTurn}
+use Rattle.amqp_turns.specs.Stands.{State, At, Lost}
+use Rattle.amqp_turns.specs.Steps.{step, run_state}
+use Rattle.amqp_turns.specs.Messages.{joined}
+use Rattle.amqp_turns.specs.Splits.{pieces}
+use Rattle.amqp_turns.proofs.Pieces.{pieces-none, pieces-more}
+use Rattle.amqp_turns.proofs.Running.{turn_runs, stands_run}
+use Rattle.amqp_turns.proofs.Telling.{joined-push, length-joined}
 use Rattle.amqp_recut.specs.InTurn.{greatest, AreInTurn, NoneIsOpen, state_on}
 use Rattle.amqp_recut.specs.Cuts.{cuts_of, frame_recut, recut_after, recut}
 use Rattle.amqp_recut.specs.Stepping.{whole_pieces, left_over}

@@ -3,14 +3,14 @@ use Rattle.std.proofs.Common.{◌≡◌, ℕ, Bool, true, false, eqb, List, [], 
 use Rattle.std.specs.List.{AllByRecursion}
 use Rattle.std.proofs.lemmas.Bool.{eqb-true}
 use Rattle.std.proofs.lemmas.List.Elements.{filter-append}
-use Rattle.amqp_frame.specs.Frames.{Frame, Proto, Meth, Head, Body, Beat, BadBeat, channel_id_of}
-use Rattle.amqp_frame.specs.Outlines.{outline_of}
-use Rattle.amqp_content.specs.Units.{Nothing, Opened, Headed, is_of_channel, of_channel, size_in}
-use Rattle.amqp_content.specs.Stands.{State, At, Lost}
-use Rattle.amqp_content.specs.Steps.{step, run_state}
-use Rattle.amqp_content.specs.Messages.{joined}
-use Rattle.amqp_content.proofs.Running.{run_state-append}
-use Rattle.amqp_content.proofs.Apart.{of_channel-in, of_channel-out, of_own}
+use Rattle.amqp_wire.specs.Frames.{Frame, Proto, Meth, Head, Body, Beat, BadBeat, channel_id_of}
+use Rattle.amqp_wire.specs.Outlines.{outline_of}
+use Rattle.amqp_turns.specs.Units.{Nothing, Opened, Headed, is_of_channel, of_channel, size_in}
+use Rattle.amqp_turns.specs.Stands.{State, At, Lost}
+use Rattle.amqp_turns.specs.Steps.{step, run_state}
+use Rattle.amqp_turns.specs.Messages.{joined}
+use Rattle.amqp_turns.proofs.Running.{run_state-append}
+use Rattle.amqp_turns.proofs.Apart.{of_channel-in, of_channel-out, of_own}
 use Rattle.amqp_recut.specs.InTurn.{greatest, state_on}
 use Rattle.amqp_recut.specs.Cuts.{cuts_of, frame_recut, recut_after, recut}
 use Rattle.amqp_recut.specs.Laws.{IsPiece, AreCut}

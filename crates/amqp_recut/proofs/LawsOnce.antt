@@ -2,13 +2,13 @@
 use Rattle.std.proofs.Common.{◌≡◌, ℕ, ◌≤◌, List, ◌++◌, refl, sym, ap, ap₂, subst, ◌∙◌}
 use Rattle.std.specs.List.{AllByRecursion, flat_map}
 use Rattle.std.proofs.lemmas.List.{append-nil}
-use Rattle.amqp_frame.specs.Frames.{Frame}
-use Rattle.amqp_frame.specs.Outlines.{outline_of}
-use Rattle.amqp_content.specs.Units.{of_channel, Finished, Begun, Nothing, begun_frames, finished_frames, IsInTurn}
-use Rattle.amqp_content.specs.Answers.{begun_answers, finished_answers, answers_in}
-use Rattle.amqp_content.specs.Stands.{State, At}
-use Rattle.amqp_content.specs.Steps.{run_answers}
-use Rattle.amqp_content.proofs.Running.{turn_runs}
+use Rattle.amqp_wire.specs.Frames.{Frame}
+use Rattle.amqp_wire.specs.Outlines.{outline_of}
+use Rattle.amqp_turns.specs.Units.{of_channel, Finished, Begun, Nothing, begun_frames, finished_frames, IsInTurn}
+use Rattle.amqp_turns.specs.Answers.{begun_answers, finished_answers, answers_in}
+use Rattle.amqp_turns.specs.Stands.{State, At}
+use Rattle.amqp_turns.specs.Steps.{run_answers}
+use Rattle.amqp_turns.proofs.Running.{turn_runs}
 use Rattle.amqp_recut.specs.InTurn.{greatest, AreInTurn}
 use Rattle.amqp_recut.specs.Cuts.{recut}
 use Rattle.amqp_recut.specs.Laws.{messages_on, AreCut}

@@ -3,17 +3,17 @@ use Rattle.std.proofs.Common.{◌≡◌, ℕ, ◌+◌, ◌-◌, ◌*◌, ◌/◌
 use Rattle.std.specs.List.{AllByRecursion, flat_map}
 use Rattle.std.proofs.lemmas.Bool.Decides.{nat_tests}
 use Rattle.std.proofs.lemmas.List.{append-nil, append_assoc, drop-drop, take-append-le, drop-append-le, length-drop, length-take-le, length-append, drop_all, map-append}
-use Rattle.amqp_frame.specs.Frames.{Frame, Body}
-use Rattle.amqp_frame.specs.Outlines.{outline_of}
-use Rattle.amqp_content.specs.Units.{Nothing, Headed, size_in, bytes_in, IsBody}
-use Rattle.amqp_content.specs.Answers.{Answer}
-use Rattle.amqp_content.specs.Stands.{State, At}
-use Rattle.amqp_content.specs.Steps.{step}
-use Rattle.amqp_content.specs.Messages.{joined}
-use Rattle.amqp_content.specs.Splits.{pieces}
-use Rattle.amqp_content.proofs.Moving.{bytes_in-push}
-use Rattle.amqp_content.proofs.Running.{body_step, last_step}
-use Rattle.amqp_content.proofs.Telling.{joined-push, length-joined}
+use Rattle.amqp_wire.specs.Frames.{Frame, Body}
+use Rattle.amqp_wire.specs.Outlines.{outline_of}
+use Rattle.amqp_turns.specs.Units.{Nothing, Headed, size_in, bytes_in, IsBody}
+use Rattle.amqp_turns.specs.Answers.{Answer}
+use Rattle.amqp_turns.specs.Stands.{State, At}
+use Rattle.amqp_turns.specs.Steps.{step}
+use Rattle.amqp_turns.specs.Messages.{joined}
+use Rattle.amqp_turns.specs.Splits.{pieces}
+use Rattle.amqp_turns.proofs.Moving.{bytes_in-push}
+use Rattle.amqp_turns.proofs.Running.{body_step, last_step}
+use Rattle.amqp_turns.proofs.Telling.{joined-push, length-joined}
 use Rattle.amqp_recut.specs.InTurn.{greatest}
 use Rattle.amqp_recut.specs.Cuts.{cuts_of}
 use Rattle.amqp_recut.specs.Stepping.{whole_pieces, left_over, pieces_given}

@@ -3,27 +3,27 @@ use Rattle.std.proofs.Common.{◌≡◌, ℕ, ◌+◌, ◌*◌, ◌/◌, ◌<◌
 use Rattle.std.specs.List.{AllByRecursion, flat_map}
 use Rattle.std.proofs.lemmas.Bool.{eqb-true}
 use Rattle.std.proofs.lemmas.List.{append_assoc, length-append, map-append, drop_all}
-use Rattle.amqp_frame.specs.declared.outline.FrameOutline.{FrameOutline}
-use Rattle.amqp_frame.specs.declared.outline.FrameOutline.TheVariants as outlines
-use Rattle.amqp_frame.specs.Frames.{Frame, Proto, Meth, Head, Body, Beat, BadBeat, channel_id_of}
-use Rattle.amqp_frame.specs.Outlines.{outline_of}
-use Rattle.amqp_content.specs.Units.{Finished, Lone, Empty, Full, Begun, Nothing, Opened, Headed, IsOpening, IsOtherMethod, IsBasicHeader, IsBody, size_in, count_in, bytes_in, begun_frames, finished_frames, frames_in, IsBegun, IsFinished}
-use Rattle.amqp_content.specs.Answers.{Answer, Ends, bodies_within, begun_answers, finished_answers}
-use Rattle.amqp_content.specs.Stands.{State, At}
-use Rattle.amqp_content.specs.Steps.{step, run_state}
-use Rattle.amqp_content.specs.Messages.{Content, method_in, header_in, bytes_of, joined, content_with}
-use Rattle.amqp_content.specs.Outcomes.{answer_outcome}
-use Rattle.amqp_content.specs.Splits.{pieces}
-use Rattle.amqp_content.specs.Laws.{done_in}
-use Rattle.amqp_content.proofs.Pieces.{ArePieces, pieces_are}
-use Rattle.amqp_content.proofs.Running.{opening_step, header_step, empty_step, finished_runs, run_state-append}
-use Rattle.amqp_content.proofs.Telling.{joined-push, length-joined}
+use Rattle.amqp_wire.specs.declared.outline.FrameOutline.{FrameOutline}
+use Rattle.amqp_wire.specs.declared.outline.FrameOutline.TheVariants as outlines
+use Rattle.amqp_wire.specs.Frames.{Frame, Proto, Meth, Head, Body, Beat, BadBeat, channel_id_of}
+use Rattle.amqp_wire.specs.Outlines.{outline_of}
+use Rattle.amqp_turns.specs.Units.{Finished, Lone, Empty, Full, Begun, Nothing, Opened, Headed, IsOpening, IsOtherMethod, IsBasicHeader, IsBody, size_in, count_in, bytes_in, begun_frames, finished_frames, frames_in, IsBegun, IsFinished}
+use Rattle.amqp_turns.specs.Answers.{Answer, Ends, bodies_within, begun_answers, finished_answers}
+use Rattle.amqp_turns.specs.Stands.{State, At}
+use Rattle.amqp_turns.specs.Steps.{step, run_state}
+use Rattle.amqp_turns.specs.Messages.{Content, method_in, header_in, bytes_of, joined, content_with}
+use Rattle.amqp_turns.specs.Outcomes.{answer_outcome}
+use Rattle.amqp_turns.specs.Splits.{pieces}
+use Rattle.amqp_turns.specs.Laws.{done_in}
+use Rattle.amqp_turns.proofs.Pieces.{ArePieces, pieces_are}
+use Rattle.amqp_turns.proofs.Running.{opening_step, header_step, empty_step, finished_runs, run_state-append}
+use Rattle.amqp_turns.proofs.Telling.{joined-push, length-joined}
 use Rattle.amqp_recut.specs.InTurn.{greatest}
 use Rattle.amqp_recut.specs.Cuts.{frame_recut}
 use Rattle.amqp_recut.specs.Stepping.{whole_pieces, left_over}
 use Rattle.amqp_recut.proofs.LawsChannels.{channel_recut, IsOn, all_front, all_back, IsCut, AreCutAfter, cut_append}
 use Rattle.amqp_recut.proofs.LawsPieces.{bodies_with, flat, joined_bodies, bytes_bodies, all_bodies, flat_push, whole_fit, open_bodies, closed_bodies, cut_given}
-use Rattle.amqp_content.proofs.Whole.{done_in-append}
+use Rattle.amqp_turns.proofs.Whole.{done_in-append}
 
 -- a unit recut: the body of a message in pieces
 abbrev pub unit_recut : (size channel : ℕ) → Finished Frame → List Frame

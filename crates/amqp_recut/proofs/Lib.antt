@@ -1,7 +1,6 @@
 -- The lemmas of amqp_recut.
 pub mod Cutting
 pub mod Holding
-pub mod Current
 pub mod Gathering
 pub mod Piecing
 pub mod Channels

@@ -1,14 +1,15 @@
 -- Pieces that are cut out of two parts.
 use Rattle.std.proofs.Common.{◌≡◌, ℕ, ◌+◌, ◌-◌, ◌<◌, ◌≤◌, min, Bool, true, false, List, [], ◌∷◌, ◌++◌, length, map, take, drop, sym, ap, ap₂, subst, ◌∙◌, arith, inl, inr, append_assoc, append-nil, Result}
 use Rattle.std.proofs.lemmas.Bool.{cases_lt}
-use Rattle.std.proofs.lemmas.List.{length-append, take-append-le, drop-append-le, take_min, drop_min, take_all, drop_all, take_rest, length-drop}
+use Rattle.std.proofs.lemmas.List.{length-append, take-append-le, drop-append-le, take_all, drop_all, take_rest, length-drop}
 use Rattle.std.proofs.Math.Seq.{take-append-add, drop-append-add}
-use Rattle.amqp_frame.specs.Frames.{Body}
-use Rattle.amqp_frame.specs.Spelling.{framed, head}
-use Rattle.amqp_frame.specs.Canonical.{canon, canon_frames}
+use Rattle.amqp_wire.specs.Frames.{Body}
+use Rattle.amqp_wire.specs.Spelling.{framed, head}
+use Rattle.amqp_wire.specs.Canonical.{canon, canon_frames}
 use Rattle.amqp_stream.specs.Ends.{Store}
 use Rattle.amqp_stream.specs.declared.sink.SinkFault.{SinkFault}
 use Rattle.amqp_stream.specs.Writing.{Gathered, GatherFails, Gathers}
+use Rattle.amqp_turns.proofs.Pieces.{short_take, short_drop}
 use Rattle.amqp_recut.specs.Stepping.{frames_given}
 use Rattle.amqp_recut.proofs.Cutting.{given-more, given-ended, given-nothing, whole-none}
 use Rattle.amqp_recut.proofs.Gathering.{gather_fails_later, gathers_then, gathers_less, gathers_as}
@@ -44,12 +45,6 @@ rest_of_two size front back = elim (cases_lt size (length front)) [
 ]
 
 -- as much of the first part as there is, and of the second what is still needed
-short_take : (xs : List ℕ) (m : ℕ) → take (min (length xs) m) xs ≡ take m xs
-short_take xs m = let same : min (length xs) m ≡ min m (length xs) = omega arith in ap (λ k. take k xs) same ∙ take_min m xs
-
-short_drop : (xs : List ℕ) (m : ℕ) → drop (min (length xs) m) xs ≡ drop m xs
-short_drop xs m = let same : min (length xs) m ≡ min m (length xs) = omega arith in ap (λ k. drop k xs) same ∙ drop_min m xs
-
 pub first_parts : (size : ℕ) (front back : List ℕ) → take (min (length front) size) front ++ take (size - min (length front) size) back ≡ take size (front ++ back)
 first_parts size front back =
     let rest : size - min (length front) size ≡ size - length front = omega arith in

@@ -4,18 +4,18 @@ use Rattle.std.proofs.lemmas.List.{append-nil, append_assoc, length-append}
 use Rattle.std.proofs.lemmas.List.Elements.{filter-append}
 use Rattle.std.proofs.lemmas.Grind.{flat_map-append}
 use Rattle.std.proofs.lemmas.Bool.{cases_eq}
-use Rattle.amqp_frame.specs.Frames.{Frame, channel_id_of}
-use Rattle.amqp_frame.specs.Outlines.{outline_of}
-use Rattle.amqp_frame.specs.Canonical.{canon, canon_frames}
-use Rattle.amqp_content.specs.declared.fault.ContentFault.{ContentFault}
-use Rattle.amqp_content.specs.declared.mark.Mark.{Mark}
-use Rattle.amqp_content.specs.declared.mark.Mark.TheVariants as marks
-use Rattle.amqp_content.specs.Units.{is_content, is_of_channel, of_channel, Begun, Nothing, IsBegun, frames_in, IsInTurn, Reading}
-use Rattle.amqp_content.specs.Answers.{Answer, Wrong, IsLastAnswer}
-use Rattle.amqp_content.specs.Stands.{State, At, Lost, state_after}
-use Rattle.amqp_content.specs.Steps.{step, run_state}
-use Rattle.amqp_content.proofs.Running.{run_state-append, run_stands, turn_runs, advance}
-use Rattle.amqp_content.proofs.Apart.{of_channel-in, of_channel-out, of_own, of_other, of_none}
+use Rattle.amqp_wire.specs.Frames.{Frame, channel_id_of}
+use Rattle.amqp_wire.specs.Outlines.{outline_of}
+use Rattle.amqp_wire.specs.Canonical.{canon, canon_frames}
+use Rattle.amqp_turns.specs.declared.fault.ContentFault.{ContentFault}
+use Rattle.amqp_turns.specs.declared.mark.Mark.{Mark}
+use Rattle.amqp_turns.specs.declared.mark.Mark.TheVariants as marks
+use Rattle.amqp_turns.specs.Units.{is_content, is_of_channel, of_channel, Begun, Nothing, IsBegun, frames_in, IsInTurn, Reading}
+use Rattle.amqp_turns.specs.Answers.{Answer, Wrong, IsLastAnswer}
+use Rattle.amqp_turns.specs.Stands.{State, At, Lost, state_after}
+use Rattle.amqp_turns.specs.Steps.{step, run_state}
+use Rattle.amqp_turns.proofs.Running.{run_state-append, run_stands, turn_runs, advance}
+use Rattle.amqp_turns.proofs.Apart.{of_channel-in, of_channel-out, of_own, of_other, of_none}
 use Rattle.amqp_stream.specs.Steps.{text, refused, state, text_at, refused_at, state_at}
 use Rattle.amqp_recut.specs.declared.errors.Refusal.{Refusal}
 use Rattle.amqp_recut.specs.declared.errors.Refusal.TheVariants as refusals

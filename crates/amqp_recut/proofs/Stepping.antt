@@ -6,21 +6,21 @@ use Rattle.std.specs.FinMap as finite
 use Rattle.amqp_types.specs.Levels.{plain}
 use Rattle.amqp_types.specs.Methods.{Method, judge_payload}
 use Rattle.amqp_types.specs.ContentHeaders.{ContentHeader, judge_content_header}
-use Rattle.amqp_frame.specs.declared.frame_type.AMQPFrameType.{AMQPFrameType}
-use Rattle.amqp_frame.specs.declared.frame_type.AMQPFrameType.TheVariants as kinds
-use Rattle.amqp_frame.specs.declared.outline.FrameOutline.{FrameOutline}
-use Rattle.amqp_frame.specs.Frames.{Raw, Frame, Proto, Meth, Head, Body, channel_id_of, beat_on, IsTyped}
-use Rattle.amqp_frame.specs.Outlines.{outline_of}
-use Rattle.amqp_frame.specs.Canonical.{canon, canon_frames}
-use Rattle.amqp_frame.specs.Verdicts.{whole, whole_as, all_of}
-use Rattle.amqp_frame.proofs.Encoded.{read_as}
-use Rattle.amqp_content.specs.declared.fault.ContentFault.{ContentFault}
-use Rattle.amqp_content.specs.declared.mark.Mark.{Mark}
-use Rattle.amqp_content.specs.declared.mark.Mark.TheVariants as marks
-use Rattle.amqp_content.specs.declared.progress.Progress.{Progress}
-use Rattle.amqp_content.specs.declared.progress.Progress.TheVariants as progresses
-use Rattle.amqp_content.specs.Units.{is_content, is_opening_id}
-use Rattle.amqp_content.specs.Steps.{mark_after, progress_after, progress_marked, header_mark, method_mark, body_mark, headed_progress}
+use Rattle.amqp_wire.specs.declared.frame_type.AMQPFrameType.{AMQPFrameType}
+use Rattle.amqp_wire.specs.declared.frame_type.AMQPFrameType.TheVariants as kinds
+use Rattle.amqp_wire.specs.declared.outline.FrameOutline.{FrameOutline}
+use Rattle.amqp_wire.specs.Frames.{Raw, Frame, Proto, Meth, Head, Body, channel_id_of, beat_on, IsTyped}
+use Rattle.amqp_wire.specs.Outlines.{outline_of}
+use Rattle.amqp_wire.specs.Canonical.{canon, canon_frames}
+use Rattle.amqp_wire.specs.Verdicts.{whole, whole_as, all_of}
+use Rattle.amqp_wire.proofs.Encoded.{read_as}
+use Rattle.amqp_turns.specs.declared.fault.ContentFault.{ContentFault}
+use Rattle.amqp_turns.specs.declared.mark.Mark.{Mark}
+use Rattle.amqp_turns.specs.declared.mark.Mark.TheVariants as marks
+use Rattle.amqp_turns.specs.declared.progress.Progress.{Progress}
+use Rattle.amqp_turns.specs.declared.progress.Progress.TheVariants as progresses
+use Rattle.amqp_turns.specs.Units.{is_content, is_opening_id}
+use Rattle.amqp_turns.specs.Steps.{mark_after, progress_after, progress_marked, header_mark, method_mark, body_mark, headed_progress}
 use Rattle.amqp_stream.specs.declared.errors.StreamError.{StreamError}
 use Rattle.amqp_stream.specs.Errors.{Cause, faulty, cut_short, turns_spent, read_failed, write_failed, out_of_memory, cause_of}
 use Rattle.amqp_stream.specs.Ends.{Store}

@@ -6,18 +6,18 @@ use Rattle.std.specs.FinMap as finite
 use Rattle.std.specs.FinMap.{get-empty}
 use Rattle.std.specs.Ordering.{nat_cmp}
 use Rattle.amqp_types.specs.Levels.{plain}
-use Rattle.amqp_frame.specs.Frames.{Frame, Proto, Meth, Head, Body, Beat, BadBeat, channel_id_of}
-use Rattle.amqp_frame.specs.Outlines.{outline_of}
-use Rattle.amqp_frame.specs.Spelling.{SpellsFrames, Spells}
+use Rattle.amqp_wire.specs.Frames.{Frame, Proto, Meth, Head, Body, Beat, BadBeat, channel_id_of}
+use Rattle.amqp_wire.specs.Outlines.{outline_of}
+use Rattle.amqp_wire.specs.Spelling.{SpellsFrames, Spells}
 use Rattle.amqp_types.specs.ContentHeaders.{ContentHeader}
-use Rattle.amqp_frame.proofs.Outlined.{header_front}
-use Rattle.amqp_frame.proofs.Sequences.{front-is_sequence}
-use Rattle.amqp_content.specs.declared.fault.ContentFault.{ContentFault}
-use Rattle.amqp_content.specs.declared.fault.ContentFault.TheVariants as faults
-use Rattle.amqp_content.specs.Units.{Begun, Nothing, Opened, Headed, of_channel, size_in}
-use Rattle.amqp_content.specs.Answers.{Wrong, IsLastAnswer}
-use Rattle.amqp_content.specs.Stands.{State, At, Lost, Stands}
-use Rattle.amqp_content.proofs.Running.{run_stands, stands_run}
+use Rattle.amqp_wire.proofs.Outlined.{header_front}
+use Rattle.amqp_wire.proofs.Sequences.{front-is_sequence}
+use Rattle.amqp_turns.specs.declared.fault.ContentFault.{ContentFault}
+use Rattle.amqp_turns.specs.declared.fault.ContentFault.TheVariants as faults
+use Rattle.amqp_turns.specs.Units.{Begun, Nothing, Opened, Headed, of_channel, size_in}
+use Rattle.amqp_turns.specs.Answers.{Wrong, IsLastAnswer}
+use Rattle.amqp_turns.specs.Stands.{State, At, Lost, Stands}
+use Rattle.amqp_turns.proofs.Running.{run_stands, stands_run}
 use Rattle.amqp_stream.specs.declared.errors.StreamError.{StreamError}
 use Rattle.amqp_stream.specs.declared.errors.StreamError.TheVariants as streams
 use Rattle.amqp_stream.specs.declared.errors.RunError.{RunError}

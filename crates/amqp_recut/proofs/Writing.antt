@@ -6,10 +6,10 @@ use Rattle.amqp_types.specs.Levels.{plain}
 use Rattle.amqp_types.specs.Answers.{RefusesWhole}
 use Rattle.amqp_types.specs.declared.errors.ParserError.{ParserError}
 use Rattle.amqp_types.specs.declared.errors.ParserError.TheVariants as parses
-use Rattle.amqp_frame.specs.Frames.{Raw}
-use Rattle.amqp_frame.specs.Judgements.{IsPayloadFault}
-use Rattle.amqp_frame.specs.Verdicts.{whole}
-use Rattle.amqp_content.specs.declared.fault.ContentFault.{ContentFault}
+use Rattle.amqp_wire.specs.Frames.{Raw}
+use Rattle.amqp_wire.specs.Judgements.{IsPayloadFault}
+use Rattle.amqp_wire.specs.Verdicts.{whole}
+use Rattle.amqp_turns.specs.declared.fault.ContentFault.{ContentFault}
 use Rattle.amqp_stream.specs.declared.errors.RunError.{RunError}
 use Rattle.amqp_stream.specs.declared.errors.RunError.TheVariants as runs
 use Rattle.amqp_stream.specs.Errors.{Cause, faulty, cut_short, turns_spent, read_failed, write_failed, out_of_memory, cause_of}

@@ -1,12 +1,12 @@
 -- A sequence of frames whose messages have their bodies cut anew.
 use Rattle.std.specs.Prelude.{ℕ, ◌+◌, ◌-◌, ◌*◌, ◌&&◌, nat_lt, nat_le, min, Bool, List, [], ◌∷◌, ◌++◌, map, take, drop, length}
 use Rattle.std.specs.List.{filter, range_with_len}
-use Rattle.amqp_frame.specs.Frames.{Frame, Proto, Meth, Head, Body, Beat, BadBeat, channel_id_of}
-use Rattle.amqp_frame.specs.Outlines.{outline_of}
-use Rattle.amqp_content.specs.Units.{Nothing, Opened, Headed, size_in}
-use Rattle.amqp_content.specs.Stands.{State, At, Lost}
-use Rattle.amqp_content.specs.Messages.{joined}
-use Rattle.amqp_content.specs.Splits.{piece_count}
+use Rattle.amqp_wire.specs.Frames.{Frame, Proto, Meth, Head, Body, Beat, BadBeat, channel_id_of}
+use Rattle.amqp_wire.specs.Outlines.{outline_of}
+use Rattle.amqp_turns.specs.Units.{Nothing, Opened, Headed, size_in}
+use Rattle.amqp_turns.specs.Stands.{State, At, Lost}
+use Rattle.amqp_turns.specs.Messages.{joined}
+use Rattle.amqp_turns.specs.Splits.{piece_count}
 use Rattle.amqp_recut.specs.InTurn.{state_on}
 
 -- A body of n bytes is cut by size: its cut k, for each k with k * size below n, goes from k * size up to here.

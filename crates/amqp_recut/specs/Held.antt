@@ -1,10 +1,9 @@
 -- What a writer keeps of the channels on which a message has begun.
-use Rattle.std.specs.Prelude.{◌≡◌, ℕ, ◌==◌, Bool, false, List, [], Option, Some, None}
+use Rattle.std.specs.Prelude.{ℕ, List, [], Option, Some, None}
 use Rattle.std.specs.FinMap as finite
 use Rattle.std.specs.Ordering.{nat_cmp}
-use Rattle.amqp_content.specs.declared.progress.Progress.{Progress}
+use Rattle.amqp_turns.specs.declared.progress.Progress.{Progress}
 use Rattle.amqp_recut.specs.declared.message.Message.{Message}
-use Rattle.amqp_recut.specs.declared.messages.Current.{Current}
 
 -- how far a message has come, and the bytes of its body that are not written yet
 pub record Held : Type 0 where
@@ -42,25 +41,3 @@ set_at holding channel (Some held) = finite.insert holding channel held
 abbrev pub held_with : Option Progress → List ℕ → Option Held
 held_with None kept = None
 held_with (Some progress) kept = Some (record { progress = progress; kept = kept })
-
--- ---- one message is kept beside the others
-
--- there is a current message, and it is of this channel
-abbrev pub is_of : Option Current → ℕ → Bool
-is_of None channel = false
-is_of (Some current) channel = current.channel_id == channel
-
--- a message becomes the current one where no other has begun
-abbrev pub takes : Option Current → HeldByChannel → ℕ → Bool
-takes None others channel = finite.len others == 0
-takes (Some current) others channel = current.channel_id == channel
-
--- what is kept in all
-abbrev pub with_current : Option Current → HeldByChannel → HeldByChannel
-with_current None others = others
-with_current (Some current) others = finite.insert others current.channel_id (held_of current.message)
-
--- of the current message's channel nothing else is kept
-abbrev pub IsApart : Option Current → HeldByChannel → Type 0
-IsApart None others = Unit {0}
-IsApart (Some current) others = finite.get others current.channel_id ≡ None

@@ -1,12 +1,12 @@
 -- Sequences of frames whose content is in turn on each channel (AMQP 0-9-1, section 4.2.6).
 use Rattle.std.specs.Prelude.{◌≡◌, ◌≢◌, ℕ, ◌-◌, ◌^◌, ◌≤◌, List, [], ◌∷◌, ◌++◌, length}
-use Rattle.amqp_frame.specs.Frames.{Frame, channel_id_of}
-use Rattle.amqp_frame.specs.Outlines.{outline_of}
-use Rattle.amqp_content.specs.declared.fault.ContentFault.{ContentFault}
-use Rattle.amqp_content.specs.Units.{Begun, Nothing, of_channel, IsInTurn}
-use Rattle.amqp_content.specs.Answers.{Wrong, IsLastAnswer}
-use Rattle.amqp_content.specs.Stands.{State, At, Stands}
-use Rattle.amqp_content.specs.Steps.{run_state}
+use Rattle.amqp_wire.specs.Frames.{Frame, channel_id_of}
+use Rattle.amqp_wire.specs.Outlines.{outline_of}
+use Rattle.amqp_turns.specs.declared.fault.ContentFault.{ContentFault}
+use Rattle.amqp_turns.specs.Units.{Begun, Nothing, of_channel, IsInTurn}
+use Rattle.amqp_turns.specs.Answers.{Wrong, IsLastAnswer}
+use Rattle.amqp_turns.specs.Stands.{State, At, Stands}
+use Rattle.amqp_turns.specs.Steps.{run_state}
 
 -- the greatest size that a content header can announce
 abbrev pub greatest : ℕ

@@ -1,13 +1,13 @@
 -- What recutting keeps of a sequence of frames, and what it makes of their bodies.
 use Rattle.std.specs.Prelude.{◌≡◌, ℕ, ◌-◌, ◌<◌, ◌≤◌, min, List, ◌∷◌, ◌++◌, length, map}
-use Rattle.amqp_frame.specs.Frames.{Frame, Body}
-use Rattle.amqp_frame.specs.Outlines.{outline_of}
-use Rattle.amqp_content.specs.Units.{Nothing, Opened, Headed, of_channel, size_in, bytes_in}
-use Rattle.amqp_content.specs.Stands.{State, At, Lost}
-use Rattle.amqp_content.specs.Messages.{Content}
-use Rattle.amqp_content.specs.Outcomes.{answer_outcome}
-use Rattle.amqp_content.specs.Laws.{done_in}
-use Rattle.amqp_content.specs.Steps.{run_answers}
+use Rattle.amqp_wire.specs.Frames.{Frame, Body}
+use Rattle.amqp_wire.specs.Outlines.{outline_of}
+use Rattle.amqp_turns.specs.Units.{Nothing, Opened, Headed, of_channel, size_in, bytes_in}
+use Rattle.amqp_turns.specs.Stands.{State, At, Lost}
+use Rattle.amqp_turns.specs.Messages.{Content}
+use Rattle.amqp_turns.specs.Outcomes.{answer_outcome}
+use Rattle.amqp_turns.specs.Laws.{done_in}
+use Rattle.amqp_turns.specs.Steps.{run_answers}
 use Rattle.amqp_recut.specs.InTurn.{greatest, state_on, AreInTurn, NoneIsOpen}
 use Rattle.amqp_recut.specs.Cuts.{recut}
 

@@ -2,10 +2,10 @@
 use Rattle.std.specs.Prelude.{◌≡◌, ℕ, ◌+◌, ◌≤◌, IsTrue, List, ◌++◌, length, Some, Result, Ok, Err}
 use Rattle.amqp_types.specs.Levels.{plain}
 use Rattle.amqp_types.specs.Judging.{IsBytes}
-use Rattle.amqp_frame.specs.Frames.{Frame}
-use Rattle.amqp_frame.specs.Canonical.{canon_frames}
-use Rattle.amqp_frame.specs.Fronts.{front}
-use Rattle.amqp_frame.specs.Outer.{BeginsWith}
+use Rattle.amqp_wire.specs.Frames.{Frame}
+use Rattle.amqp_wire.specs.Canonical.{canon_frames}
+use Rattle.amqp_wire.specs.Fronts.{front}
+use Rattle.amqp_wire.specs.Outer.{BeginsWith}
 use Rattle.amqp_stream.specs.declared.errors.StreamError.TheVariants as streams
 use Rattle.amqp_stream.specs.Errors.{Cause, write_failed, out_of_memory, cause_of}
 use Rattle.amqp_stream.specs.Ends.{Supply, Store, Takes, Gains, IsEmpty}

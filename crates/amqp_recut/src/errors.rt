@@ -1,7 +1,7 @@
 //! Why a stream was not recut to its end.
 
-use amqp_content::ContentFault;
 use amqp_stream::{RunError, StreamError};
+use amqp_turns::ContentFault;
 use std::error::Error;
 use std::fmt;
 

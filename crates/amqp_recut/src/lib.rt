@@ -6,7 +6,6 @@ mod errors;
 mod laws;
 mod message;
 mod messages;
-mod others;
 mod pieces;
 mod recutter;
 mod recutting;

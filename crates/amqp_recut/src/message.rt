@@ -2,7 +2,7 @@
 
 ghost use Rattle.std.specs.Prelude.{◌≡◌, ◌++◌, OnOk, OnErr};
 
-use amqp_content::Progress;
+use amqp_turns::Progress;
 use amqp_types::NoMemory;
 
 /// A message that is not complete.

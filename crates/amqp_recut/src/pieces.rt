@@ -1,15 +1,15 @@
 //! Body frames that are cut out of two parts, of which one follows the other.
 
 ghost use Rattle.std.specs.Prelude.{◌≡◌, ◌+◌, ◌-◌, ◌++◌, ◌^◌, ◌<◌, ◌≤◌, [], length, drop, IfOk};
-ghost use Rattle.amqp_frame.specs.Canonical.{canon_frames};
-ghost use Rattle.amqp_frame.specs.Spelling.{framed};
+ghost use Rattle.amqp_wire.specs.Canonical.{canon_frames};
+ghost use Rattle.amqp_wire.specs.Spelling.{framed};
 ghost use Rattle.amqp_stream.specs.Writing.{Gathers};
 ghost use Rattle.amqp_recut.specs.Stepping.{frames_given};
 ghost use Rattle.amqp_types.specs.Constants.{body_byte};
 
-use amqp_frame::frame_head;
 use amqp_stream::{OutputBuffer, SMALL_BODY, Sink, SinkFault, flush, gather};
 use amqp_types::{ChannelId, FRAME_BODY, FRAME_END, NoMemory};
+use amqp_wire::frame_head;
 use std::alloc::Global;
 
 /// Puts a body frame whose payload is two parts after the pending bytes.

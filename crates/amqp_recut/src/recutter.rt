@@ -5,12 +5,12 @@ ghost use Rattle.std.specs.Prelude.{◌≤◌, ◌<◌, ◌^◌};
 use crate::errors::Refusal;
 use crate::messages::Messages;
 use crate::pieces::{last_of, settle, write_pieces};
-use amqp_content::{ContentFault, Mark, Progress, step};
-use amqp_frame::{AMQPFrameType, AMQPRawFrame, FrameOutline, judge_frame, outline_front};
 use amqp_stream::{
     FrameWriter, OutputBuffer, RunError, Sink, StreamError, as_run, payload_error, write_canonical,
 };
+use amqp_turns::{ContentFault, Mark, Progress, step};
 use amqp_types::{ChannelId, NoMemory};
+use amqp_wire::{AMQPFrameType, AMQPRawFrame, FrameOutline, judge_frame, outline_front};
 use std::alloc::Global;
 
 /// Cuts the bodies of messages into pieces of one size, and writes all else as it is.
@@ -26,9 +26,9 @@ pub(crate) struct Recutter {
 impl Recutter {
     ghost use Rattle.std.specs.Prelude.{◌≡◌, ◌+◌, ◌++◌, [], length, Ok, Err, Some, None, IsSome, OnOk, OnErr, true, false};
     ghost use Rattle.std.specs.FinMap as finite;
-    ghost use Rattle.amqp_frame.specs.Frames.{Frame, Body, raw_of, IsTyped};
-    ghost use Rattle.amqp_frame.specs.Canonical.{canon, canon_frames};
-    ghost use Rattle.amqp_frame.specs.Verdicts.{whole};
+    ghost use Rattle.amqp_wire.specs.Frames.{Frame, Body, raw_of, IsTyped};
+    ghost use Rattle.amqp_wire.specs.Canonical.{canon, canon_frames};
+    ghost use Rattle.amqp_wire.specs.Verdicts.{whole};
     ghost use Rattle.amqp_stream.specs.Ends.{Store};
     ghost use Rattle.amqp_stream.specs.Writing.{frame_length};
     ghost use Rattle.amqp_stream.specs.Streaming.{WritesBy, ending_of};

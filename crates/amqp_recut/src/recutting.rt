@@ -8,8 +8,8 @@ ghost use Rattle.amqp_recut.specs.Recutting.{Recuts, NeverBegan, RecutsExactly, 
 
 use crate::errors::{RecutError, Refusal};
 use crate::recutter::Recutter;
-use amqp_content::ContentFault;
 use amqp_stream::{RunError, Sink, Source, StreamError, run_stream};
+use amqp_turns::ContentFault;
 use amqp_types::ChunkSize;
 use std::alloc::Global;
 

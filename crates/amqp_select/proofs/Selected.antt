@@ -5,11 +5,11 @@ use Rattle.std.specs.Prelude.{if◌then◌else◌}
 use Rattle.std.specs.List.{flat_map}
 use Rattle.std.specs.declared.string.ParseError.{Infallible}
 use Rattle.amqp_types.specs.Levels.{plain}
-use Rattle.amqp_frame.specs.Frames.{Raw, Frame}
-use Rattle.amqp_frame.specs.Canonical.{canon, canon_frames}
-use Rattle.amqp_frame.specs.declared.outline.FrameOutline.{FrameOutline}
-use Rattle.amqp_frame.specs.Outlines.{outline_of}
-use Rattle.amqp_frame.specs.Verdicts.{whole}
+use Rattle.amqp_wire.specs.Frames.{Raw, Frame}
+use Rattle.amqp_wire.specs.Canonical.{canon, canon_frames}
+use Rattle.amqp_wire.specs.declared.outline.FrameOutline.{FrameOutline}
+use Rattle.amqp_wire.specs.Outlines.{outline_of}
+use Rattle.amqp_wire.specs.Verdicts.{whole}
 use Rattle.amqp_stream.specs.declared.errors.StreamError.{StreamError}
 use Rattle.amqp_stream.specs.Errors.{Cause, faulty, cut_short, turns_spent, read_failed, write_failed, out_of_memory, cause_of}
 use Rattle.amqp_stream.specs.Ends.{Supply, Store}

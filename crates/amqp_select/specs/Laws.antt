@@ -1,6 +1,6 @@
 -- Laws of rules.
 use Rattle.std.specs.Prelude.{◌≡◌, List}
-use Rattle.amqp_frame.specs.Frames.{Frame}
+use Rattle.amqp_wire.specs.Frames.{Frame}
 use Rattle.amqp_select.specs.declared.rule.Rule.{Rule}
 use Rattle.amqp_select.specs.Rules.{IsRule, spelled}
 use Rattle.amqp_select.specs.Matching.{kept}

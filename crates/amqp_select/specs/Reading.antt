@@ -1,14 +1,13 @@
 -- What is read of a word, from the left.
-use Rattle.std.specs.Prelude.{◌≡◌, ℕ, List, [], ◌∷◌, length, take, drop, Bool, true, false, ◌&&◌, ◌==◌, nat_lt, nat_le, slice_index, Option, Some, None, codes, if◌then◌else◌}
+use Rattle.std.specs.Prelude.{◌≡◌, ℕ, List, [], ◌∷◌, length, take, drop, Bool, true, false, nat_le, Option, Some, None, codes, if◌then◌else◌}
 use Rattle.std.specs.Char.{is_ascii_digit}
-use Rattle.std.specs.Fmt.{decimal}
 use Rattle.std.specs.List.{prefix_len}
 use Rattle.std.specs.Option.{option_map}
 use Rattle.std.specs.Str.{bytes_eq}
-use Rattle.std.specs.Str.Parse.{digits_value}
+use Rattle.amqp_types.specs.Numerals.{number_named}
 use Rattle.amqp_types.specs.Reading.{Reading, ◌>>=◌}
-use Rattle.amqp_frame.specs.declared.frame_type.AMQPFrameType.{AMQPFrameType}
-use Rattle.amqp_frame.specs.declared.frame_type.AMQPFrameType.TheVariants as kinds
+use Rattle.amqp_wire.specs.declared.frame_type.AMQPFrameType.{AMQPFrameType}
+use Rattle.amqp_wire.specs.declared.frame_type.AMQPFrameType.TheVariants as kinds
 use Rattle.amqp_select.specs.declared.rule.Span.{Span}
 use Rattle.amqp_select.specs.declared.rule.Span.TheVariants as spans
 use Rattle.amqp_select.specs.declared.rule.Rule.{Rule}
@@ -30,23 +29,13 @@ or_else (Some rest) a others = Some (a, rest)
 abbrev pub read_verb : List ℕ → Reading Bool
 read_verb bytes = or_else (after (codes "keep") bytes) true (or_else (after (codes "drop") bytes) false None)
 
--- the number up to 65535 that is printed so, in decimal digits without a leading zero
-unfoldable pub number_named : List ℕ → Option ℕ
-number_named digits =
-    let n = digits_value 10 digits in
-    if bytes_eq digits (decimal n) && nat_le n 65535 then Some n else None
-
--- no number is printed with a zero in front and more after it
-abbrev pub has_leading_zero : List ℕ → Bool
-has_leading_zero digits = nat_lt 1 (length digits) && (slice_index digits 0 == 48)
-
 -- the number of digits in front
 abbrev pub digits_in_front : List ℕ → ℕ
 digits_in_front bytes = prefix_len is_ascii_digit bytes
 
--- the number that the digits in front name
+-- the number up to 65535 that the digits in front name, without a leading zero
 abbrev pub read_count : List ℕ → Reading ℕ
-read_count bytes = option_map (λ n. (n, drop (digits_in_front bytes) bytes)) (number_named (take (digits_in_front bytes) bytes))
+read_count bytes = option_map (λ n. (n, drop (digits_in_front bytes) bytes)) (number_named 65535 (take (digits_in_front bytes) bytes))
 
 -- a range up to the number that was read, which is no less than its first
 abbrev pub range_to : ℕ → Reading ℕ → Reading Span

@@ -1,8 +1,8 @@
 -- Rules, and the one word that stands for each.
 use Rattle.std.specs.Prelude.{ℕ, ◌≤◌, List, [], ◌++◌, Bool, true, false, Option, Some, None, codes, IfSome}
 use Rattle.std.specs.Fmt.{decimal}
-use Rattle.amqp_frame.specs.declared.frame_type.AMQPFrameType.{AMQPFrameType}
-use Rattle.amqp_frame.specs.declared.frame_type.AMQPFrameType.TheVariants as kinds
+use Rattle.amqp_wire.specs.declared.frame_type.AMQPFrameType.{AMQPFrameType}
+use Rattle.amqp_wire.specs.declared.frame_type.AMQPFrameType.TheVariants as kinds
 use Rattle.amqp_select.specs.declared.rule.Span.{Span}
 use Rattle.amqp_select.specs.declared.rule.Span.TheVariants as spans
 use Rattle.amqp_select.specs.declared.rule.Rule.{Rule}

@@ -3,10 +3,12 @@
 ghost use Rattle.std.specs.Prelude.{◌≡◌, codes};
 ghost use Rattle.std.specs.Option.{option_copied};
 ghost use Rattle.std.specs.Str.Parse.{AllDigits};
-ghost use Rattle.amqp_select.specs.Reading.{Gives, after, at_end, digits_in_front, has_leading_zero, number_named, read_kind, read_count, read_part, read_rule, read_span, read_verb};
+ghost use Rattle.amqp_types.specs.Numerals.{number_named};
+ghost use Rattle.amqp_select.specs.Reading.{Gives, after, at_end, digits_in_front, read_kind, read_count, read_part, read_rule, read_span, read_verb};
 
 use crate::rule::{Rule, Span};
-use amqp_frame::AMQPFrameType;
+use amqp_types::parse_decimal;
+use amqp_wire::AMQPFrameType;
 use std::str;
 
 /// What stands after this text, where it stands in front.
@@ -37,25 +39,16 @@ fn count_digits(bytes: &[u8]) -> usize
         .count()
 }
 
-/// Whether a zero stands in front, and more after it.
-fn has_leading_zero(digits: &[u8]) -> bool
-    ensures { result ≡ has_leading_zero digits.now }
-{
-    digits.len() > 1 && digits[0] == b'0'
-}
-
 /// The number that digits without a leading zero name, up to 65,535.
 fn number_of(digits: &[u8]) -> Option<u16>
     requires { AllDigits 10 digits.now }
-    ensures { result ≡ number_named digits.now }
+    ensures { result ≡ number_named 65535 digits.now }
 {
-    if has_leading_zero(digits) {
-        return None;
-    }
     let Ok(text) = str::from_utf8(digits) else {
         return None;
     };
-    text.parse::<u16>().ok()
+    let number = parse_decimal(text, u16::MAX as u32)?;
+    Some(number as u16)
 }
 
 /// A number.

@@ -4,8 +4,8 @@ ghost use Rattle.std.specs.Prelude.{◌≡◌, true, IsTrue};
 ghost use Rattle.amqp_select.specs.Matching.{contains, has_class, has_method, is_of_kind};
 ghost use Rattle.amqp_select.specs.Covering.{ends, includes};
 
-use amqp_frame::{AMQPFrameType, FrameOutline};
 use amqp_types::{ChannelId, Identifier};
+use amqp_wire::{AMQPFrameType, FrameOutline};
 
 /// The channels that a rule speaks of.
 #[derive(Clone, Copy, Debug, PartialEq, Eq)]
@@ -105,7 +105,7 @@ fn has_method(id: Identifier, outline: FrameOutline) -> bool
 impl Rule {
     ghost use Rattle.amqp_select.specs.Matching.{matches};
     ghost use Rattle.amqp_select.specs.Covering.{covers};
-    ghost use Rattle.amqp_frame.specs.declared.outline.FrameOutline.{FrameOutline};
+    ghost use Rattle.amqp_wire.specs.declared.outline.FrameOutline.{FrameOutline};
 
     /// Whether each part holds for the frame.
     pub fn matches(&self, outline: FrameOutline) -> bool

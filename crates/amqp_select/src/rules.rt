@@ -2,9 +2,7 @@
 
 ghost use Rattle.std.specs.Prelude.{◌≡◌, ◌<◌, Err, length, position, IfOk, IfSome};
 ghost use Rattle.std.specs.Option.{option_copied};
-ghost use Rattle.amqp_frame.specs.Frames.{frame_of};
-ghost use Rattle.amqp_frame.specs.Outlines.{outline_of};
-ghost use Rattle.amqp_frame.specs.declared.outline.FrameOutline.{FrameOutline};
+ghost use Rattle.amqp_wire.specs.declared.outline.FrameOutline.{FrameOutline};
 ghost use Rattle.amqp_select.specs.Matching.{decides, first_match};
 ghost use Rattle.amqp_select.specs.Covering.{covered, covers, uncovered};
 ghost use Rattle.amqp_select.specs.Refusals.{IsCount, ParsesRules, ParsesItems, texts_of};
@@ -12,8 +10,8 @@ ghost use Rattle.amqp_select.specs.Refusals.{IsCount, ParsesRules, ParsesItems, 
 use crate::errors::RuleError;
 use crate::parsing::read_rule;
 use crate::rule::Rule;
-use amqp_frame::{AMQPFrame, FrameOutline};
 use amqp_types::NoMemory;
+use amqp_wire::{FrameOutline, HasOutline};
 use std::alloc::Global;
 use std::marker::Model;
 
@@ -54,11 +52,12 @@ impl Rules {
         self.rules.len()
     }
 
-    /// Whether a frame is kept.
-    pub fn decide(&self, frame: &AMQPFrame) -> bool
-        ensures { result ≡ decides self.now (outline_of (frame_of frame.now)) }
+    /// Whether a frame is kept, typed or borrowed, or a reference to one.
+    pub fn decide<F: HasOutline>(&self, frame: F) -> bool
+        requires { F.is_whole frame }
+        ensures { result ≡ decides self.now (F.meaning frame) }
     {
-        self.decide_outline(frame.outline())
+        self.decide_outline(frame.to_outline())
     }
 
     /// Whether a frame with this outline is kept.

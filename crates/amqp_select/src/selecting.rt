@@ -3,19 +3,19 @@
 ghost use Rattle.std.specs.Prelude.{◌≡◌, ◌≢◌, ◌⊎◌, ℕ, List, Some, Ok, Err};
 ghost use Rattle.amqp_types.specs.Levels.{plain};
 ghost use Rattle.amqp_stream.specs.Transcribing.{Transcribes, TranscribesExactly, NeverBegan, IsValid, NoFaults, IsOkOrNoMemory};
-ghost use Rattle.amqp_frame.specs.Frames.{Frame, raw_of};
-ghost use Rattle.amqp_frame.specs.Outlines.{outline_of};
-ghost use Rattle.amqp_frame.specs.Verdicts.{whole};
+ghost use Rattle.amqp_wire.specs.Frames.{Frame, raw_of};
+ghost use Rattle.amqp_wire.specs.Outlines.{outline_of};
+ghost use Rattle.amqp_wire.specs.Verdicts.{whole};
 ghost use Rattle.amqp_select.specs.Matching.{decides};
 ghost use Rattle.amqp_select.specs.Selecting.{selection};
 
 use crate::rules::Rules;
-use amqp_frame::{AMQPRawFrame, judge_frame, outline_front};
 use amqp_stream::{
     FrameWriter, OutputBuffer, RunError, Sink, Source, StreamError, as_run, canonicalize,
     payload_error, run_stream, unrefused, write_canonical,
 };
 use amqp_types::ChunkSize;
+use amqp_wire::{AMQPRawFrame, judge_frame, outline_front};
 use std::alloc::Global;
 use std::convert::Infallible;
 

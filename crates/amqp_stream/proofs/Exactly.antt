@@ -3,11 +3,11 @@ use Rattle.std.proofs.Common.{◌≡◌, ◌≢◌, ℕ, ◌<◌, List, [], ◌�
 use Rattle.std.proofs.lemmas.List.{length-append}
 use Rattle.amqp_types.specs.Levels.{Level}
 use Rattle.amqp_types.specs.Judging.{Fault, Judged, past, fault}
-use Rattle.amqp_frame.specs.Frames.{Frame}
-use Rattle.amqp_frame.specs.Verdicts.{verdict}
-use Rattle.amqp_frame.specs.Fronts.{front, place}
-use Rattle.amqp_frame.proofs.Cuts.{verdict-none}
-use Rattle.amqp_frame.proofs.Sequences.{splits_of, place_fault, front_fault, sequence_place}
+use Rattle.amqp_wire.specs.Frames.{Frame}
+use Rattle.amqp_wire.specs.Verdicts.{verdict}
+use Rattle.amqp_wire.specs.Fronts.{front, place}
+use Rattle.amqp_wire.proofs.Cuts.{verdict-none}
+use Rattle.amqp_wire.proofs.Sequences.{splits_of, place_fault, front_fault, sequence_place}
 use Rattle.amqp_stream.specs.declared.errors.StreamError.{StreamError}
 use Rattle.amqp_stream.specs.declared.errors.StreamError.TheVariants as errors
 use Rattle.amqp_stream.specs.Errors.{error_for, faulty, cut_short, turns_spent, read_failed, write_failed, out_of_memory, cause_of}

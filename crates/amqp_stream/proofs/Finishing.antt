@@ -4,12 +4,12 @@ use Rattle.std.proofs.lemmas.List.{take_at, length-append, nil_from_length}
 use Rattle.amqp_types.specs.Levels.{Level}
 use Rattle.amqp_types.specs.Judging.{Fault, unknown_frame_type, bad_protocol_header, too_large, bad_frame_end, not_tidy, past, fault, took, IsBytes}
 use Rattle.amqp_types.proofs.Bytes.{IsBytes-take}
-use Rattle.amqp_frame.specs.Frames.{Raw, Frame}
-use Rattle.amqp_frame.specs.Outer.{outer}
-use Rattle.amqp_frame.specs.Verdicts.{verdict, judged}
-use Rattle.amqp_frame.specs.Fronts.{front, place}
-use Rattle.amqp_frame.proofs.Cuts.{IsStop, front-stop, front-got, front-none, place-none, stop-none, verdict-more, verdict-bad, verdict-whole}
-use Rattle.amqp_frame.proofs.Sequences.{sequence_of_all}
+use Rattle.amqp_wire.specs.Frames.{Raw, Frame}
+use Rattle.amqp_wire.specs.Outer.{outer}
+use Rattle.amqp_wire.specs.Verdicts.{verdict, judged}
+use Rattle.amqp_wire.specs.Fronts.{front, place}
+use Rattle.amqp_wire.proofs.Cuts.{IsStop, front-stop, front-got, front-none, place-none, stop-none, verdict-more, verdict-bad, verdict-whole}
+use Rattle.amqp_wire.proofs.Sequences.{sequence_of_all}
 use Rattle.amqp_stream.specs.declared.errors.ReadError.{ReadError}
 use Rattle.amqp_stream.specs.declared.errors.ReadError.TheVariants as reads
 use Rattle.amqp_stream.specs.declared.errors.RunError.{RunError}

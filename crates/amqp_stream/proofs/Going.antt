@@ -4,16 +4,16 @@ use Rattle.std.proofs.lemmas.List.{length-append, length-drop, take-append-drop}
 use Rattle.std.proofs.Math.Nat.{mul-le-mul_right}
 use Rattle.amqp_types.specs.Levels.{Level}
 use Rattle.amqp_types.specs.Judging.{took, IsBytes}
-use Rattle.amqp_frame.specs.declared.frame_type.AMQPFrameType.{AMQPFrameType}
-use Rattle.amqp_frame.specs.declared.frame_type.AMQPFrameType.TheVariants as kinds
-use Rattle.amqp_frame.specs.declared.looking.FrameLayout.{FrameLayout}
-use Rattle.amqp_frame.specs.Frames.{Raw, Frame}
-use Rattle.amqp_frame.specs.Outer.{outer}
-use Rattle.amqp_frame.specs.Looks.{laid_out}
-use Rattle.amqp_frame.specs.Fronts.{front, ComesBefore}
-use Rattle.amqp_frame.proofs.OuterLook.{outer-in_bounds}
-use Rattle.amqp_frame.proofs.Encoded.{outer-beside}
-use Rattle.amqp_frame.proofs.Cuts.{ComesBefore-none, ComesBefore-more, verdict-whole}
+use Rattle.amqp_wire.specs.declared.frame_type.AMQPFrameType.{AMQPFrameType}
+use Rattle.amqp_wire.specs.declared.frame_type.AMQPFrameType.TheVariants as kinds
+use Rattle.amqp_wire.specs.declared.looking.FrameLayout.{FrameLayout}
+use Rattle.amqp_wire.specs.Frames.{Raw, Frame}
+use Rattle.amqp_wire.specs.Outer.{outer}
+use Rattle.amqp_wire.specs.Looks.{laid_out}
+use Rattle.amqp_wire.specs.Fronts.{front, ComesBefore}
+use Rattle.amqp_wire.proofs.OuterLook.{outer-in_bounds}
+use Rattle.amqp_wire.proofs.Encoded.{outer-beside}
+use Rattle.amqp_wire.proofs.Cuts.{ComesBefore-none, ComesBefore-more, verdict-whole}
 use Rattle.amqp_stream.specs.declared.source.SourceFault.{SourceFault}
 use Rattle.amqp_stream.specs.Ends.{Supply, Store, Takes, Gains}
 use Rattle.amqp_stream.specs.Reading.{ReadsMore, Lies}

@@ -13,13 +13,14 @@ use Rattle.amqp_types.specs.Values.{FieldValue, Entry, boolean_value}
 use Rattle.amqp_types.specs.ValueJudging.{read_map, next_item, filled, took_all, judge_entry, judge_table, judge_behind, judge_tagged, nested, judge_value, judge_field_table}
 use Rattle.amqp_types.specs.Settling.{settled}
 use Rattle.amqp_types.specs.Slots.{Item, number_item, flag_item, text_item, entries_item, number_form, flags_form, short_string_form, table_form, Slot, kept_slot, reserved_slot}
-use Rattle.amqp_types.specs.SlotJudging.{judge_form, judge_dropped, judge_slot, judge_slots}
+use Rattle.amqp_types.specs.SlotJudging.{judge_form, judge_dropped, judge_slots}
 use Rattle.amqp_types.specs.Rows.{rows_of, slots_at}
 use Rattle.amqp_types.specs.Methods.{Method, method, judge_method, judge_in_class, judge_payload}
 use Rattle.amqp_types.specs.MethodSpelling.{SpellsPayload}
-use Rattle.amqp_values.proofs.MethodLaws.{payloads_lawful}
-use Rattle.amqp_frame.specs.Frames.{Frame, Meth, Body, Beat}
-use Rattle.amqp_frame.specs.Spelling.{Spells}
+use Rattle.amqp_laws.proofs.SlotLaws.{slot_then}
+use Rattle.amqp_laws.proofs.MethodLaws.{payloads_lawful}
+use Rattle.amqp_wire.specs.Frames.{Frame, Meth, Body, Beat}
+use Rattle.amqp_wire.specs.Spelling.{Spells}
 use Rattle.amqp_stream.specs.Made.{made_channel, made_payload, made_frame, select_payload, declare_payload, MadeIsASequence}
 use Rattle.amqp_stream.proofs.MadeSequences.{made_sequence}
 
@@ -95,11 +96,6 @@ name_judged : judge_short_string (0 ∷ 255 ∷ table_bytes) ≡ took [] 1
 unfolding judge_short_string
 name_judged = text_judged [] 1 (is_utf8-from_IsUtf8 [] (IsUtf8-from_ascii [] (search rules)))
 
-slot_judged : (slot : Slot) (slots : List Slot) (bytes : List ℕ) (xs ys : List Item) (n m : ℕ) → judge_slot slot bytes ≡ took xs n → judge_slots slots (drop n bytes) ≡ took ys m → judge_slots (slot ∷ slots) bytes ≡ took (xs ++ ys) (n + m)
-unfolding judge_slots
-slot_judged slot slots bytes xs ys n m one others =
-    ap (λ j. j >>= λ x. judge_slots slots (drop x.1 bytes) >>= λ y. took (x.0 ++ y.0) (x.1 + y.1)) one ∙ ap (λ j. j >>= λ y. took (xs ++ y.0) (n + y.1)) others
-
 abbrev flags : List Item
 flags = flag_item true ∷ flag_item true ∷ flag_item true ∷ flag_item true ∷ flag_item true ∷ []
 
@@ -123,19 +119,19 @@ unused = reserved_slot (number_form bytes2) (number_item 0 ∷ [])
 
 table_slots_judged : judge_slots table_slots table_bytes ≡ took from_table 12
 unfolding judge_slots judge_form
-table_slots_judged = slot_judged (kept_slot table_form) [] table_bytes from_table [] 12 0 (ap (λ j. j >>= λ es. took (entries_item es.0 ∷ []) es.1) table_judged) refl
+table_slots_judged = slot_then (kept_slot table_form) [] table_bytes from_table [] 12 0 (ap (λ j. j >>= λ es. took (entries_item es.0 ∷ []) es.1) table_judged) refl
 
 flags_slots_judged : judge_slots flags_slots (255 ∷ table_bytes) ≡ took (flags ++ from_table) 13
 unfolding judge_form judge_flags
-flags_slots_judged = slot_judged (kept_slot (flags_form 5)) table_slots (255 ∷ table_bytes) flags from_table 1 12 refl table_slots_judged
+flags_slots_judged = slot_then (kept_slot (flags_form 5)) table_slots (255 ∷ table_bytes) flags from_table 1 12 refl table_slots_judged
 
 name_slots_judged : judge_slots name_slots (0 ∷ 255 ∷ table_bytes) ≡ took (text_item [] ∷ flags ++ from_table) 14
 unfolding judge_form
-name_slots_judged = slot_judged (kept_slot short_string_form) flags_slots (0 ∷ 255 ∷ table_bytes) (text_item [] ∷ []) (flags ++ from_table) 1 13 (ap (λ j. j >>= λ text. took (text_item text.0 ∷ []) text.1) name_judged) flags_slots_judged
+name_slots_judged = slot_then (kept_slot short_string_form) flags_slots (0 ∷ 255 ∷ table_bytes) (text_item [] ∷ []) (flags ++ from_table) 1 13 (ap (λ j. j >>= λ text. took (text_item text.0 ∷ []) text.1) name_judged) flags_slots_judged
 
 slots_judged : judge_slots (unused ∷ name_slots) (0 ∷ 9 ∷ 0 ∷ 255 ∷ table_bytes) ≡ took declare.items 16
 unfolding judge_form judge_dropped
-slots_judged = slot_judged unused name_slots (0 ∷ 9 ∷ 0 ∷ 255 ∷ table_bytes) [] (text_item [] ∷ flags ++ from_table) 2 14 refl name_slots_judged
+slots_judged = slot_then unused name_slots (0 ∷ 9 ∷ 0 ∷ 255 ∷ table_bytes) [] (text_item [] ∷ flags ++ from_table) 2 14 refl name_slots_judged
 
 declare_judged : judge_payload declare_payload ≡ took declare 20
 unfolding judge_payload judge_in_class judge_method rows_of slots_at

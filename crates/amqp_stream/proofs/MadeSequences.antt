@@ -1,8 +1,8 @@
 -- The generated stream is a sequence of frames.
 use Rattle.std.proofs.Common.{ℕ, zero, suc, ◌+◌, [], ◌∷◌, refl, arith}
 use Rattle.amqp_types.specs.Levels.{plain}
-use Rattle.amqp_frame.specs.Frames.{Frame}
-use Rattle.amqp_frame.specs.Spelling.{Spells}
+use Rattle.amqp_wire.specs.Frames.{Frame}
+use Rattle.amqp_wire.specs.Spelling.{Spells}
 use Rattle.amqp_stream.specs.Made.{made_frame, made_from, IsSequenceOf}
 use Rattle.amqp_stream.proofs.MadeSizes.{made_frame-short}
 

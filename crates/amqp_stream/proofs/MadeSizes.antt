@@ -4,7 +4,7 @@ use Rattle.std.specs.Prelude.{◌==◌, if◌then◌else◌}
 use Rattle.std.proofs.lemmas.List.{length-append}
 use Rattle.std.proofs.lemmas.Bool.{cases_lt}
 use Rattle.std.proofs.lemmas.Bool.Decides.{nat_tests}
-use Rattle.amqp_frame.proofs.Sizes.{framed_length}
+use Rattle.amqp_wire.proofs.Sizes.{framed_length}
 use Rattle.amqp_stream.specs.Made.{made_frame, made_from, made, made_channel, made_payload, select_payload, declare_payload, most_frames}
 
 -- the length of a frame, by its number modulo 4

@@ -1,6 +1,6 @@
 -- From state to state of a writer: what is written for frames one after another.
 use Rattle.std.proofs.Common.{◌≡◌, ℕ, List, [], ◌∷◌, ◌++◌, Some, None, Result, Ok, Err, refl, sym, ap, ◌∙◌, append_assoc, append-nil}
-use Rattle.amqp_frame.specs.Frames.{Frame}
+use Rattle.amqp_wire.specs.Frames.{Frame}
 use Rattle.amqp_stream.specs.Steps.{Manner, text_at, text, refused_at, refused, state_at, state}
 
 -- Whatever follows, these bytes are written for the frames, and the writer is in the state t after them.

@@ -2,12 +2,12 @@
 use Rattle.std.proofs.Common.{◌≡◌, ◌≢◌, ℕ, ◌+◌, ◌-◌, ◌^◌, ◌<◌, ◌≤◌, List, [], ◌++◌, length, drop, Option, Some, None, Result, Ok, Err, refl, sym, ap, subst, ◌∙◌, arith, append_assoc, append-nil}
 use Rattle.std.proofs.lemmas.List.{length-append, length-drop, nil_from_length}
 use Rattle.amqp_types.specs.Judging.{Fault, Judged, past, fault, took, IsBytes}
-use Rattle.amqp_frame.specs.Frames.{Raw, raw_of}
-use Rattle.amqp_frame.specs.Outer.{outer}
-use Rattle.amqp_frame.proofs.OuterLook.{outer-none, outer-past_few}
-use Rattle.amqp_frame.specs.Looks.{laid_out}
-use Rattle.amqp_frame.specs.declared.looking.FrameLayout.{FrameLayout}
-use Rattle.amqp_frame.specs.declared.raw_frame.AMQPRawFrame.{AMQPRawFrame}
+use Rattle.amqp_wire.specs.Frames.{Raw, raw_of}
+use Rattle.amqp_wire.specs.Outer.{outer}
+use Rattle.amqp_wire.proofs.OuterLook.{outer-none, outer-past_few}
+use Rattle.amqp_wire.specs.Looks.{laid_out}
+use Rattle.amqp_wire.specs.declared.looking.FrameLayout.{FrameLayout}
+use Rattle.amqp_wire.specs.declared.raw_frame.AMQPRawFrame.{AMQPRawFrame}
 use Rattle.amqp_stream.specs.declared.source.SourceFault.{SourceFault}
 use Rattle.amqp_stream.specs.declared.errors.ReadError.{ReadError}
 use Rattle.amqp_stream.specs.declared.errors.ReadError.TheVariants as errors

@@ -4,9 +4,9 @@ use Rattle.std.proofs.lemmas.List.{length-append, length-take-le, take_at}
 use Rattle.amqp_types.specs.Judging.{Fault}
 use Rattle.amqp_types.specs.Writing.{Puts, written}
 use Rattle.amqp_types.specs.declared.errors.ParserError.{ParserError}
-use Rattle.amqp_frame.specs.Frames.{Frame}
-use Rattle.amqp_frame.specs.Canonical.{canon}
-use Rattle.amqp_frame.specs.Rewrites.{Rewrites}
+use Rattle.amqp_wire.specs.Frames.{Frame}
+use Rattle.amqp_wire.specs.Canonical.{canon}
+use Rattle.amqp_wire.specs.Rewrites.{Rewrites}
 use Rattle.amqp_stream.specs.Buffers.{AddsAt}
 
 pub written_front : (buf : List ℕ) (at : ℕ) (bytes : List ℕ) → at + length bytes ≤ length buf → take (at + length bytes) (written buf at bytes) ≡ take at buf ++ bytes

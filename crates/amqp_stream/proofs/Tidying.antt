@@ -5,10 +5,10 @@ use Rattle.amqp_types.specs.Judging.{Fault, not_tidy, fault}
 use Rattle.amqp_types.specs.Answers.{RefusesWhole}
 use Rattle.amqp_types.specs.declared.errors.ParserError.{ParserError}
 use Rattle.amqp_types.specs.declared.errors.ParserError.TheVariants as parses
-use Rattle.amqp_frame.specs.declared.frame_type.AMQPFrameType.TheVariants as kinds
-use Rattle.amqp_frame.specs.Frames.{Raw, Frame, beat_on}
-use Rattle.amqp_frame.specs.Verdicts.{IsPayloadError, whole, whole_as, is_at, is_tidy_as, judged_frame}
-use Rattle.amqp_frame.specs.Canonical.{canon}
+use Rattle.amqp_wire.specs.declared.frame_type.AMQPFrameType.TheVariants as kinds
+use Rattle.amqp_wire.specs.Frames.{Raw, Frame, beat_on}
+use Rattle.amqp_wire.specs.Verdicts.{IsPayloadError, whole, whole_as, is_at, is_tidy_as, judged_frame}
+use Rattle.amqp_wire.specs.Canonical.{canon}
 use Rattle.amqp_stream.specs.declared.errors.StreamError.{StreamError}
 use Rattle.amqp_stream.specs.declared.errors.StreamError.TheVariants as errors
 use Rattle.amqp_stream.specs.Errors.{Cause, faulty, cause_of}

@@ -3,11 +3,11 @@ use Rattle.std.proofs.Common.{◌≡◌, ◌≢◌, ℕ, List, [], ◌∷◌, �
 use Rattle.std.proofs.lemmas.List.{length-append}
 use Rattle.std.specs.List.{flat_map}
 use Rattle.amqp_types.specs.Levels.{Level}
-use Rattle.amqp_frame.specs.declared.frame_type.AMQPFrameType.{AMQPFrameType}
-use Rattle.amqp_frame.specs.Frames.{Frame}
-use Rattle.amqp_frame.specs.Canonical.{canon, canon_frames}
-use Rattle.amqp_frame.specs.Fronts.{front}
-use Rattle.amqp_frame.proofs.Strictness.{canon_front-short}
+use Rattle.amqp_wire.specs.declared.frame_type.AMQPFrameType.{AMQPFrameType}
+use Rattle.amqp_wire.specs.Frames.{Frame}
+use Rattle.amqp_wire.specs.Canonical.{canon, canon_frames}
+use Rattle.amqp_wire.specs.Fronts.{front}
+use Rattle.amqp_wire.proofs.Strictness.{canon_front-short}
 use Rattle.amqp_stream.specs.declared.errors.StreamError.{StreamError}
 use Rattle.amqp_stream.specs.declared.errors.StreamError.TheVariants as errors
 use Rattle.amqp_stream.specs.Errors.{error_for, Cause, faulty, cut_short, turns_spent, read_failed, write_failed, out_of_memory, cause_of}

@@ -1,11 +1,11 @@
 -- One iteration of the engine's loop, by what stands at the front of the held bytes: a fault, a frame, or neither.
 use Rattle.std.proofs.Common.{◌≡◌, ◌≢◌, ℕ, ◌+◌, ◌-◌, ◌*◌, ◌<◌, ◌≤◌, List, [], length, drop, Option, Some, None, Result, Ok, Err, IsTrue, sym, ap, ◌∙◌, arith}
 use Rattle.amqp_types.specs.Judging.{past, took}
-use Rattle.amqp_frame.specs.declared.looking.FrameLayout.{FrameLayout}
-use Rattle.amqp_frame.specs.Frames.{Raw}
-use Rattle.amqp_frame.specs.Outer.{outer}
-use Rattle.amqp_frame.specs.Looks.{laid_out}
-use Rattle.amqp_frame.proofs.OuterLook.{outer-none}
+use Rattle.amqp_wire.specs.declared.looking.FrameLayout.{FrameLayout}
+use Rattle.amqp_wire.specs.Frames.{Raw}
+use Rattle.amqp_wire.specs.Outer.{outer}
+use Rattle.amqp_wire.specs.Looks.{laid_out}
+use Rattle.amqp_wire.proofs.OuterLook.{outer-none}
 use Rattle.amqp_stream.specs.declared.errors.ReadError.{ReadError}
 use Rattle.amqp_stream.specs.declared.errors.StreamError.{StreamError}
 use Rattle.amqp_stream.specs.declared.errors.RunError.{RunError}

@@ -2,11 +2,11 @@
 use Rattle.std.proofs.Common.{◌≡◌, ◌≢◌, ℕ, ◌+◌, ◌-◌, List, [], ◌∷◌, ◌++◌, length, get_or, take, drop, Bool, true, false, Result, Ok, Err, refl, sym, ap, subst, ◌∙◌, arith, append_assoc, append-nil}
 use Rattle.std.proofs.lemmas.List.{take_rest, take-append-drop}
 use Rattle.std.proofs.Math.Seq.{take-add}
-use Rattle.amqp_frame.specs.declared.frame_type.AMQPFrameType.TheVariants as kinds
-use Rattle.amqp_frame.specs.Frames.{Raw, Frame, Body, Proto, beat_on}
-use Rattle.amqp_frame.specs.Verdicts.{IsPayloadError, whole, whole_as, is_at, judged_frame}
-use Rattle.amqp_frame.specs.Spelling.{framed, proto}
-use Rattle.amqp_frame.specs.Canonical.{canon}
+use Rattle.amqp_wire.specs.declared.frame_type.AMQPFrameType.TheVariants as kinds
+use Rattle.amqp_wire.specs.Frames.{Raw, Frame, Body, Proto, beat_on}
+use Rattle.amqp_wire.specs.Verdicts.{IsPayloadError, whole, whole_as, is_at, judged_frame}
+use Rattle.amqp_wire.specs.Spelling.{framed, proto}
+use Rattle.amqp_wire.specs.Canonical.{canon}
 use Rattle.amqp_types.specs.Levels.{Level}
 use Rattle.amqp_types.specs.Judging.{Fault, not_tidy, fault}
 use Rattle.amqp_types.specs.Answers.{RefusesWhole}
@@ -20,7 +20,7 @@ use Rattle.amqp_stream.specs.Writing.{payload_fault, WritesAll, WritesFrame, IsU
 use Rattle.amqp_stream.specs.Steps.{Manner}
 use Rattle.amqp_stream.specs.Streaming.{finished, stopped_by, ending_of, as_run, WritesBy}
 use Rattle.amqp_stream.proofs.Adding.{Rises-later, Gains-none, Gains-then}
-use Rattle.amqp_frame.proofs.Rewritten.{canon_beat}
+use Rattle.amqp_wire.proofs.Rewritten.{canon_beat}
 
 -- one more write
 pub Gains-more : (a b c : Store) (bytes : List ℕ) (done n : ℕ) → Gains a b (take done bytes) → Gains b c (take n (take (length bytes - done) (drop done bytes))) → Gains a c (take (done + n) bytes)

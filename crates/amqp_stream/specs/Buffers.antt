@@ -3,8 +3,8 @@ use Rattle.std.specs.Prelude.{◌≡◌, ℕ, List, ◌++◌, take, Result, Ok, 
 use Rattle.amqp_types.specs.Judging.{Fault}
 use Rattle.amqp_types.specs.Answers.{RefusesWhole}
 use Rattle.amqp_types.specs.declared.errors.ParserError.{ParserError}
-use Rattle.amqp_frame.specs.Frames.{Frame}
-use Rattle.amqp_frame.specs.Canonical.{canon}
+use Rattle.amqp_wire.specs.Frames.{Frame}
+use Rattle.amqp_wire.specs.Canonical.{canon}
 
 -- a buffer of so many bytes, and those that are pending in it
 pub record Buffered : Type 0 where

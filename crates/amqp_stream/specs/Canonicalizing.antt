@@ -1,8 +1,8 @@
 -- What canonicalizing a stream does.
 use Rattle.std.specs.Prelude.{ℕ, ◌≤◌, List, length, Some, Result}
 use Rattle.amqp_types.specs.Levels.{Level}
-use Rattle.amqp_frame.specs.Canonical.{canon_frames}
-use Rattle.amqp_frame.specs.Fronts.{front}
+use Rattle.amqp_wire.specs.Canonical.{canon_frames}
+use Rattle.amqp_wire.specs.Fronts.{front}
 use Rattle.amqp_stream.specs.declared.errors.StreamError.{StreamError}
 use Rattle.amqp_stream.specs.Ends.{Supply, Store}
 use Rattle.amqp_stream.specs.Transcribing.{Transcribes, TranscribesExactly}

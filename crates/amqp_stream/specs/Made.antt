@@ -1,8 +1,8 @@
 -- The stream that is generated: four frames in turn, of which the canonical encoding leaves only the second as it is.
 use Rattle.std.specs.Prelude.{◌≡◌, ℕ, zero, suc, ◌+◌, ◌%◌, ◌==◌, List, [], ◌∷◌, ◌++◌, length, Some, if◌then◌else◌}
 use Rattle.amqp_types.specs.Levels.{plain}
-use Rattle.amqp_frame.specs.Frames.{Frame}
-use Rattle.amqp_frame.specs.Spelling.{framed, SpellsFrames}
+use Rattle.amqp_wire.specs.Frames.{Frame}
+use Rattle.amqp_wire.specs.Spelling.{framed, SpellsFrames}
 use Rattle.amqp_types.specs.Constants.{method_byte, body_byte, heartbeat_byte}
 
 -- the most frames that are generated

@@ -1,8 +1,8 @@
 -- Manners of writing.
 use Rattle.std.specs.Prelude.{Bool, true, false, List, ℕ, None, Ok}
 use Rattle.amqp_types.specs.Levels.{Level}
-use Rattle.amqp_frame.specs.Canonical.{canon}
-use Rattle.amqp_frame.specs.Frames.{Frame}
+use Rattle.amqp_wire.specs.Canonical.{canon}
+use Rattle.amqp_wire.specs.Frames.{Frame}
 use Rattle.amqp_stream.specs.Steps.{Manner}
 
 -- At this level, bytes for each frame by itself. No frame is refused, the stream may end anywhere, and memory never runs out.

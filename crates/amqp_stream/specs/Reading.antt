@@ -1,11 +1,11 @@
 -- What a call of the reader does.
 use Rattle.std.specs.Prelude.{◌≡◌, ◌≢◌, ℕ, ◌+◌, ◌-◌, ◌^◌, ◌<◌, ◌≤◌, List, [], ◌++◌, length, drop, Option, Some, None, Result, Ok, Err, IfOk, OnErr, IsErrAnd}
 use Rattle.amqp_types.specs.Judging.{Fault, unknown_frame_type, bad_protocol_header, too_large, bad_frame_end, past, fault, took, IsBytes}
-use Rattle.amqp_frame.specs.Frames.{raw_of}
-use Rattle.amqp_frame.specs.Outer.{outer}
-use Rattle.amqp_frame.specs.Looks.{laid_out}
-use Rattle.amqp_frame.specs.declared.looking.FrameLayout.{FrameLayout}
-use Rattle.amqp_frame.specs.declared.raw_frame.AMQPRawFrame.{AMQPRawFrame}
+use Rattle.amqp_wire.specs.Frames.{raw_of}
+use Rattle.amqp_wire.specs.Outer.{outer}
+use Rattle.amqp_wire.specs.Looks.{laid_out}
+use Rattle.amqp_wire.specs.declared.looking.FrameLayout.{FrameLayout}
+use Rattle.amqp_wire.specs.declared.raw_frame.AMQPRawFrame.{AMQPRawFrame}
 use Rattle.amqp_stream.specs.declared.errors.ReadError.{ReadError}
 use Rattle.amqp_stream.specs.declared.errors.ReadError.TheVariants as errors
 use Rattle.amqp_stream.specs.declared.source.SourceFault.{SourceFault}

@@ -1,8 +1,8 @@
 -- What a writer writes for frames, one after another.
 use Rattle.std.specs.Prelude.{ℕ, Bool, List, [], ◌∷◌, ◌++◌, Option, Some, None, Result, Ok, Err}
 use Rattle.amqp_types.specs.Levels.{Level}
-use Rattle.amqp_frame.specs.declared.frame_type.AMQPFrameType.{AMQPFrameType}
-use Rattle.amqp_frame.specs.Frames.{Frame}
+use Rattle.amqp_wire.specs.declared.frame_type.AMQPFrameType.{AMQPFrameType}
+use Rattle.amqp_wire.specs.Frames.{Frame}
 
 -- How a writer writes. It reads frames at a level. A step gives the bytes for a frame and the next state, or why the frame is refused.
 -- A stream may not end in some states, and `end` says why. Memory may run out at frames of the types in `wants`. After a frame that a

@@ -1,10 +1,10 @@
 -- What it is to write for each frame of a stream, one after another.
 use Rattle.std.specs.Prelude.{◌≡◌, ◌⊎◌, ℕ, ◌+◌, ◌≤◌, true, List, [], ◌∷◌, ◌++◌, length, Option, Some, None, Result, Ok, Err, IsTrue}
 use Rattle.amqp_types.specs.Judging.{not_tidy, IsBytes}
-use Rattle.amqp_frame.specs.Frames.{Raw, Frame}
-use Rattle.amqp_frame.specs.Outer.{BeginsWith}
-use Rattle.amqp_frame.specs.Verdicts.{whole, is_at}
-use Rattle.amqp_frame.specs.Fronts.{front}
+use Rattle.amqp_wire.specs.Frames.{Raw, Frame}
+use Rattle.amqp_wire.specs.Outer.{BeginsWith}
+use Rattle.amqp_wire.specs.Verdicts.{whole, is_at}
+use Rattle.amqp_wire.specs.Fronts.{front}
 use Rattle.amqp_stream.specs.declared.errors.StreamError.{StreamError}
 use Rattle.amqp_stream.specs.declared.errors.StreamError.TheVariants as errors
 use Rattle.amqp_stream.specs.declared.errors.RunError.{RunError}

@@ -4,11 +4,11 @@ use Rattle.amqp_types.specs.Levels.{Level, plain, tidy, strict}
 use Rattle.amqp_types.specs.Judging.{Fault, not_tidy, fault, took}
 use Rattle.amqp_types.specs.declared.errors.ParserError.{ParserError}
 use Rattle.amqp_types.specs.declared.errors.ParserError.TheVariants as parser_errors
-use Rattle.amqp_frame.specs.declared.frame_type.AMQPFrameType.{AMQPFrameType}
-use Rattle.amqp_frame.specs.declared.frame_type.AMQPFrameType.TheVariants as kinds
-use Rattle.amqp_frame.specs.Frames.{Raw, Frame}
-use Rattle.amqp_frame.specs.Verdicts.{whole, is_at, judged}
-use Rattle.amqp_frame.specs.Canonical.{canon}
+use Rattle.amqp_wire.specs.declared.frame_type.AMQPFrameType.{AMQPFrameType}
+use Rattle.amqp_wire.specs.declared.frame_type.AMQPFrameType.TheVariants as kinds
+use Rattle.amqp_wire.specs.Frames.{Raw, Frame}
+use Rattle.amqp_wire.specs.Verdicts.{whole, is_at, judged}
+use Rattle.amqp_wire.specs.Canonical.{canon}
 use Rattle.amqp_stream.specs.declared.errors.StreamError.{StreamError}
 use Rattle.amqp_stream.specs.declared.errors.StreamError.TheVariants as errors
 use Rattle.amqp_stream.specs.declared.sink.SinkFault.{SinkFault}

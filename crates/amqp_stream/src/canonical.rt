@@ -8,7 +8,7 @@ use crate::frame_writer::FrameWriter;
 use crate::output::{push_tidy, write_canonical};
 use crate::output_buffer::OutputBuffer;
 use crate::sink::Sink;
-use amqp_frame::{AMQPFrameType, AMQPRawFrame};
+use amqp_wire::{AMQPFrameType, AMQPRawFrame};
 use std::convert::Infallible;
 
 /// The result of a stream, as one of a run.

@@ -1,7 +1,7 @@
 //! What is written for each frame of a stream.
 
 ghost use Rattle.std.specs.Prelude.{◌≡◌, ◌+◌, ◌^◌, ◌<◌, ◌≤◌, length, IfOk, IsTrue};
-ghost use Rattle.amqp_frame.specs.Frames.{raw_of};
+ghost use Rattle.amqp_wire.specs.Frames.{raw_of};
 ghost use Rattle.amqp_stream.specs.Writing.{frame_length};
 ghost use Rattle.amqp_stream.specs.Steps.{Manner};
 ghost use Rattle.amqp_stream.specs.Streaming.{WritesBy, ending_of, end_result};
@@ -9,7 +9,7 @@ ghost use Rattle.amqp_stream.specs.Streaming.{WritesBy, ending_of, end_result};
 use crate::errors::RunError;
 use crate::output_buffer::OutputBuffer;
 use crate::sink::Sink;
-use amqp_frame::AMQPRawFrame;
+use amqp_wire::AMQPRawFrame;
 
 /// What is written for the frames of a stream, one after another. What contracts see of a writer is
 /// its state between two frames.

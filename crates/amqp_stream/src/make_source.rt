@@ -9,8 +9,8 @@ ghost use Rattle.amqp_stream.specs.Scripts.{faultless};
 
 use crate::buffer::Span;
 use crate::source::{Source, SourceFault};
-use amqp_frame::put_framed;
 use amqp_types::{ChannelId, FRAME_BODY, FRAME_HEARTBEAT, FRAME_METHOD, put_bytes};
+use amqp_wire::put_framed;
 use std::marker::Model;
 
 /// The length of the longest frame.
@@ -25,7 +25,7 @@ const DECLARE: [u8; 20] = [
 ];
 
 /// Puts the frame of this number at the front, and returns its length.
-#[tactic(auto, using(amqp_frame::proofs::Sizes::framed_length), unfolding(crate::specs::Made::made_frame))]
+#[tactic(auto, using(amqp_wire::proofs::Sizes::framed_length), unfolding(crate::specs::Made::made_frame))]
 fn put_made(buf: &mut [u8], number: u32) -> usize
     requires { LONGEST ≤ length buf.old }
     ensures { Puts buf.old buf.new 0 (made_frame number) result }

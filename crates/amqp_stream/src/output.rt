@@ -2,9 +2,9 @@
 
 ghost use Rattle.std.specs.Prelude.{◌≡◌, ◌+◌, ◌++◌, ◌^◌, ◌<◌, ◌≤◌, [], length, Ok};
 ghost use Rattle.amqp_types.specs.Levels.{tidy};
-ghost use Rattle.amqp_frame.specs.Frames.{raw_of, IsTyped};
-ghost use Rattle.amqp_frame.specs.Spelling.{framed};
-ghost use Rattle.amqp_frame.specs.Verdicts.{IsPayloadError};
+ghost use Rattle.amqp_wire.specs.Frames.{raw_of, IsTyped};
+ghost use Rattle.amqp_wire.specs.Spelling.{framed};
+ghost use Rattle.amqp_wire.specs.Verdicts.{IsPayloadError};
 ghost use Rattle.amqp_stream.specs.Writing.{WritesAll, WritesFrame, PutsTyped, Gathers, stream_result, payload_fault, frame_length};
 ghost use Rattle.amqp_stream.specs.Ends.{Store};
 ghost use Rattle.amqp_stream.specs.Streaming.{EndsWith};
@@ -13,11 +13,11 @@ ghost use Rattle.amqp_types.specs.Constants.{body_byte};
 use crate::errors::{RunError, StreamError};
 use crate::output_buffer::OutputBuffer;
 use crate::sink::{Sink, SinkFault};
-use amqp_frame::{
+use amqp_types::{ChannelId, FRAME_BODY, FRAME_END, ParserError};
+use amqp_wire::{
     AMQPFrameType, AMQPRawFrame, ProtocolVersion, frame_head, header_bytes, heartbeat_bytes,
     is_tidy,
 };
-use amqp_types::{ChannelId, FRAME_BODY, FRAME_END, ParserError};
 
 /// Bodies up to this size are pending with the small frames; larger ones are written from where they
 /// lie.
@@ -190,7 +190,7 @@ pub(crate) fn push_tidy(out: &mut OutputBuffer, raw: AMQPRawFrame<'_>) -> Result
 }
 
 /// Gathers the canonical bytes of a borrowed frame. A large body is written from where it lies.
-#[tactic(auto, unfolding(amqp_frame::specs::Verdicts::whole_as, amqp_frame::specs::Canonical::canon))]
+#[tactic(auto, unfolding(amqp_wire::specs::Verdicts::whole_as, amqp_wire::specs::Canonical::canon))]
 #[inline(always)]
 pub fn write_canonical<K: Sink>(
     out: &mut OutputBuffer,

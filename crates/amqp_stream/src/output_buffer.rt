@@ -1,13 +1,13 @@
 //! A buffer in which bytes are pending, to be written together.
 
 ghost use Rattle.std.specs.Prelude.{◌≡◌, ◌≢◌, ◌+◌, ◌++◌, ◌^◌, ◌<◌, ◌≤◌, [], length, take, Err, IfOk, IfErr};
-ghost use Rattle.amqp_frame.specs.Frames.{raw_of};
-ghost use Rattle.amqp_frame.specs.Spelling.{framed, head};
-ghost use Rattle.amqp_frame.specs.Verdicts.{IsPayloadError, whole};
+ghost use Rattle.amqp_wire.specs.Frames.{raw_of};
+ghost use Rattle.amqp_wire.specs.Spelling.{framed, head};
+ghost use Rattle.amqp_wire.specs.Verdicts.{IsPayloadError, whole};
 ghost use Rattle.amqp_stream.specs.Buffers.{Adds, AddsAt};
 
-use amqp_frame::{AMQPRawFrame, EntryMark, put_canonical};
 use amqp_types::{NoMemory, ParserError, put_bytes};
+use amqp_wire::{AMQPRawFrame, EntryMark, put_canonical};
 use std::alloc::Global;
 use std::marker::Model;
 

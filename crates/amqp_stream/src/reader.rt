@@ -3,8 +3,8 @@
 use crate::buffer::{Span, held_of, read_more};
 use crate::errors::ReadError;
 use crate::source::{Source, SourceFault};
-use amqp_frame::{AMQPRawFrame, FrameLayout, Look, look_at};
 use amqp_types::{ChunkSize, NoMemory};
+use amqp_wire::{AMQPRawFrame, FrameLayout, Look, look_at};
 use std::alloc::Global;
 use std::marker::Model;
 
@@ -34,9 +34,9 @@ impl FrameReader {
     ghost use Rattle.std.specs.Borrow.{sem};
     ghost use Rattle.std.specs.Io.BufRead.{Rests};
     ghost use Rattle.amqp_types.specs.Judging.{past, IsBytes};
-    ghost use Rattle.amqp_frame.specs.Frames.{raw_of};
-    ghost use Rattle.amqp_frame.specs.Outer.{outer};
-    ghost use Rattle.amqp_frame.specs.Looks.{laid_out};
+    ghost use Rattle.amqp_wire.specs.Frames.{raw_of};
+    ghost use Rattle.amqp_wire.specs.Outer.{outer};
+    ghost use Rattle.amqp_wire.specs.Looks.{laid_out};
     ghost use Rattle.amqp_stream.specs.contracts.reader.FrameReader.{the_row};
     ghost use Rattle.amqp_stream.specs.Reading.{ReadsMore, PullsTo, Lies, LiesIn, Finds, HasNext, Returns};
 

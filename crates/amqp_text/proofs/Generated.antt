@@ -6,16 +6,16 @@ use Rattle.amqp_types.specs.Methods.{payload_bytes}
 use Rattle.amqp_types.specs.PropertyBytes.{any_long_option}
 use Rattle.amqp_types.specs.ContentHeaders.{content_header_bytes}
 use Rattle.amqp_types.specs.Sizes.{measured}
-use Rattle.amqp_values.proofs.SlotLaws.{either}
-use Rattle.amqp_values.proofs.MethodLaws.{payload_held}
-use Rattle.amqp_properties.proofs.HeaderLaws.{header_held}
-use Rattle.amqp_frame.specs.declared.outline.FrameOutline.{FrameOutline}
-use Rattle.amqp_frame.specs.Frames.{Frame, Proto, Meth, Head, Body, Beat, BadBeat}
-use Rattle.amqp_frame.specs.Outlines.{outline_of}
-use Rattle.amqp_frame.specs.Canonical.{canon, is_deep, is_long, is_long_for, size_of, payload_of}
-use Rattle.amqp_frame.specs.Laws.{IsFrameHeld}
-use Rattle.amqp_frame.proofs.Holding.{held_fields}
-use Rattle.amqp_text.specs.Payloads.{IsPayload, IsIn}
+use Rattle.amqp_laws.proofs.SlotLaws.{either}
+use Rattle.amqp_laws.proofs.MethodLaws.{payload_held}
+use Rattle.amqp_laws.proofs.HeaderLaws.{header_held}
+use Rattle.amqp_wire.specs.declared.outline.FrameOutline.{FrameOutline}
+use Rattle.amqp_wire.specs.Frames.{Frame, Proto, Meth, Head, Body, Beat, BadBeat}
+use Rattle.amqp_wire.specs.Outlines.{outline_of}
+use Rattle.amqp_wire.specs.Canonical.{canon, is_deep, is_long, is_long_for, size_of, payload_of}
+use Rattle.amqp_wire.specs.Laws.{IsFrameHeld}
+use Rattle.amqp_wire.proofs.Holding.{held_fields}
+use Rattle.amqp_lines.specs.Payloads.{IsPayload, IsIn}
 
 held_payload : (f : Frame) → IsFrameHeld f → is_deep f ≡ false → is_long f ≡ false → IsPayload (payload_of f) f
 held_payload (Proto major minor revision) held deep long = refl

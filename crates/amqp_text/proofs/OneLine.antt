@@ -1,16 +1,15 @@
 -- A line is read as its frame.
-use Rattle.std.proofs.Common.{◌≡◌, ℕ, Bool, true, false, List, length, None, Ok, ap, sym, subst, ◌∙◌}
+use Rattle.std.proofs.Common.{◌≡◌, ℕ, List, length, None, Ok, ap, sym, subst, ◌∙◌}
 use Rattle.amqp_types.specs.Levels.{plain}
 use Rattle.amqp_types.specs.Judging.{took}
 use Rattle.amqp_types.proofs.Took.{value_took}
 use Rattle.amqp_frame.specs.declared.frame.AMQPFrame.{AMQPFrame}
 use Rattle.amqp_frame.specs.Frames.{Frame, frame_of}
-use Rattle.amqp_frame.specs.Canonical.{canon}
-use Rattle.amqp_frame.specs.Verdicts.{verdict}
-use Rattle.amqp_frame.proofs.Spelled.{verdict-spelled}
-use Rattle.amqp_frame.proofs.Strictness.{frame_from_strict}
-use Rattle.amqp_text.specs.Lines.{line}
-use Rattle.amqp_text.specs.LineReading.{RendersLine}
+use Rattle.amqp_wire.specs.Canonical.{canon}
+use Rattle.amqp_wire.specs.Verdicts.{verdict}
+use Rattle.amqp_wire.proofs.Spelled.{verdict-spelled}
+use Rattle.amqp_wire.proofs.Strictness.{frame_from_strict}
+use Rattle.amqp_lines.specs.Lines.{line}
 use Rattle.amqp_text.specs.OneLine.{IsStrictWithin, IsLineOf, ParsesLine}
 
 pub parsed : {m : ℕ} {text canonical bytes : List ℕ} (frame : AMQPFrame) (n : ℕ) → IsLineOf m text canonical → bytes ≡ canonical → verdict plain None bytes ≡ took (frame_of frame) n → ParsesLine m text (Ok frame)
@@ -20,8 +19,3 @@ parsed {m = m} {text = text} frame n h same found =
     let whole = verdict-spelled plain None (canon f) f encodes tt in
     let is : f ≡ frame_of frame = value_took f (frame_of frame) (length (canon f)) n (sym whole ∙ ap (verdict plain None) (sym (same ∙ h.is_canonical)) ∙ found) in
     subst (λ (g : Frame). IsStrictWithin m g × (text ≡ line g)) is (h.strict_within, h.is_line)
-
--- what is returned for a text that is a line
-pub is_line : {m : ℕ} {text canonical : List ℕ} (b : Bool) → RendersLine m text canonical (Ok b) → b ≡ true → IsLineOf m text canonical
-is_line true h e = h
-is_line false h e = absurd cc

@@ -1,17 +1,17 @@
--- The definitions of amqp_text.
-pub mod Words
-pub mod Values
-pub mod Slots
-pub mod Rendering
-pub mod Lines
-pub mod Payloads
-pub mod LineTexts
+-- The definitions of amqp_text, and those of amqp_lines that are passed on.
 pub mod OneLine
-pub mod Dumping
-pub mod Undumping
-pub mod Laws
-pub mod UndumpLaws
-pub mod Errors
-pub mod Reading
-pub mod ReadingLines
-pub mod LineReading
+pub use Rattle.amqp_lines.specs.Words
+pub use Rattle.amqp_lines.specs.Values
+pub use Rattle.amqp_lines.specs.Slots
+pub use Rattle.amqp_lines.specs.Rendering
+pub use Rattle.amqp_lines.specs.Lines
+pub use Rattle.amqp_lines.specs.Payloads
+pub use Rattle.amqp_lines.specs.LineTexts
+pub use Rattle.amqp_lines.specs.Dumping
+pub use Rattle.amqp_lines.specs.Undumping
+pub use Rattle.amqp_lines.specs.Laws
+pub use Rattle.amqp_lines.specs.UndumpLaws
+pub use Rattle.amqp_lines.specs.Errors
+pub use Rattle.amqp_lines.specs.Reading
+pub use Rattle.amqp_lines.specs.ReadingLines
+pub use Rattle.amqp_lines.specs.LineReading

@@ -1,14 +1,13 @@
 //! The line of a typed frame, out of its canonical bytes.
 
 ghost use Rattle.std.specs.Prelude.{◌≡◌, IfErr, IfOk, IsOk};
-ghost use Rattle.amqp_frame.specs.Canonical.{canon, size_of};
+ghost use Rattle.amqp_wire.specs.Canonical.{canon, size_of};
 ghost use Rattle.amqp_frame.specs.Frames.{frame_of};
-ghost use Rattle.amqp_text.specs.LineTexts.{AppendsLine};
-ghost use Rattle.amqp_text.specs.Lines.{line};
+ghost use Rattle.amqp_lines.specs.LineTexts.{AppendsLine};
+ghost use Rattle.amqp_lines.specs.Lines.{line};
 
-use crate::line_text::payload_in;
-use crate::lines::write_line;
 use amqp_frame::{AMQPFrame, frame_held, gen_frame};
+use amqp_lines::{payload_in, write_line};
 use amqp_types::{GenError, append_bytes};
 use std::alloc::Global;
 

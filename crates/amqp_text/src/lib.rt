@@ -1,29 +1,15 @@
-//! AMQP 0-9-1 frames as lines of text, each of which is one frame.
+//! Typed AMQP 0-9-1 frames as lines of text: the line of a frame, and the frame of a line. All that amqp_lines has of lines
+//! is passed on.
 #![tactic(auto)]
 
-mod dumping;
-mod equality;
-mod errors;
 mod generation;
-mod laws;
-mod line_reading;
-mod line_text;
-mod lines;
 mod one_line;
-mod reading;
-mod slots;
-mod undumping;
-mod values;
-mod words;
 
-pub use dumping::dump;
-pub use equality::{equal_text_errors, equal_undump_errors};
-pub use errors::{TextError, UndumpError};
-pub use generation::gen_line;
-pub use laws::{
-    bytes_and_texts_correspond, dumped_text_is_read_back, equal_lines_are_equal_frames,
-    equal_texts_are_equal_sequences, lines_have_one_newline, one_longest_text,
-    strict_frames_are_usual, undump_undoes_dump,
+pub use amqp_lines::{
+    TextError, UndumpError, bytes_and_texts_correspond, dump, dump_line, dumped_text_is_read_back,
+    equal_lines_are_equal_frames, equal_text_errors, equal_texts_are_equal_sequences,
+    equal_undump_errors, errors, line_end, lines_have_one_newline, one_longest_text,
+    strict_frames_are_usual, undump, undump_line, undump_undoes_dump,
 };
-pub use one_line::{dump_line, parse_line, undump_line};
-pub use undumping::{line_end, undump};
+pub use generation::gen_line;
+pub use one_line::parse_line;

@@ -3,7 +3,8 @@ use Rattle.std.proofs.Common.{◌≡◌, true, true≢false, refl, sym, ap, subs
 use Rattle.std.specs.Bool.{Decides}
 use Rattle.std.specs.Cmp.{booleans_Decides}
 use Rattle.std.specs.Cmp.Lexicographic.{bytes_decides}
-use Rattle.amqp_values.proofs.Deciding.{both, same_tables}
+use Rattle.amqp_laws.proofs.Deciding.{both}
+use Rattle.amqp_values.proofs.Deciding.{same_tables}
 use Rattle.amqp_topology.specs.declared.queue.declaring.Declare.{Declare}
 use Rattle.amqp_topology.specs.contracts.queue.declaring.DeclarePartialEq.TheImpl as declare
 use Rattle.amqp_topology.specs.declared.queue.declaring.DeclareOk.{DeclareOk}

@@ -13,3 +13,4 @@ pub mod FlagBytes
 pub mod FormLaws
 pub mod Lawful
 pub mod Deciding
+pub mod Numerals

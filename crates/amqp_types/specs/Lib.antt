@@ -41,3 +41,4 @@ pub mod PropertyLaws
 pub mod ContentHeaders
 pub mod Tidiness
 pub mod PayloadFaults
+pub mod Numerals

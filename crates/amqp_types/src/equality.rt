@@ -3,6 +3,7 @@
 ghost use Rattle.std.specs.Prelude.{◌≡◌, ◌↔◌, IsTrue};
 
 use crate::byte_array::ByteArray;
+use crate::decimal_value::DecimalValue;
 use crate::errors::{GenError, NoMemory, ParserError};
 use crate::flags::AMQPFlags;
 use crate::long_string::LongString;
@@ -27,6 +28,13 @@ pub fn equal_long_strings(a: &LongString, b: &LongString) -> bool
 
 /// Byte arrays are equal exactly where their bytes are the same.
 pub fn equal_byte_arrays(a: &ByteArray, b: &ByteArray) -> bool
+    ensures { IsTrue result ↔ (a.now ≡ b.now) }
+{
+    a == b
+}
+
+/// Decimal values are equal exactly where their scales and their digits are the same.
+pub fn equal_decimal_values(a: &DecimalValue, b: &DecimalValue) -> bool
     ensures { IsTrue result ↔ (a.now ≡ b.now) }
 {
     a == b

@@ -1,12 +1,9 @@
--- Whether values that hold others are the same: of two fields one after the other, and of tables.
-use Rattle.std.proofs.Common.{◌≡◌, List, Bool, ◌&&◌, sym, ap, ◌∙◌, rules}
+-- Whether tables are the same.
+use Rattle.std.proofs.Common.{◌≡◌, List, sym, ap, ◌∙◌}
 use Rattle.std.specs.Bool.{Decides}
 use Rattle.amqp_types.specs.Values.{Entry, pairs, entries_of}
 use Rattle.amqp_values.specs.Sameness.{same_entries, same_entries-decides}
-use Rattle.amqp_values.proofs.Conversions.{pairs-entries_of}
-
-pub both : (p q : Bool) {P Q : Type 0} → Decides p P → Decides q Q → Decides (p && q) (P × Q)
-both p q d e = search rules
+use Rattle.amqp_laws.proofs.Conversions.{pairs-entries_of}
 
 pub same_tables : (table other : List Entry) → Decides (same_entries (entries_of table) (entries_of other)) (table ≡ other)
 same_tables table other =

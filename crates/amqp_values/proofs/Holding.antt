@@ -6,7 +6,7 @@ use Rattle.amqp_types.specs.Settling.{IsRising}
 use Rattle.amqp_types.specs.ValueLaws.{IsHeld, AllHeld, AllEntriesHeld}
 use Rattle.amqp_values.specs.Views.{value_of}
 use Rattle.amqp_values.specs.declared.value.AMQPValue.{AMQPValue}
-use Rattle.amqp_values.proofs.Conversions.{pairs-entries_of}
+use Rattle.amqp_laws.proofs.Conversions.{pairs-entries_of}
 
 -- an array's values from a place on
 pub record LeftValues (items : List AMQPValue) (array : List FieldValue) (place : ℕ) : Type 0 where

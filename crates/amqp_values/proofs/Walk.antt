@@ -63,14 +63,6 @@ values_counted vs = values_total-is 0 vs (omega arith) ∙ ap (Total (any_value_
 pub entries_counted : (es : List Entry) → entries_total 0 es ≡ cond (is_long (table_value (entries_of es))) None (Some (length (entries_bytes (entries_of es))))
 entries_counted es = entries_total-is 0 es (omega arith) ∙ ap (Total (any_entry_long (entries_of es))) (omega arith)
 
-pub or_left : (a b : Bool) → (a || b) ≡ false → a ≡ false
-or_left true b h = h
-or_left false b h = refl
-
-pub or_right : (a b : Bool) → (a || b) ≡ false → b ≡ false
-or_right true b h = absurd (true≢false h)
-or_right false b h = h
-
 pub some_of : (b : Bool) (m n : ℕ) (r : Option ℕ) → b ≡ false → r ≡ cond b None (Some m) → r ≡ Some n → n ≡ m
 some_of true m n r h e f = absurd (true≢false h)
 some_of false m n r h e f = cc

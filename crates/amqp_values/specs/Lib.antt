@@ -4,4 +4,4 @@ pub mod Falls
 pub mod Sameness
 pub mod Fields
 pub mod MethodFields
-pub mod HeldMethods
+pub use Rattle.amqp_laws.specs.HeldMethods

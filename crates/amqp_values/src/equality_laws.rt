@@ -3,14 +3,7 @@
 ghost use Rattle.std.specs.Prelude.{◌≡◌, ◌↔◌, IsTrue};
 ghost use Rattle.amqp_values.specs.Views.{value_of};
 
-use crate::value::{AMQPValue, DecimalValue, FieldArray, FieldTable};
-
-/// Decimal values are equal exactly where their scales and their digits are the same.
-pub fn equal_decimal_values(a: &DecimalValue, b: &DecimalValue) -> bool
-    ensures { IsTrue result ↔ (a.now ≡ b.now) }
-{
-    a == b
-}
+use crate::value::{AMQPValue, FieldArray, FieldTable};
 
 /// Values are equal exactly where they are the same, at every depth.
 pub fn equal_values(a: &AMQPValue, b: &AMQPValue) -> bool

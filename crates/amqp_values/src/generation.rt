@@ -1,8 +1,8 @@
 //! Encoding values, arrays and tables at a place of a slice, and at the end of a vector.
 
-ghost use Rattle.std.specs.Prelude.{◌≡◌, ◌+◌, ◌≤◌, length, false, Ok, IsOk};
+ghost use Rattle.std.specs.Prelude.{◌≡◌, ◌+◌, ◌≤◌, length, false, IsOk};
 ghost use Rattle.amqp_types.specs.Values.{array_value, table_value, values_of, entries_of};
-ghost use Rattle.amqp_types.specs.ValueBytes.{value_bytes, decimal_bytes, tagged_bytes, array_bytes, table_bytes, is_long, tagged_size, array_size, table_size};
+ghost use Rattle.amqp_types.specs.ValueBytes.{value_bytes, tagged_bytes, array_bytes, table_bytes, is_long, tagged_size, array_size, table_size};
 ghost use Rattle.amqp_types.specs.Tags.{tag_of};
 ghost use Rattle.amqp_types.specs.Writing.{Puts, Appends};
 ghost use Rattle.amqp_values.specs.Views.{value_of};
@@ -10,11 +10,12 @@ ghost use Rattle.amqp_values.specs.Views.{value_of};
 use crate::measuring::{
     entries_length, size_field_array, size_field_table, size_value, values_length,
 };
-use crate::value::{AMQPValue, DecimalValue, FieldArray, FieldTable};
+use crate::value::{AMQPValue, FieldArray, FieldTable};
 use amqp_types::{
-    FieldTag, GenError, grow, put_boolean, put_byte_array, put_bytes, put_double, put_float,
-    put_long_int, put_long_long_int, put_long_string, put_long_uint, put_short_int,
-    put_short_short_int, put_short_short_uint, put_short_string, put_short_uint, put_timestamp,
+    FieldTag, GenError, grow, put_boolean, put_byte_array, put_bytes, put_decimal_value,
+    put_double, put_float, put_long_int, put_long_long_int, put_long_string, put_long_uint,
+    put_short_int, put_short_short_int, put_short_short_uint, put_short_string, put_short_uint,
+    put_timestamp,
 };
 use std::alloc::Global;
 
@@ -113,28 +114,6 @@ fn put_table(buf: &mut [u8], at: usize, table: &FieldTable) -> usize
         place = put_tagged(buf, place, value);
     }
     place
-}
-
-/// Puts a scale and a number at a place of a slice, and returns the place after them.
-pub fn put_decimal_value(buf: &mut [u8], at: usize, value: &DecimalValue) -> usize
-    requires room { at + length (decimal_bytes value.now.scale value.now.value) ≤ length buf.old }
-    ensures { Puts buf.old buf.new at (decimal_bytes value.now.scale value.now.value) result }
-{
-    let place = put_short_short_uint(buf, at, &value.scale);
-    put_long_uint(buf, place, &value.value)
-}
-
-/// Appends a scale and a number to a vector.
-pub fn gen_decimal_value(
-    _alloc: Global,
-    out: &mut Vec<u8>,
-    value: DecimalValue,
-) -> Result<(), GenError>
-    ensures { Appends out.old.items out.new.items (Ok 5) (decimal_bytes value.scale value.value) result }
-{
-    let at = grow(out, 5)?;
-    put_decimal_value(out, at, &value);
-    Ok(())
 }
 
 /// Puts a tag and its value at a place of a slice, and returns the place after them.

@@ -1,29 +1,13 @@
 //! What values, arrays and tables hold, whatever a program does: the premise of the laws that read canonical bytes
 //! back.
 
-ghost use Rattle.std.specs.Prelude.{◌<◌, ◌^◌, length};
-ghost use Rattle.std.specs.Str.{IsUtf8};
 ghost use Rattle.amqp_types.specs.Values.{entries_of, values_of};
 ghost use Rattle.amqp_types.specs.Settling.{IsRising};
 ghost use Rattle.amqp_types.specs.ValueLaws.{AllEntriesHeld, AllHeld, IsHeld};
 ghost use Rattle.amqp_values.specs.Views.{value_of};
 
 use crate::value::{AMQPValue, FieldArray, FieldTable};
-use amqp_types::{LongUInt, ShortShortUInt, ShortString};
-
-/// A short string is a text of at most 255 bytes.
-pub fn text_held(text: &ShortString)
-    ensures short { length text.now < 256 }
-    ensures utf8 { IsUtf8 text.now }
-{
-    let _text = text.as_str();
-}
-
-/// The scale and the digits of a decimal value fit their bytes.
-fn decimal_held(scale: ShortShortUInt, value: LongUInt)
-    ensures scale { scale < 2 ^ 8 }
-    ensures value { value < 2 ^ 32 }
-{}
+use amqp_types::{long_held, octet_held, text_held};
 
 /// A value is held: its numbers fit their bytes, its keys are short strings, its tables have ascending keys.
 #[cycle(held)]
@@ -59,7 +43,10 @@ pub fn value_held(value: &AMQPValue)
         AMQPValue::Double(n) => {
             let _n = *n;
         }
-        AMQPValue::DecimalValue(decimal) => decimal_held(decimal.scale, decimal.value),
+        AMQPValue::DecimalValue(decimal) => {
+            octet_held(decimal.scale);
+            long_held(decimal.value);
+        }
         AMQPValue::LongString(_) => {}
         AMQPValue::FieldArray(array) => array_held(array),
         AMQPValue::Timestamp(n) => {

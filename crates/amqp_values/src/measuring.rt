@@ -3,10 +3,10 @@
 ghost use Rattle.std.specs.Prelude.{◌≡◌, ◌+◌, ◌^◌, ◌<◌, ◌≤◌, length, nat_le, if◌then◌else◌, Some, None, Ok, IfSome, IfOk};
 ghost use Rattle.amqp_types.specs.Values.{array_value, table_value, depth, values_of, entries_of, values_depth, entries_depth};
 ghost use Rattle.amqp_types.specs.Strings.{is_too_long, with_length};
-ghost use Rattle.amqp_types.specs.ValueBytes.{value_bytes, values_bytes, entries_bytes, decimal_bytes, is_long, is_deep, tagged_size, array_size, table_size};
+ghost use Rattle.amqp_types.specs.ValueBytes.{value_bytes, values_bytes, entries_bytes, is_long, is_deep, tagged_size, array_size, table_size};
 ghost use Rattle.amqp_values.specs.Views.{value_of};
 
-use crate::value::{AMQPValue, DecimalValue, FieldArray, FieldTable};
+use crate::value::{AMQPValue, FieldArray, FieldTable};
 use amqp_types::{GenError, INNER_DEPTH, MAX_DEPTH};
 
 /// The first length that four bytes do not hold.
@@ -118,14 +118,6 @@ pub(crate) fn entries_length(table: &FieldTable) -> Option<u64>
         }
     }
     Some(n)
-}
-
-/// The size of a scale and a number, 5 bytes.
-pub fn size_decimal_value(value: &DecimalValue) -> Result<u64, GenError>
-    ensures { result ≡ Ok (length (decimal_bytes value.now.scale value.now.value)) }
-{
-    let _value = *value;
-    Ok(5)
 }
 
 /// The size of a tag and its value.

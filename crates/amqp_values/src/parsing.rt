@@ -1,32 +1,22 @@
 //! Decoding values, arrays and tables from the front of a slice.
 
 ghost use Rattle.std.specs.Prelude.{◌≡◌, ◌≤◌, ◌<◌, length, IfOk};
-ghost use Rattle.amqp_types.specs.Answers.{Answers, AnswersFully, AnswersWhole};
+ghost use Rattle.amqp_types.specs.Answers.{Answers, AnswersWhole};
 ghost use Rattle.amqp_types.specs.Settling.{settled};
-ghost use Rattle.amqp_types.specs.ValueJudging.{read_map, filled, nested, judge_entry, judge_array, judge_table, judge_decimal, judge_behind, judge_value, judge_field_value, judge_field_array, judge_field_table};
+ghost use Rattle.amqp_types.specs.ValueJudging.{read_map, filled, nested, judge_entry, judge_array, judge_table, judge_behind, judge_value, judge_field_value, judge_field_array, judge_field_table};
 ghost use Rattle.amqp_types.specs.ValueBytes.{tagged_bytes, tagged_size, array_bytes, array_size, table_bytes, table_size};
 ghost use Rattle.amqp_types.specs.ValueLaws.{IsNoLonger};
 ghost use Rattle.amqp_values.specs.Views.{value_of, entry_of};
 
-use crate::value::{AMQPValue, DecimalValue, FieldArray, FieldTable};
+use crate::value::{AMQPValue, FieldArray, FieldTable};
 use amqp_types::{
     FieldTag, INNER_DEPTH, MAX_DEPTH, ParserError, ShortString, parse_boolean, parse_byte_array,
-    parse_double, parse_float, parse_long_bytes, parse_long_int, parse_long_long_int,
-    parse_long_string, parse_long_uint, parse_short_int, parse_short_short_int,
-    parse_short_short_uint, parse_short_string, parse_short_uint, parse_timestamp,
+    parse_decimal_value, parse_double, parse_float, parse_long_bytes, parse_long_int,
+    parse_long_long_int, parse_long_string, parse_long_uint, parse_short_int,
+    parse_short_short_int, parse_short_short_uint, parse_short_string, parse_short_uint,
+    parse_timestamp,
 };
 use std::alloc::Global;
-
-/// Decodes a scale and a number.
-#[tactic(auto, unfolding(amqp_types::specs::ValueJudging::judge_decimal))]
-pub fn parse_decimal_value(i: &[u8]) -> Result<(usize, DecimalValue), ParserError>
-    ensures judged { AnswersFully (λ decimal. (decimal.scale, decimal.value)) result (judge_decimal i.now) }
-    ensures used { IfOk result (λ found. found.0 ≤ length i.now) }
-{
-    let (n, scale) = parse_short_short_uint(i)?;
-    let (m, value) = parse_long_uint(&i[n..])?;
-    Ok((n + m, DecimalValue { scale, value }))
-}
 
 /// Decodes a tag and its value, in which tables and arrays may nest `room` deep.
 #[tactic(auto, using(amqp_types::proofs::Judged::refuses_next), unfolding(amqp_types::specs::ValueJudging::judge_tagged, amqp_types::specs::ValueJudging::judge_value))]
@@ -48,7 +38,7 @@ fn value_within(alloc: Global, i: &[u8], room: usize) -> Result<(usize, AMQPValu
 }
 
 /// Decodes the value after a tag.
-#[tactic(auto, using(amqp_types::proofs::Judged::refuses_next, crate::proofs::Filling::nested_none, crate::proofs::Filling::nested_more), unfolding(amqp_types::specs::ValueJudging::judge_behind))]
+#[tactic(auto, using(amqp_types::proofs::Judged::refuses_next, amqp_laws::proofs::Filling::nested_none, amqp_laws::proofs::Filling::nested_more), unfolding(amqp_types::specs::ValueJudging::judge_behind))]
 #[cycle(read)]
 fn behind_tag_within(
     alloc: Global,
@@ -135,7 +125,7 @@ fn behind_tag_within(
 }
 
 /// Decodes an array, in whose values tables and arrays may nest `room` deep.
-#[tactic(auto, using(amqp_types::proofs::Judged::refuses_next, crate::proofs::Filling::refuses_whole), unfolding(amqp_types::specs::ValueJudging::judge_array))]
+#[tactic(auto, using(amqp_types::proofs::Judged::refuses_next, amqp_laws::proofs::Filling::refuses_whole), unfolding(amqp_types::specs::ValueJudging::judge_array))]
 #[cycle(read)]
 fn array_within(alloc: Global, i: &[u8], room: usize) -> Result<(usize, FieldArray), ParserError>
     ensures judged { Answers (λ array. array) result (judge_array (judge_value room) i.now) }
@@ -146,7 +136,7 @@ fn array_within(alloc: Global, i: &[u8], room: usize) -> Result<(usize, FieldArr
 }
 
 /// Decodes a table, in whose values tables and arrays may nest `room` deep.
-#[tactic(auto, using(amqp_types::proofs::Judged::refuses_next, crate::proofs::Filling::refuses_whole), unfolding(amqp_types::specs::ValueJudging::judge_table))]
+#[tactic(auto, using(amqp_types::proofs::Judged::refuses_next, amqp_laws::proofs::Filling::refuses_whole), unfolding(amqp_types::specs::ValueJudging::judge_table))]
 #[cycle(read)]
 fn table_within(alloc: Global, i: &[u8], room: usize) -> Result<(usize, FieldTable), ParserError>
     ensures judged { Answers (λ table. table) result (judge_table (judge_value room) i.now) }

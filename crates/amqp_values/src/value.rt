@@ -7,6 +7,7 @@ ghost use Rattle.std.specs.Cmp.Lexicographic.{slice_cmp};
 ghost use Rattle.std.specs.BTreeMap.{insert_entry};
 ghost use Rattle.amqp_types.specs.Settling.{IsRising, value_at};
 
+pub use amqp_types::DecimalValue;
 use amqp_types::{
     Boolean, ByteArray, Double, Float, LongInt, LongLongInt, LongString, LongUInt, NoMemory,
     ShortInt, ShortShortInt, ShortShortUInt, ShortString, ShortUInt, Timestamp,
@@ -14,16 +15,6 @@ use amqp_types::{
 use std::alloc::Global;
 use std::collections::{BTreeMap, btree_map};
 use std::marker::Model;
-
-/// A decimal value (AMQP 0-9-1, section 4.2.5.5): a number that is to be divided by ten as often as the scale says.
-#[derive(Clone, Copy, Debug, PartialEq, Eq)]
-pub struct DecimalValue {
-    /// How many digits stand after the point.
-    pub scale: ShortShortUInt,
-
-    /// The digits, as one number.
-    pub value: LongUInt,
-}
 
 /// A value in a table or an array (AMQP 0-9-1, section 4.2.5.5).
 #[cycle(value)]

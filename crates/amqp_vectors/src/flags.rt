@@ -1,7 +1,7 @@
 //! Flags, which are the bits of a byte.
 
 use crate::asking::same;
-use amqp_values::{
+use amqp_types::{
     AMQPFlags, ParserError, byte_of_flags, flag_of_byte, gen_flags, parse_flags, put_flags,
     size_flags,
 };

@@ -1,7 +1,7 @@
 //! Bytes at the end of a vector, and at a place of a slice.
 
 use crate::asking::same;
-use amqp_values::{append_bytes, grow, put_bytes};
+use amqp_types::{append_bytes, grow, put_bytes};
 use std::alloc::Global;
 use std::test::Fail;
 

@@ -1,7 +1,7 @@
 //! Numbers and truth values.
 
 use crate::asking::same;
-use amqp_values::{
+use amqp_types::{
     DecimalValue, gen_boolean, gen_decimal_value, gen_double, gen_float, gen_id, gen_long_int,
     gen_long_long_int, gen_long_long_uint, gen_long_uint, gen_short_int, gen_short_short_int,
     gen_short_short_uint, gen_short_uint, gen_timestamp, parse_boolean, parse_decimal_value,

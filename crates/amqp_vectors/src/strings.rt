@@ -1,7 +1,7 @@
 //! Strings and byte arrays.
 
 use crate::asking::{answers, reads, same, shows};
-use amqp_values::{
+use amqp_types::{
     ByteArray, LongString, MakeError, ParserError, ShortString, gen_byte_array, gen_long_string,
     gen_short_string, parse_byte_array, parse_long_bytes, parse_long_string, parse_short_str,
     parse_short_string, parse_table_bytes, put_byte_array, put_long_string, put_short_string,

@@ -3,11 +3,11 @@
 ghost use Rattle.std.specs.Prelude.{◌^◌, ◌<◌, length};
 ghost use Rattle.amqp_lent.specs.Frames.{IsFrame, payload_of};
 
-use amqp_frame::AMQPFrameType::{self, Body, Header, Heartbeat, Method, ProtocolHeader};
-use amqp_frame::{AMQPRawFrame, ProtocolVersion};
 use amqp_lent::{LentFrame, lent_frame, lent_size, write_lent};
 use amqp_types::{GenError, ParserError};
 use amqp_vectors::asking::same;
+use amqp_wire::AMQPFrameType::{self, Body, Header, Heartbeat, Method, ProtocolHeader};
+use amqp_wire::{AMQPRawFrame, ProtocolVersion};
 use std::test::Fail;
 
 /// A type, a channel, a payload, what is borrowed or the fault, and the canonical bytes of what is borrowed.

@@ -3,7 +3,7 @@
 use crate::frames::Step::{self, Ack, Body, Header, Heartbeat, Publish, Read};
 use crate::frames::{
     BODY, DELIVER, DELIVERED, GET_OK, GOT, HEADER, HELD, PASSED, PUBLISH, PUBLISHED, RETURN,
-    RETURNED, frames, number, pushed,
+    RETURNED, frames, let_go, number, pushed,
 };
 use amqp_content::{
     Assembler, ContentFault, answers_are_steps, assemble, channels_are_answered,
@@ -32,7 +32,7 @@ const FAULTED: u8 = 7;
 /// The greatest body that may be announced, the body that a message has, frames, and their outcomes.
 type Row = (u64, &'static [u8], &'static [Step], &'static [u8]);
 
-const ROWS: [Row; 15] = [
+const ROWS: &[Row] = &[
     (
         5,
         b"hello",
@@ -140,13 +140,25 @@ const ROWS: [Row; 15] = [
 ];
 
 /// The numbers of the outcomes of frames that are pushed one after another.
-fn push_each(alloc: Global, max_body: u64, steps: &[Step], body: &[u8]) -> Result<Vec<u8>, Fail> {
-    let mut assembler = Assembler::open(alloc, max_body);
+fn push_all(
+    alloc: Global,
+    assembler: &mut Assembler,
+    steps: &[Step],
+    body: &[u8],
+) -> Result<Vec<u8>, Fail> {
     let mut numbers = Vec::new(alloc);
     for step in steps {
-        numbers.push(pushed(alloc, &mut assembler, *step, body)?)?;
+        numbers.push(pushed(alloc, assembler, *step, body)?)?;
     }
     Ok(numbers)
+}
+
+/// The same with an assembler of their own.
+fn push_each(alloc: Global, max_body: u64, steps: &[Step], body: &[u8]) -> Result<Vec<u8>, Fail> {
+    let mut assembler = Assembler::open(alloc, max_body);
+    let numbers = push_all(alloc, &mut assembler, steps, body);
+    let_go(assembler);
+    numbers
 }
 
 /// The numbers of the outcomes of frames that are assembled together.
@@ -167,10 +179,10 @@ fn assemble_all(
 fn sequences_have_their_outcomes(rt: HostRuntime) -> Result<(), Fail> {
     let alloc = rt.alloc();
     for (max_body, body, steps, wanted) in ROWS {
-        let pushed = push_each(alloc, max_body, steps, body)?;
-        same(pushed.as_slice(), wanted)?;
-        let assembled = assemble_all(alloc, max_body, frames(alloc, steps)?, body)?;
-        same(assembled.as_slice(), wanted)?;
+        let pushed = push_each(alloc, *max_body, steps, body)?;
+        same(pushed.as_slice(), *wanted)?;
+        let assembled = assemble_all(alloc, *max_body, frames(alloc, steps)?, body)?;
+        same(assembled.as_slice(), *wanted)?;
     }
     Ok(())
 }

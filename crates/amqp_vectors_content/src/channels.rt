@@ -1,6 +1,6 @@
 //! Many channels, each at another place of its message.
 
-use crate::frames::{HELD, PUBLISHED, Step, pushed};
+use crate::frames::{HELD, PUBLISHED, Step, let_go, pushed};
 use amqp_content::Assembler;
 use amqp_vectors::asking::same;
 use std::alloc::Global;
@@ -35,17 +35,26 @@ fn on_each(alloc: Global, assembler: &mut Assembler, part: Part, outcome: u8) ->
     Ok(())
 }
 
-#[test]
-fn many_channels(rt: HostRuntime) -> Result<(), Fail> {
-    let parts = [
-        (Part::Opening, HELD),
-        (Part::Header, HELD),
-        (Part::Body, HELD),
-        (Part::Body, PUBLISHED),
-    ];
-    let mut assembler = Assembler::open(rt.alloc(), 5);
-    for (part, outcome) in parts {
-        on_each(rt.alloc(), &mut assembler, part, outcome)?;
+/// The parts of a message, and what becomes of each.
+const PARTS: &[(Part, u8)] = &[
+    (Part::Opening, HELD),
+    (Part::Header, HELD),
+    (Part::Body, HELD),
+    (Part::Body, PUBLISHED),
+];
+
+/// Pushes all parts.
+fn on_all(alloc: Global, assembler: &mut Assembler) -> Result<(), Fail> {
+    for (part, outcome) in PARTS {
+        on_each(alloc, assembler, *part, *outcome)?;
     }
     Ok(())
+}
+
+#[test]
+fn many_channels(rt: HostRuntime) -> Result<(), Fail> {
+    let mut assembler = Assembler::open(rt.alloc(), 5);
+    let answer = on_all(rt.alloc(), &mut assembler);
+    let_go(assembler);
+    answer
 }

@@ -182,9 +182,12 @@ pub fn done(outcome: Outcome) -> Option<Message> {
     }
 }
 
-/// The message that frames make.
-pub fn message(alloc: Global, steps: &[Step]) -> Result<Option<Message>, ParserError> {
-    let mut assembler = Assembler::open(alloc, 5);
+/// The first message that frames complete.
+fn completed(
+    alloc: Global,
+    assembler: &mut Assembler,
+    steps: &[Step],
+) -> Result<Option<Message>, ParserError> {
     for step in steps {
         let frame = frame(alloc, *step)?;
         if let Some(message) = done(assembler.push(frame)?) {
@@ -192,4 +195,12 @@ pub fn message(alloc: Global, steps: &[Step]) -> Result<Option<Message>, ParserE
         }
     }
     Ok(None)
+}
+
+/// The message that frames make.
+pub fn message(alloc: Global, steps: &[Step]) -> Result<Option<Message>, ParserError> {
+    let mut assembler = Assembler::open(alloc, 5);
+    let message = completed(alloc, &mut assembler, steps);
+    let_go(assembler);
+    message
 }

@@ -1,6 +1,6 @@
 //! Messages as a client reads them, out of bytes.
 
-use crate::frames::{HELLO, PUBLISHED, done, number_of};
+use crate::frames::{HELLO, PUBLISHED, done, let_go, number_of};
 use amqp_content::{Assembler, Message};
 use amqp_frame::parse_frame;
 use amqp_types::ParserError;
@@ -10,8 +10,11 @@ use std::test::Fail;
 
 /// The messages in some bytes of frames, as a client reads them: parse a frame, push it, and take the
 /// message that it completes.
-fn messages(alloc: Global, bytes: &[u8]) -> Result<Vec<Message>, ParserError> {
-    let mut assembler = Assembler::open(alloc, 1_048_576);
+fn read_all(
+    alloc: Global,
+    assembler: &mut Assembler,
+    bytes: &[u8],
+) -> Result<Vec<Message>, ParserError> {
     let mut messages = Vec::new(alloc);
     let mut rest = bytes;
     for _ in 0..bytes.len() {
@@ -27,6 +30,14 @@ fn messages(alloc: Global, bytes: &[u8]) -> Result<Vec<Message>, ParserError> {
         }
     }
     Ok(messages)
+}
+
+/// The same with an assembler of their own.
+fn messages(alloc: Global, bytes: &[u8]) -> Result<Vec<Message>, ParserError> {
+    let mut assembler = Assembler::open(alloc, 1_048_576);
+    let messages = read_all(alloc, &mut assembler, bytes);
+    let_go(assembler);
+    messages
 }
 
 /// A client's message on channel 1: `basic.publish` to the queue `hello`, its content header and its body.

@@ -1,7 +1,7 @@
 //! Memory that runs out: `rt try --test --fail-alloc N` lets the Nth allocation of each test fail.
 
 use crate::frames::Step::{self, Read};
-use crate::frames::{BODY, HEADER, HELD, HELLO, PUBLISH, PUBLISHED, pushed};
+use crate::frames::{BODY, HEADER, HELD, HELLO, PUBLISH, PUBLISHED, let_go, pushed};
 use crate::splitting::{copies, split_by_two};
 use amqp_content::Assembler;
 use amqp_types::ParserError;
@@ -13,7 +13,7 @@ use std::test::Fail;
 const STRAY: [u8; 9] = [3, 0, 2, 0, 0, 0, 1, 7, 206];
 
 /// A client's message, with frames of a channel that is faulted in between, and what becomes of each.
-const FRAMES: [(Step, u8); 5] = [
+const FRAMES: &[(Step, u8)] = &[
     (Read(&PUBLISH), HELD),
     (Read(&STRAY), 3),
     (Read(&HEADER), HELD),
@@ -32,15 +32,21 @@ fn pushed_again(alloc: Global, assembler: &mut Assembler, step: Step) -> Result<
     }
 }
 
+/// Fails unless each frame is taken, at the second time at the latest.
+fn are_taken(alloc: Global, assembler: &mut Assembler) -> Result<(), Fail> {
+    for (step, wanted) in FRAMES {
+        same(pushed_again(alloc, assembler, *step)?, *wanted)?;
+    }
+    Ok(())
+}
+
 /// Where memory runs out all channels are as before: an equal frame is taken as the first one would have been.
 #[test]
 fn refused_memory_leaves_channels(rt: HostRuntime) -> Result<(), Fail> {
-    let alloc = rt.alloc();
-    let mut assembler = Assembler::open(alloc, 5);
-    for (step, wanted) in FRAMES {
-        same(pushed_again(alloc, &mut assembler, step)?, wanted)?;
-    }
-    Ok(())
+    let mut assembler = Assembler::open(rt.alloc(), 5);
+    let answer = are_taken(rt.alloc(), &mut assembler);
+    let_go(assembler);
+    answer
 }
 
 /// The length of a list of anything, for a caller that does not own it.

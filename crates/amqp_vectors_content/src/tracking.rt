@@ -34,7 +34,7 @@ const LAST_THREE: Mark = Mark::Body {
 };
 
 /// Frames with their marks, and on how many channels a message has begun then.
-const ROWS: [&[(Step, Mark, usize)]; 5] = [
+const ROWS: &[&[(Step, Mark, usize)]] = &[
     &[
         (Read(&PUBLISH), Mark::Opening, 1),
         (Read(&HEADER), Mark::Header, 1),
@@ -77,7 +77,7 @@ fn tracked(alloc: Global, tracker: &mut Tracker, step: Step) -> Result<Mark, Par
 fn frames_have_marks(rt: HostRuntime) -> Result<(), Fail> {
     for row in ROWS {
         let mut tracker = Tracker::open(rt.alloc(), 5);
-        for (step, mark, unfinished) in row {
+        for (step, mark, unfinished) in *row {
             same(tracked(rt.alloc(), &mut tracker, *step)?, *mark)?;
             same(tracker.unfinished(), *unfinished)?;
         }

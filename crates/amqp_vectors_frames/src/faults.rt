@@ -17,7 +17,7 @@ fn used(alloc: Global, bytes: &[u8]) -> Result<usize, ParserError> {
     count(parse_frame(alloc, bytes))
 }
 
-const ROWS: [(&[u8], ParserError); 9] = [
+const ROWS: &[(&[u8], ParserError)] = &[
     (&[], ParserError::Incomplete),
     (&[3, 0, 1, 0, 0, 0, 1, 104], ParserError::Incomplete),
     // The longest length that can be written.
@@ -37,7 +37,7 @@ const ROWS: [(&[u8], ParserError); 9] = [
 #[test]
 fn faults_are_named(rt: HostRuntime) -> Result<(), Fail> {
     for (bytes, error) in ROWS {
-        same(used(rt.alloc(), bytes), Err(error))?;
+        same(used(rt.alloc(), bytes), Err(*error))?;
     }
     for end in 0..DECLARE.len() {
         let front = DECLARE.get(..end).unwrap_or_default();

@@ -10,7 +10,7 @@ use std::test::Fail;
 type Row = (AMQPFrameType, &'static [u8], FrameOutline);
 
 /// A frame of each kind.
-const ROWS: [Row; 5] = [
+const ROWS: &[Row] = &[
     (ProtocolHeader, &[0, 9, 1], FrameOutline::ProtocolHeader),
     (
         Method,
@@ -47,13 +47,13 @@ const ROWS: [Row; 5] = [
 fn borrowed_frames_are_outlined(rt: HostRuntime) -> Result<(), Fail> {
     for (frame_type, payload, outline) in ROWS {
         let raw = AMQPRawFrame {
-            frame_type,
+            frame_type: *frame_type,
             channel_id: 258,
             payload,
         };
         is_whole(rt.alloc(), raw)?;
         let found = (outline_raw(raw), outline_front(raw));
-        same(found, (outline, Some(outline)))?;
+        same(found, (*outline, Some(*outline)))?;
     }
     Ok(())
 }

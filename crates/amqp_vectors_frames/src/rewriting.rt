@@ -10,7 +10,7 @@ use std::test::Fail;
 /// A type, a channel, a payload, and the canonical bytes of the frame.
 type Row = (AMQPFrameType, u16, &'static [u8], &'static [u8]);
 
-const ROWS: [Row; 8] = [
+const ROWS: &[Row] = &[
     (ProtocolHeader, 0, &[0, 9, 1], b"AMQP\0\0\x09\x01"),
     // An unused flag bit, and then all of them.
     (
@@ -68,8 +68,8 @@ fn puts(raw: AMQPRawFrame<'_>, wanted: &[u8]) -> bool {
 fn canonical_bytes_are_put(rt: HostRuntime) {
     for (frame_type, channel_id, payload, wanted) in ROWS {
         let raw = AMQPRawFrame {
-            frame_type,
-            channel_id,
+            frame_type: *frame_type,
+            channel_id: *channel_id,
             payload,
         };
         assert!(rt; puts(raw, wanted));
@@ -95,7 +95,7 @@ type Judged = (
     Result<FrameJudgement, ParserError>,
 );
 
-const JUDGED: [Judged; 10] = [
+const JUDGED: &[Judged] = &[
     (ProtocolHeader, &[0, 9, 1], Ok(CANONICAL)),
     (ProtocolHeader, &[0, 9], Err(ParserError::ShortPayload)),
     (
@@ -120,11 +120,11 @@ const JUDGED: [Judged; 10] = [
 fn payloads_are_judged() -> Result<(), Fail> {
     for (frame_type, payload, wanted) in JUDGED {
         let raw = AMQPRawFrame {
-            frame_type,
+            frame_type: *frame_type,
             channel_id: 1,
             payload,
         };
-        same(judge_frame(raw), wanted)?;
+        same(judge_frame(raw), *wanted)?;
     }
     Ok(())
 }

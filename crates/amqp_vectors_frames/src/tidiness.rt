@@ -11,7 +11,7 @@ use std::test::Fail;
 type Row = (AMQPFrameType, &'static [u8], bool);
 
 /// Frames of each kind, and methods with reserved fields of each form.
-const ROWS: [Row; 21] = [
+const ROWS: &[Row] = &[
     (ProtocolHeader, &[0, 9, 1], true),
     (Body, &[104, 101, 108, 108, 111], true),
     (Heartbeat, &[], true),
@@ -78,7 +78,7 @@ fn is_decided(alloc: Global, row: Row) -> Result<(), Fail> {
 #[test]
 fn tidy_frames_are_decided(rt: HostRuntime) -> Result<(), Fail> {
     for row in ROWS {
-        is_decided(rt.alloc(), row)?;
+        is_decided(rt.alloc(), *row)?;
     }
     Ok(())
 }

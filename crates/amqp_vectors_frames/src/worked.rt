@@ -37,7 +37,7 @@ const TEXT: [u8; 34] = [
 /// A frame, bytes that begin with it, how many of them it takes, and its canonical bytes.
 type Row = (Sample, &'static [u8], usize, &'static [u8]);
 
-const ROWS: [Row; 10] = [
+const ROWS: &[Row] = &[
     (
         Sample::ProtocolHeader,
         &[65, 77, 81, 80, 0, 0, 9, 1],
@@ -176,13 +176,13 @@ fn is_worked(alloc: Global, row: Row) -> Result<(), Fail> {
 #[test]
 fn frames_are_read_and_written(rt: HostRuntime) -> Result<(), Fail> {
     for row in ROWS {
-        is_worked(rt.alloc(), row)?;
+        is_worked(rt.alloc(), *row)?;
     }
     Ok(())
 }
 
 /// The payload of a content header, and whether it is the one of a text.
-const CONTENT_HEADERS: [(&[u8], bool); 3] = [
+const CONTENT_HEADERS: &[(&[u8], bool)] = &[
     (&[0, 60, 0, 7, 0, 0, 0, 0, 0, 0, 0, 5, 0, 3], false),
     (&[0, 60, 0, 0, 0, 0, 0, 0, 0, 0, 0, 5, 0, 0], false),
     (
@@ -198,7 +198,7 @@ const CONTENT_HEADERS: [(&[u8], bool); 3] = [
 fn content_headers_are_read(rt: HostRuntime) -> Result<(), Fail> {
     let alloc = rt.alloc();
     for (payload, is_text) in CONTENT_HEADERS {
-        let header = content_header(alloc, is_text)?;
+        let header = content_header(alloc, *is_text)?;
         let read = parse_content_header(alloc, payload);
         same(read, Ok((payload.len(), header)))?;
     }
@@ -208,7 +208,7 @@ fn content_headers_are_read(rt: HostRuntime) -> Result<(), Fail> {
 /// A frame, what it is displayed as, and its outline.
 type Shown = (Sample, &'static str, FrameOutline);
 
-const SHOWN: [Shown; 6] = [
+const SHOWN: &[Shown] = &[
     (
         Sample::ProtocolHeader,
         "AMQPFrame::ProtocolHeader(0.9.1)",
@@ -279,7 +279,7 @@ fn is_shown(alloc: Global, row: Shown) -> Result<(), Fail> {
 fn frames_are_shown(rt: HostRuntime) -> Result<(), Fail> {
     let alloc = rt.alloc();
     for row in SHOWN {
-        is_shown(alloc, row)?;
+        is_shown(alloc, *row)?;
     }
     shows(alloc, &ProtocolVersion::amqp_0_9_1(), "", "0.9.1", "")
 }

@@ -4,9 +4,9 @@
 ghost use Rattle.std.specs.Prelude.{◌≤◌};
 
 use crate::rows::recut_by_size;
-use amqp_frame::AMQPFrameType;
 use amqp_stream::{FrameReader, PieceSource, SliceSource, VecSink};
 use amqp_vectors::asking::same;
+use amqp_wire::AMQPFrameType;
 use std::alloc::{AllocError, Global};
 use std::test::Fail;
 

@@ -1,8 +1,8 @@
 //! Worked cases of recutting: what is written, and how the stream ends.
 
-use amqp_content::ContentFault;
 use amqp_recut::{RecutError, recut};
 use amqp_stream::{PieceSource, ScriptSink, Sink, SliceSource, Source, StreamError, VecSink};
+use amqp_turns::ContentFault;
 use amqp_vectors::asking::{same, same_in, shows};
 use std::alloc::Global;
 use std::test::Fail;

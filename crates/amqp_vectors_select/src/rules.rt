@@ -1,6 +1,6 @@
 //! Words and what they are as rules, and each call on rules once.
 
-use amqp_frame::{AMQPFrame, FrameOutline, release};
+use amqp_frame::{AMQPFrame, AMQPFrameType, AMQPRawFrame, FrameOutline, judge_frame, release};
 use amqp_select::{
     RuleError, Rules, covered_rules_decide_nothing, equal_rule_errors, words_spell_one_rule,
 };
@@ -188,11 +188,45 @@ const COVERED: &[(&[&str], Option<usize>)] = &[
     ),
 ];
 
-/// Whether rules keep a frame.
-fn keep(rules: &Rules, frame: AMQPFrame) -> bool {
+/// Whether rules keep a frame, and how many of a list of it alone.
+fn keep(rules: &Rules, frame: AMQPFrame) -> (bool, usize) {
     let kept = rules.decide(&frame);
+    let count = [&frame].iter().filter(|it| rules.decide(*it)).count();
     release(frame);
-    kept
+    (kept, count)
+}
+
+/// Whether rules keep a borrowed frame on channel 1, where its payload is whole.
+fn keep_borrowed(rules: &Rules, frame_type: AMQPFrameType, payload: &[u8]) -> Option<bool> {
+    let raw = AMQPRawFrame {
+        frame_type,
+        channel_id: 1,
+        payload,
+    };
+    match judge_frame(raw) {
+        Ok(_) => Some(rules.decide(raw)),
+        Err(_) => None,
+    }
+}
+
+#[test]
+fn whatever_has_an_outline_is_decided(rt: HostRuntime) -> Result<(), Fail> {
+    let rules = parse(rt.alloc(), &["drop,kind=body", "keep"])?;
+    assert!(rt; keep(&rules, AMQPFrame::Heartbeat) == (true, 1));
+    assert!(rt; keep(&rules, AMQPFrame::Body(1, ByteArray::empty(rt.alloc()))) == (false, 0));
+    assert_eq!(rt;
+        keep_borrowed(&rules, AMQPFrameType::Body, b"hello"),
+        Some(false)
+    );
+    assert_eq!(rt;
+        keep_borrowed(&rules, AMQPFrameType::Heartbeat, &[]),
+        Some(true)
+    );
+    assert_eq!(rt;
+        keep_borrowed(&rules, AMQPFrameType::Method, &[0, 60]),
+        None
+    );
+    Ok(())
 }
 
 #[test]
@@ -206,7 +240,7 @@ fn earlier_rules_cover(rt: HostRuntime) -> Result<(), Fail> {
     }
     let rules = parse(alloc, &["keep", "keep,kind=beat"])?.without_covered(alloc)?;
     assert_eq!(rt; rules.len(), 1);
-    assert!(rt; keep(&rules, AMQPFrame::Body(1, ByteArray::new(alloc, b"hello")?)));
+    assert!(rt; keep(&rules, AMQPFrame::Body(1, ByteArray::new(alloc, b"hello")?)).0);
     covered_rules_decide_nothing();
     words_spell_one_rule();
     Ok(())

@@ -1,7 +1,7 @@
 -- A step of the writer that counts.
 use Rattle.std.proofs.Common.{◌≡◌, ◌+◌, min, ℕ, Ok, ap, sym}
-use Rattle.amqp_frame.specs.Frames.{Frame}
-use Rattle.amqp_frame.specs.Canonical.{canon}
+use Rattle.amqp_wire.specs.Frames.{Frame}
+use Rattle.amqp_wire.specs.Canonical.{canon}
 use Rattle.amqp_stream.specs.Ends.{last}
 use Rattle.amqp_vectors_streams.specs.declared.counting.Counting.{Counting}
 use Rattle.amqp_vectors_streams.specs.Counting.{counting}

@@ -6,15 +6,15 @@ use Rattle.std.proofs.Math.Nat.{mul-le-mul_right}
 use Rattle.amqp_types.specs.Levels.{plain}
 use Rattle.amqp_types.specs.Judging.{IsBytes}
 use Rattle.amqp_types.proofs.Bytes.{IsBytes-take}
-use Rattle.amqp_frame.specs.Frames.{Frame, Raw, raw_of}
-use Rattle.amqp_frame.specs.Canonical.{canon, canon_frames}
-use Rattle.amqp_frame.specs.Spelling.{SpellsFrames}
-use Rattle.amqp_frame.specs.Fronts.{front, place, ComesBefore}
-use Rattle.amqp_frame.specs.declared.raw_frame.AMQPRawFrame.{AMQPRawFrame}
-use Rattle.amqp_frame.proofs.OuterLook.{outer-in_bounds}
-use Rattle.amqp_frame.proofs.Cuts.{ComesBefore-none, ComesBefore-more, verdict-whole, front-none, place-none}
-use Rattle.amqp_frame.proofs.Sequences.{sequence_of_all}
-use Rattle.amqp_frame.proofs.Strictness.{canon_frames-more}
+use Rattle.amqp_wire.specs.Frames.{Frame, Raw, raw_of}
+use Rattle.amqp_wire.specs.Canonical.{canon, canon_frames}
+use Rattle.amqp_wire.specs.Spelling.{SpellsFrames}
+use Rattle.amqp_wire.specs.Fronts.{front, place, ComesBefore}
+use Rattle.amqp_wire.specs.declared.raw_frame.AMQPRawFrame.{AMQPRawFrame}
+use Rattle.amqp_wire.proofs.OuterLook.{outer-in_bounds}
+use Rattle.amqp_wire.proofs.Cuts.{ComesBefore-none, ComesBefore-more, verdict-whole, front-none, place-none}
+use Rattle.amqp_wire.proofs.Sequences.{sequence_of_all}
+use Rattle.amqp_wire.proofs.Strictness.{canon_frames-more}
 use Rattle.amqp_stream.specs.declared.errors.ReadError.{ReadError}
 use Rattle.amqp_stream.specs.declared.errors.ReadError.TheVariants as reads
 use Rattle.amqp_stream.specs.declared.errors.StreamError.{StreamError}

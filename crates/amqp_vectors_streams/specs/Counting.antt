@@ -2,7 +2,7 @@
 use Rattle.std.specs.Prelude.{true, false, ◌+◌, min, None, Ok}
 use Rattle.std.specs.declared.string.ParseError.{Infallible}
 use Rattle.amqp_types.specs.Levels.{plain}
-use Rattle.amqp_frame.specs.Canonical.{canon}
+use Rattle.amqp_wire.specs.Canonical.{canon}
 use Rattle.amqp_stream.specs.Ends.{last}
 use Rattle.amqp_stream.specs.Steps.{Manner}
 use Rattle.amqp_vectors_streams.specs.declared.counting.Counting.{Counting}

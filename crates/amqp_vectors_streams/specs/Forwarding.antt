@@ -3,12 +3,12 @@
 use Rattle.std.specs.Prelude.{◌≡◌, ◌≢◌, ◌⊎◌, ℕ, ◌+◌, ◌-◌, ◌≤◌, List, [], ◌++◌, length, drop, Some, Result, Ok, Err}
 use Rattle.amqp_types.specs.Levels.{plain}
 use Rattle.amqp_types.specs.Judging.{Fault, past, fault, took, IsBytes}
-use Rattle.amqp_frame.specs.Frames.{Frame, Raw}
-use Rattle.amqp_frame.specs.Outer.{outer}
-use Rattle.amqp_frame.specs.Verdicts.{whole}
-use Rattle.amqp_frame.specs.Canonical.{canon, canon_frames}
-use Rattle.amqp_frame.specs.Spelling.{SpellsFrames}
-use Rattle.amqp_frame.specs.Fronts.{ComesBefore}
+use Rattle.amqp_wire.specs.Frames.{Frame, Raw}
+use Rattle.amqp_wire.specs.Outer.{outer}
+use Rattle.amqp_wire.specs.Verdicts.{whole}
+use Rattle.amqp_wire.specs.Canonical.{canon, canon_frames}
+use Rattle.amqp_wire.specs.Spelling.{SpellsFrames}
+use Rattle.amqp_wire.specs.Fronts.{ComesBefore}
 use Rattle.amqp_stream.specs.declared.errors.StreamError.{StreamError}
 use Rattle.amqp_stream.specs.Ends.{Supply, Store, Takes, Gains, Rises, IsEmpty}
 use Rattle.amqp_stream.specs.Errors.{Cause, faulty, cut_short, turns_spent, read_failed, write_failed, out_of_memory, cause_of}

@@ -18,7 +18,7 @@ type Run = (
 const LOOSE: [u8; 9] = [8, 0, 0, 0, 0, 0, 1, 7, 206];
 
 /// What a failed read left is dropped.
-const RUNS: [Run; 6] = [
+const RUNS: &[Run] = &[
     (&HEARTBEAT, &[3], &[1], Err(StreamError::ReadFault), &[]),
     (&HEARTBEAT, &[], &[], Ok(()), &HEARTBEAT),
     (&LOOSE, &[], &[], Ok(()), &HEARTBEAT),
@@ -40,7 +40,7 @@ fn serves(alloc: Global, codec: &mut Codec, run: Run) -> Result<(), Fail> {
 fn a_codec_serves_again(rt: HostRuntime) -> Result<(), Fail> {
     let mut codec = Codec::open(rt.alloc(), LIMIT)?;
     for run in RUNS {
-        serves(rt.alloc(), &mut codec, run)?;
+        serves(rt.alloc(), &mut codec, *run)?;
     }
     Ok(())
 }

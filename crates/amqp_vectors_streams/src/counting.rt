@@ -1,7 +1,7 @@
 //! A writer with a state: it counts the frames that it writes for.
 
-use amqp_frame::AMQPRawFrame;
 use amqp_stream::{FrameWriter, OutputBuffer, RunError, Sink, write_canonical};
+use amqp_wire::AMQPRawFrame;
 use std::convert::Infallible;
 
 /// Writes the canonical bytes of each frame, and counts them.

@@ -9,22 +9,30 @@ use std::test::Fail;
 /// The read budget is spent.
 const SPENT: Result<(), StreamError> = Err(StreamError::TurnsSpent);
 
-/// How many reads a heartbeat takes: in single bytes, and in one piece.
+/// In which pieces a heartbeat comes, how many reads there may be, the outcome, and what is written.
+type Budget = (
+    &'static [usize],
+    u64,
+    Result<(), StreamError>,
+    &'static [u8],
+);
+
+/// In single bytes, and in one piece.
+const BUDGETS: &[Budget] = &[
+    (&ONES, 8, SPENT, &HEARTBEAT),
+    (&ONES, 9, Ok(()), &HEARTBEAT),
+    (&[], 0, SPENT, &[]),
+    (&[], 1, SPENT, &HEARTBEAT),
+    (&[], 2, Ok(()), &HEARTBEAT),
+];
+
+/// How many reads a heartbeat takes.
 #[test]
 fn reads_have_a_budget(rt: HostRuntime) -> Result<(), Fail> {
     let alloc = rt.alloc();
-    for (turns, outcome) in [(8, SPENT), (9, Ok(()))] {
-        let mut source = PieceSource::new(&HEARTBEAT, &ONES, &[]);
-        ends(alloc, "ones", &mut source, turns, outcome, &HEARTBEAT)?;
-    }
-    let rows: [(u64, Result<(), StreamError>, &[u8]); 3] = [
-        (0, SPENT, &[]),
-        (1, SPENT, &HEARTBEAT),
-        (2, Ok(()), &HEARTBEAT),
-    ];
-    for (turns, outcome, written) in rows {
-        let mut source = SliceSource::new(&HEARTBEAT);
-        ends(alloc, "whole", &mut source, turns, outcome, written)?;
+    for (pieces, turns, outcome, written) in BUDGETS {
+        let mut source = PieceSource::new(&HEARTBEAT, pieces, &[]);
+        ends(alloc, "a budget", &mut source, *turns, *outcome, written)?;
     }
     Ok(())
 }
@@ -101,11 +109,13 @@ fn each_write_may_fail(rt: HostRuntime) -> Result<(), Fail> {
     Ok(())
 }
 
+/// In which pieces two heartbeats come, and how many writes are made for them.
+const GATHERED: &[(&[usize], u64)] = &[(&[], 1), (&[8], 2)];
+
 /// How many writes are made, which no clause says: one for what came in one read.
 #[test]
 fn writes_are_gathered(rt: HostRuntime) -> Result<(), Fail> {
-    let rows: [(&[usize], u64); 2] = [(&[], 1), (&[8], 2)];
-    for (pieces, writes) in rows {
+    for (pieces, writes) in GATHERED {
         let mut source = PieceSource::new(&TWO_HEARTBEATS, pieces, &[]);
         let row = "two heartbeats";
         ends_after(
@@ -116,7 +126,7 @@ fn writes_are_gathered(rt: HostRuntime) -> Result<(), Fail> {
             &[],
             Ok(()),
             &TWO_HEARTBEATS,
-            writes,
+            *writes,
         )?;
     }
     Ok(())

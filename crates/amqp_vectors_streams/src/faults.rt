@@ -4,7 +4,7 @@ use amqp_stream::{ReadError, StreamError};
 use amqp_vectors::asking::{same, shows};
 use std::test::Fail;
 
-const STREAMS: [(StreamError, u8, &str); 17] = [
+const STREAMS: &[(StreamError, u8, &str)] = &[
     (StreamError::UnknownFrameType, 10, "UnknownFrameType"),
     (StreamError::BadProtocolHeader, 11, "BadProtocolHeader"),
     (StreamError::TooLarge, 12, "TooLarge"),
@@ -24,7 +24,7 @@ const STREAMS: [(StreamError, u8, &str); 17] = [
     (StreamError::NoMemory, 3, "NoMemory"),
 ];
 
-const READS: [(ReadError, &str); 7] = [
+const READS: &[(ReadError, &str)] = &[
     (ReadError::UnknownFrameType, "UnknownFrameType"),
     (ReadError::BadProtocolHeader, "BadProtocolHeader"),
     (ReadError::TooLarge, "TooLarge"),
@@ -37,13 +37,13 @@ const READS: [(ReadError, &str); 7] = [
 #[test]
 fn faults_have_names(rt: HostRuntime) -> Result<(), Fail> {
     for (error, status, name) in STREAMS {
-        same(error.status(), status)?;
-        same(error.name(), name)?;
-        shows(rt.alloc(), &error, "", name, "")?;
+        same(error.status(), *status)?;
+        same(error.name(), *name)?;
+        shows(rt.alloc(), error, "", name, "")?;
     }
     for (error, name) in READS {
-        same(error.name(), name)?;
-        shows(rt.alloc(), &error, "", name, "")?;
+        same(error.name(), *name)?;
+        shows(rt.alloc(), error, "", name, "")?;
     }
     Ok(())
 }

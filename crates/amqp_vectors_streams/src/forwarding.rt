@@ -1,14 +1,14 @@
 //! A loop over the frames of a source: each one is read, and its canonical bytes are written before the next.
 
 ghost use Rattle.std.specs.Prelude.{◌≡◌, ◌+◌, ◌^◌, ◌<◌, ◌≤◌, [], length};
-ghost use Rattle.amqp_frame.specs.Frames.{raw_of};
+ghost use Rattle.amqp_wire.specs.Frames.{raw_of};
 ghost use Rattle.amqp_stream.specs.Writing.{WritesFrame, frame_length};
 ghost use Rattle.amqp_vectors_streams.specs.Forwarding.{Forwards};
 
-use amqp_frame::AMQPRawFrame;
 use amqp_stream::{
     FrameReader, OutputBuffer, Sink, SinkFault, Source, StreamError, flush, write_canonical,
 };
+use amqp_wire::AMQPRawFrame;
 
 /// Writes the canonical bytes of a borrowed frame, and leaves nothing pending.
 fn write_now<K: Sink>(

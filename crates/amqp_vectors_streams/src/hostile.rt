@@ -22,7 +22,7 @@ enum Sent {
 }
 
 /// What is sent, and the outcome. Where it is Ok all is written as it came, else nothing is.
-const CASES: [(&str, Sent, Result<(), StreamError>); 12] = [
+const CASES: &[(&str, Sent, Result<(), StreamError>)] = &[
     ("a message", Sent::Bytes(&MESSAGE), Ok(())),
     ("64 tables", Sent::Tables(64, &[]), Ok(())),
     (
@@ -147,7 +147,7 @@ fn hostile_frames_are_kept_or_refused(rt: HostRuntime) -> Result<(), Fail> {
     let arrays = Sent::Arrays(63).bytes(alloc)?.len();
     same((tables, arrays), (382, 336))?;
     for (case, sent, outcome) in CASES {
-        is_answered(alloc, case, sent, outcome)?;
+        is_answered(alloc, case, *sent, *outcome)?;
     }
     Ok(())
 }

@@ -1,9 +1,9 @@
 //! The frames that a reader returns, one after another, and what it holds after each.
 
 use crate::asking::{HEARTBEAT, LIMIT, MESSAGE, ONES};
-use amqp_frame::{AMQPFrameType, AMQPRawFrame};
 use amqp_stream::{FrameReader, PieceSource, ReadError, Source};
 use amqp_vectors::asking::same;
+use amqp_wire::{AMQPFrameType, AMQPRawFrame};
 use std::test::Fail;
 
 /// What a call returns, how many bytes are held after it, and what is left of a budget of 100 reads.
@@ -39,7 +39,7 @@ const BODY: AMQPRawFrame<'static> = AMQPRawFrame {
 };
 
 /// A message in single bytes.
-const A_MESSAGE: [Step; 4] = [
+const A_MESSAGE: &[Step] = &[
     (Ok(Some(METHOD)), 0, 78),
     (Ok(Some(HEADER)), 0, 44),
     (Ok(Some(BODY)), 0, 31),
@@ -47,20 +47,35 @@ const A_MESSAGE: [Step; 4] = [
 ];
 
 /// A reader goes on after a failed read.
-const A_FAILED_READ: [Step; 3] = [
+const A_FAILED_READ: &[Step] = &[
     (Err(ReadError::ReadFault), 3, 98),
     (Ok(Some(BEAT)), 0, 97),
     (Ok(None), 0, 96),
 ];
 
 /// A fault is returned again without a read.
-const A_FAULT: [Step; 2] = [
+const A_FAULT: &[Step] = &[
     (Err(ReadError::UnknownFrameType), 1, 99),
     (Err(ReadError::UnknownFrameType), 1, 99),
 ];
 
 /// A fresh source, once the fault is cleared.
-const A_HEARTBEAT: [Step; 1] = [(Ok(Some(BEAT)), 0, 99)];
+const A_HEARTBEAT: &[Step] = &[(Ok(Some(BEAT)), 0, 99)];
+
+/// Bytes, in which pieces they come, which reads fail, and what the calls return.
+type Row = (
+    &'static [u8],
+    &'static [usize],
+    &'static [u64],
+    &'static [Step],
+);
+
+const ROWS: &[Row] = &[
+    (&MESSAGE, &ONES, &[], A_MESSAGE),
+    (&HEARTBEAT, &[3], &[1], A_FAILED_READ),
+    (&[9], &[], &[], A_FAULT),
+    (&HEARTBEAT, &[], &[], A_HEARTBEAT),
+];
 
 /// Fails unless the calls return so.
 fn returns<S: Source>(
@@ -79,14 +94,8 @@ fn returns<S: Source>(
 
 #[test]
 fn frames_are_returned(rt: HostRuntime) -> Result<(), Fail> {
-    let rows: [(&[u8], &[usize], &[u64], &[Step]); 4] = [
-        (&MESSAGE, &ONES, &[], &A_MESSAGE),
-        (&HEARTBEAT, &[3], &[1], &A_FAILED_READ),
-        (&[9], &[], &[], &A_FAULT),
-        (&HEARTBEAT, &[], &[], &A_HEARTBEAT),
-    ];
     let mut reader = FrameReader::open(rt.alloc(), LIMIT)?;
-    for (bytes, pieces, failing, steps) in rows {
+    for (bytes, pieces, failing, steps) in ROWS {
         reader.clear();
         let mut source = PieceSource::new(bytes, pieces, failing);
         returns(&mut reader, &mut source, steps)?;

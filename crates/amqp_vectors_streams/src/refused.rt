@@ -66,7 +66,7 @@ const TABLE: [u8; 28] = [
 ];
 
 /// The three in each order.
-const ORDERS: [[&[u8]; 3]; 6] = [
+const ORDERS: &[[&[u8]; 3]] = &[
     [&BODY, &METHOD, &TABLE],
     [&BODY, &TABLE, &METHOD],
     [&METHOD, &BODY, &TABLE],
@@ -92,7 +92,7 @@ fn refused_memory_after_open(rt: HostRuntime) {
     };
     let mut codec = codec;
     for parts in ORDERS {
-        let Ok(bytes) = joined(rt.alloc(), parts) else {
+        let Ok(bytes) = joined(rt.alloc(), *parts) else {
             return;
         };
         for profile in [Profile::Plain, Profile::Tidy] {

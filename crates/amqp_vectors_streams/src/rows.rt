@@ -6,7 +6,7 @@ use amqp_types::Profile;
 use std::test::Fail;
 
 /// Bytes, how they end, and what is written for them: the canonical bytes of the frames in front.
-const ROWS: [(&str, &[u8], Result<(), StreamError>, &[u8]); 37] = [
+const ROWS: &[(&str, &[u8], Result<(), StreamError>, &[u8])] = &[
     ("no frames", &[], Ok(()), &[]),
     (
         "a protocol header",
@@ -239,7 +239,7 @@ const ROWS: [(&str, &[u8], Result<(), StreamError>, &[u8]); 37] = [
 fn rows_are_canonicalized(rt: HostRuntime) -> Result<(), Fail> {
     let alloc = rt.alloc();
     for (row, read, outcome, written) in ROWS {
-        canonicalizes(alloc, row, read, outcome, written)?;
+        canonicalizes(alloc, row, read, *outcome, written)?;
         let mut source = SliceSource::new(read);
         ends_in(
             alloc,
@@ -247,11 +247,11 @@ fn rows_are_canonicalized(rt: HostRuntime) -> Result<(), Fail> {
             Profile::Plain,
             &mut source,
             98,
-            outcome,
+            *outcome,
             written,
         )?;
         if outcome.is_ok() {
-            canonicalizes(alloc, row, written, outcome, written)?;
+            canonicalizes(alloc, row, written, *outcome, written)?;
         }
     }
     Ok(())

@@ -10,7 +10,7 @@ use std::alloc::Global;
 use std::test::Fail;
 
 /// Bytes, the outcome, and what is written for them.
-const ROWS: [(&str, &[u8], Result<(), StreamError>, &[u8]); 14] = [
+const ROWS: &[(&str, &[u8], Result<(), StreamError>, &[u8])] = &[
     ("no frames", &[], Ok(()), &[]),
     ("a queue is declared", &DECLARE, Ok(()), &DECLARE),
     ("a message", &MESSAGE, Ok(()), &MESSAGE),
@@ -117,9 +117,9 @@ fn only_tidy_bytes_are_taken(rt: HostRuntime) -> Result<(), Fail> {
         for pieces in [[].as_slice(), ONES.as_slice()] {
             let mut source = PieceSource::new(bytes, pieces, &[]);
             let tidy = Profile::Tidy;
-            ends_in(alloc, row, tidy, &mut source, 98, outcome, written)?;
+            ends_in(alloc, row, tidy, &mut source, 98, *outcome, written)?;
             let mut source = PieceSource::new(bytes, pieces, &[]);
-            codec_ends(alloc, row, &mut codec, &mut source, outcome, written)?;
+            codec_ends(alloc, row, &mut codec, &mut source, *outcome, written)?;
         }
     }
     Ok(())

@@ -14,7 +14,7 @@ const SPOILT: [u8; 17] = [8, 0, 0, 0, 0, 0, 0, 206, 8, 0, 0, 0, 0, 0, 0, 206, 9]
 /// Bytes, the outcome, what is written for them, and how many frames are counted.
 type Row = (&'static [u8], Result<(), StreamError>, &'static [u8], u64);
 
-const ROWS: [Row; 3] = [
+const ROWS: &[Row] = &[
     (&[], Ok(()), &[], 0),
     (&MESSAGE, Ok(()), &MESSAGE, 3),
     (
@@ -63,8 +63,8 @@ fn a_writer_counts(rt: HostRuntime) -> Result<(), Fail> {
     let alloc = rt.alloc();
     let mut codec = Codec::open(alloc, LIMIT)?;
     for row in ROWS {
-        counts(alloc, &mut codec, row)?;
-        counts_alone(alloc, row)?;
+        counts(alloc, &mut codec, *row)?;
+        counts_alone(alloc, *row)?;
     }
     Ok(())
 }

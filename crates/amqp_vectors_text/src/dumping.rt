@@ -11,6 +11,9 @@ use amqp_text::{
     equal_texts_are_equal_sequences, lines_have_one_newline, one_longest_text,
     strict_frames_are_usual, undump_undoes_dump,
 };
+use amqp_vectors::asking::{same, same_in};
+use std::alloc::Global;
+use std::test::Fail;
 
 /// A broker's `connection.start`, whose properties are not in ascending key order.
 const START: [u8; 97] = [
@@ -32,7 +35,9 @@ const WEIGHTED: [u8; 56] = [
 ];
 
 /// Bytes, the lines of the frames at their front, and how the dump ends.
-const ROWS: [(&[u8], &str, Result<(), StreamError>); 18] = [
+type Row = (&'static [u8], &'static str, Result<(), StreamError>);
+
+const ROWS: &[Row] = &[
     (&MESSAGE, MESSAGE_LINES, Ok(())),
     (&DECLARE, DECLARE_LINE, Ok(())),
     (&START, START_LINE, Ok(())),
@@ -69,23 +74,29 @@ const ROWS: [(&[u8], &str, Result<(), StreamError>); 18] = [
     ),
 ];
 
+/// Fails unless dumping the bytes of the row in such pieces ends so.
+fn is_dumped(alloc: Global, row: Row, pieces: &[usize]) -> Result<(), Fail> {
+    let (bytes, lines, outcome) = row;
+    let mut source = PieceSource::new(bytes, pieces, &[]);
+    let mut sink = VecSink::new(alloc);
+    let found = dump(alloc, &mut source, &mut sink, LIMIT, 200);
+    same_in(lines, (found, sink.bytes()), (outcome, lines.as_bytes()))
+}
+
 #[test]
-fn frames_are_dumped_as_lines(rt: HostRuntime) {
-    let alloc = rt.alloc();
-    for (bytes, lines, outcome) in ROWS {
-        for pieces in [[].as_slice(), ONES.as_slice()] {
-            let mut source = PieceSource::new(bytes, pieces, &[]);
-            let mut sink = VecSink::new(alloc);
-            let found = dump(alloc, &mut source, &mut sink, LIMIT, 200);
-            assert_eq!(rt; found, outcome, "{lines}");
-            assert_eq!(rt; sink.bytes(), lines.as_bytes());
-        }
+fn frames_are_dumped_as_lines(rt: HostRuntime) -> Result<(), Fail> {
+    for row in ROWS {
+        is_dumped(rt.alloc(), *row, &[])?;
+        is_dumped(rt.alloc(), *row, &ONES)?;
     }
+    Ok(())
 }
 
 /// Which read or write of the message by single bytes fails, the read budget, how the dump ends, and how many bytes of
 /// its lines are written.
-const ENDS: [(&[u64], &[u64], u64, StreamError, usize); 14] = [
+type End = (&'static [u64], &'static [u64], u64, StreamError, usize);
+
+const ENDS: &[End] = &[
     (&[0], &[], 200, StreamError::ReadFault, 0),
     (&[21], &[], 200, StreamError::ReadFault, 0),
     (&[22], &[], 200, StreamError::ReadFault, 29),
@@ -102,16 +113,22 @@ const ENDS: [(&[u64], &[u64], u64, StreamError, usize); 14] = [
     (&[], &[], 69, StreamError::TurnsSpent, 104),
 ];
 
+/// Fails unless dumping the message ends so.
+fn has_ended(alloc: Global, end: End) -> Result<(), Fail> {
+    let (failing_reads, failing_writes, turns, error, count) = end;
+    let mut source = PieceSource::new(&MESSAGE, &ONES, failing_reads);
+    let mut sink = ScriptSink::new(alloc, &ONES, failing_writes);
+    let found = dump(alloc, &mut source, &mut sink, LIMIT, turns);
+    let lines = MESSAGE_LINES.as_bytes().get(..count).unwrap_or_default();
+    same((found, sink.bytes()), (Err(error), lines))
+}
+
 #[test]
-fn lines_before_a_failed_end_are_written(rt: HostRuntime) {
-    let alloc = rt.alloc();
-    for (failing_reads, failing_writes, turns, error, count) in ENDS {
-        let mut source = PieceSource::new(&MESSAGE, &ONES, failing_reads);
-        let mut sink = ScriptSink::new(alloc, &ONES, failing_writes);
-        let found = dump(alloc, &mut source, &mut sink, LIMIT, turns);
-        assert_eq!(rt; found, Err(error));
-        assert_eq!(rt; Some(sink.bytes()), MESSAGE_LINES.as_bytes().get(..count));
+fn lines_before_a_failed_end_are_written(rt: HostRuntime) -> Result<(), Fail> {
+    for end in ENDS {
+        has_ended(rt.alloc(), *end)?;
     }
+    Ok(())
 }
 
 #[test]

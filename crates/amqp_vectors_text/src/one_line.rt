@@ -3,6 +3,7 @@
 use crate::frames::{BEAT, DECLARE, DECLARE_LINE, LIMIT};
 use amqp_frame::{AMQPFrame, AMQPFrameType, AMQPRawFrame, ParserError, parse_frame, release};
 use amqp_text::{TextError, dump_line, gen_line, line_end, parse_line, undump_line};
+use amqp_vectors::asking::{same, same_in};
 use std::alloc::Global;
 use std::test::Fail;
 
@@ -169,7 +170,7 @@ proto 256.9.1
 "#;
 
 /// Other texts that are none.
-const OTHER_TEXTS: [&[u8]; 5] = [b"", b"\n", b"beat", b"beat\n\n", b"beat\r\n"];
+const OTHER_TEXTS: &[&[u8]] = &[b"", b"\n", b"beat", b"beat\n\n", b"beat\r\n"];
 
 #[test]
 fn other_texts_are_no_lines(rt: HostRuntime) -> Result<(), Fail> {
@@ -177,11 +178,10 @@ fn other_texts_are_no_lines(rt: HostRuntime) -> Result<(), Fail> {
     for text in NO_LINES.lines() {
         let line = format!(in alloc; "{text}\n")?;
         let found = count_of(alloc, line.as_bytes(), u32::MAX);
-        assert_eq!(rt; found, Err(TextError::BadText), "{text}");
+        same_in(text, found, Err(TextError::BadText))?;
     }
     for text in OTHER_TEXTS {
-        let found = count_of(alloc, text, u32::MAX);
-        assert_eq!(rt; found, Err(TextError::BadText));
+        same(count_of(alloc, text, u32::MAX), Err(TextError::BadText))?;
     }
     Ok(())
 }
@@ -213,7 +213,9 @@ const BODY: [&str; 5] = ["body 1 x", "ab", "", "", "\n"];
 
 /// Lines that are made, how many times what is repeated stands there, the limit, and how many bytes the frame has, of
 /// which 8 are no payload.
-const MADE: [([&str; 5], usize, u32, Result<usize, TextError>); 12] = [
+type Made = ([&'static str; 5], usize, u32, Result<usize, TextError>);
+
+const MADE: &[Made] = &[
     (ARRAYS, 0, LIMIT, Ok(24)),
     (ARRAYS, 1, LIMIT, Ok(29)),
     (ARRAYS, 63, LIMIT, Ok(339)),
@@ -228,13 +230,17 @@ const MADE: [([&str; 5], usize, u32, Result<usize, TextError>); 12] = [
     (BODY, 131_073, LIMIT, Err(TextError::BadText)),
 ];
 
+/// Fails unless the line of the row is read so.
+fn is_read(alloc: Global, row: Made) -> Result<(), Fail> {
+    let (texts, times, limit, outcome) = row;
+    let line = made(alloc, texts, times)?;
+    same(count_of(alloc, &line, limit), outcome)
+}
+
 #[test]
 fn long_and_deep_lines_are_read_within_limits(rt: HostRuntime) -> Result<(), Fail> {
-    let alloc = rt.alloc();
-    for (texts, times, limit, outcome) in MADE {
-        let line = made(alloc, texts, times)?;
-        let found = count_of(alloc, &line, limit);
-        assert_eq!(rt; found, outcome);
+    for row in MADE {
+        is_read(rt.alloc(), *row)?;
     }
     Ok(())
 }

@@ -8,10 +8,14 @@ use crate::method_rows::{METHOD_LINES, METHODS};
 use amqp_stream::{PieceSource, ScriptSink, VecSink};
 use amqp_text::{TextError, UndumpError, equal_text_errors, equal_undump_errors, undump};
 use amqp_types::NoMemory;
+use amqp_vectors::asking::{same, same_in, shows};
+use std::alloc::Global;
 use std::test::Fail;
 
 /// Texts, the canonical bytes of the frames whose lines stand in front, and how reading them ends.
-const ROWS: [(&str, &[u8], Result<(), UndumpError>); 20] = [
+type Row = (&'static str, &'static [u8], Result<(), UndumpError>);
+
+const ROWS: &[Row] = &[
     (MESSAGE_LINES, &MESSAGE, Ok(())),
     (DECLARE_LINE, &DECLARE, Ok(())),
     (KINDS_LINE, &KINDS, Ok(())),
@@ -38,23 +42,29 @@ const ROWS: [(&str, &[u8], Result<(), UndumpError>); 20] = [
     ("beat\r\n", &[], Err(UndumpError::BadText)),
 ];
 
+/// Fails unless reading back the text of the row in such pieces ends so.
+fn is_read_back(alloc: Global, row: Row, pieces: &[usize]) -> Result<(), Fail> {
+    let (text, bytes, outcome) = row;
+    let mut source = PieceSource::new(text.as_bytes(), pieces, &[]);
+    let mut sink = VecSink::new(alloc);
+    let found = undump(alloc, &mut source, &mut sink, LIMIT, 200);
+    same_in(text, (found, sink.bytes()), (outcome, bytes))
+}
+
 #[test]
-fn lines_are_read_back(rt: HostRuntime) {
-    let alloc = rt.alloc();
-    for (text, bytes, outcome) in ROWS {
-        for pieces in [[].as_slice(), ONES.as_slice()] {
-            let mut source = PieceSource::new(text.as_bytes(), pieces, &[]);
-            let mut sink = VecSink::new(alloc);
-            let found = undump(alloc, &mut source, &mut sink, LIMIT, 200);
-            assert_eq!(rt; found, outcome, "{text}");
-            assert_eq!(rt; sink.bytes(), bytes);
-        }
+fn lines_are_read_back(rt: HostRuntime) -> Result<(), Fail> {
+    for row in ROWS {
+        is_read_back(rt.alloc(), *row, &[])?;
+        is_read_back(rt.alloc(), *row, &ONES)?;
     }
+    Ok(())
 }
 
 /// Which read or write of the message's lines by single bytes fails, the read budget, how reading them back ends, and how
 /// many bytes of the message are written.
-const ENDS: [(&[u64], &[u64], u64, UndumpError, usize); 14] = [
+type End = (&'static [u64], &'static [u64], u64, UndumpError, usize);
+
+const ENDS: &[End] = &[
     (&[0], &[], 200, UndumpError::ReadFault, 0),
     (&[28], &[], 200, UndumpError::ReadFault, 0),
     (&[29], &[], 200, UndumpError::ReadFault, 22),
@@ -71,20 +81,26 @@ const ENDS: [(&[u64], &[u64], u64, UndumpError, usize); 14] = [
     (&[], &[], 104, UndumpError::TurnsSpent, 69),
 ];
 
+/// Fails unless reading back the message's lines ends so.
+fn has_ended(alloc: Global, end: End) -> Result<(), Fail> {
+    let (failing_reads, failing_writes, turns, error, count) = end;
+    let mut source = PieceSource::new(MESSAGE_LINES.as_bytes(), &ONES, failing_reads);
+    let mut sink = ScriptSink::new(alloc, &ONES, failing_writes);
+    let found = undump(alloc, &mut source, &mut sink, LIMIT, turns);
+    let bytes = MESSAGE.get(..count).unwrap_or_default();
+    same((found, sink.bytes()), (Err(error), bytes))
+}
+
 #[test]
-fn frames_before_a_failed_end_are_written(rt: HostRuntime) {
-    let alloc = rt.alloc();
-    for (failing_reads, failing_writes, turns, error, count) in ENDS {
-        let mut source = PieceSource::new(MESSAGE_LINES.as_bytes(), &ONES, failing_reads);
-        let mut sink = ScriptSink::new(alloc, &ONES, failing_writes);
-        let found = undump(alloc, &mut source, &mut sink, LIMIT, turns);
-        assert_eq!(rt; found, Err(error));
-        assert_eq!(rt; Some(sink.bytes()), MESSAGE.as_slice().get(..count));
+fn frames_before_a_failed_end_are_written(rt: HostRuntime) -> Result<(), Fail> {
+    for end in ENDS {
+        has_ended(rt.alloc(), *end)?;
     }
+    Ok(())
 }
 
 /// Errors with their names and statuses.
-const ERRORS: [(UndumpError, &str, u8); 6] = [
+const ERRORS: &[(UndumpError, &str, u8)] = &[
     (UndumpError::BadText, "BadText", 26),
     (UndumpError::CutShort, "CutShort", 21),
     (UndumpError::TurnsSpent, "TurnsSpent", 22),
@@ -96,15 +112,13 @@ const ERRORS: [(UndumpError, &str, u8); 6] = [
 #[test]
 fn errors_have_names_and_statuses(rt: HostRuntime) -> Result<(), Fail> {
     for (error, name, status) in ERRORS {
-        assert_eq!(rt; error.name(), name);
-        assert_eq!(rt; format!(in rt.alloc(); "{error}")?.as_str(), name);
-        assert_eq!(rt; error.status(), status);
-        assert!(rt; equal_undump_errors(&error, &error));
+        same((error.name(), error.status()), (*name, *status))?;
+        shows(rt.alloc(), error, "", name, "")?;
+        same(equal_undump_errors(error, error), true)?;
     }
     let error = TextError::from(NoMemory);
-    assert_eq!(rt; error.name(), "NoMemory");
-    let text = format!(in rt.alloc(); "{error} {}", TextError::BadText)?;
-    assert_eq!(rt; text.as_str(), "NoMemory BadText");
-    assert!(rt; !equal_text_errors(&error, &TextError::BadText));
-    Ok(())
+    same(error.name(), "NoMemory")?;
+    shows(rt.alloc(), &error, "", "NoMemory", "")?;
+    shows(rt.alloc(), &TextError::BadText, "", "BadText", "")?;
+    same(equal_text_errors(&error, &TextError::BadText), false)
 }

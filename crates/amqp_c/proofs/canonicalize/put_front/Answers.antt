@@ -1,7 +1,7 @@
 -- `put_front`: what it ensures and what calls require.
 use Rattle.std.proofs.Common.{refl}
 use Rattle.amqp_types.specs.Levels.{level_of}
-use Rattle.amqp_frame.specs.Frames.{raw_of}
+use Rattle.amqp_wire.specs.Frames.{raw_of}
 use Rattle.amqp_c.proofs.Fronts.{front_few, front_put, front_room, front_unput, unscanned}
 use Rattle.amqp_c.proofs.canonicalize.put_front.Goals as goal
 

@@ -2,7 +2,7 @@
 use Rattle.std.proofs.Common.{rules, ◌≡◌, false, refl, sym, ◌∙◌}
 use Rattle.amqp_types.specs.Judging.{not_tidy}
 use Rattle.amqp_types.specs.Levels.{tidy}
-use Rattle.amqp_frame.specs.Frames.{raw_of}
+use Rattle.amqp_wire.specs.Frames.{raw_of}
 use Rattle.amqp_stream.proofs.Tidying.{is_untidy}
 use Rattle.amqp_c.proofs.Fronts.{unput}
 use Rattle.amqp_c.proofs.canonicalize.put_tidy.Goals as goal

@@ -1,7 +1,7 @@
 -- `put_typed`: what it ensures.
 use Rattle.std.proofs.Common.{Err, ap}
 use Rattle.amqp_types.specs.Levels.{plain}
-use Rattle.amqp_frame.specs.Frames.{raw_of}
+use Rattle.amqp_wire.specs.Frames.{raw_of}
 use Rattle.amqp_c.proofs.Fronts.{unput}
 use Rattle.amqp_c.proofs.canonicalize.put_typed.Goals as goal
 

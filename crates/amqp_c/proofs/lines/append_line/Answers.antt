@@ -1,5 +1,5 @@
 -- `append_line`: what it ensures and what calls require.
-use Rattle.amqp_frame.specs.Frames.{raw_of}
+use Rattle.amqp_wire.specs.Frames.{raw_of}
 use Rattle.amqp_c.proofs.FrameLines.{line_appended, no_front, no_line}
 use Rattle.amqp_c.proofs.Fronts.{front_few}
 use Rattle.amqp_c.proofs.lines.append_line.Goals as goal

@@ -1,6 +1,6 @@
 -- `feksroum_undump`: clauses `line`, `none` and `incomplete`.
 use Rattle.std.proofs.Common.{◌++◌, List, ℕ, ap, ◌∙◌}
-use Rattle.amqp_text.proofs.TextFronts.{holds_none}
+use Rattle.amqp_lines.proofs.TextFronts.{holds_none}
 use Rattle.amqp_c.proofs.FrameLines.{clean_is_none, first_holds, front_is_line, front_is_none, undumped_front}
 use Rattle.amqp_c.proofs.lines.feksroum_undump.Goals as goal
 

@@ -2,7 +2,7 @@
 use Rattle.amqp_types.specs.SlotBytes.{slots_bytes}
 use Rattle.amqp_types.specs.SlotJudging.{judge_slots}
 use Rattle.amqp_types.specs.SlotSpelling.{SpellsSlots}
-use Rattle.amqp_values.proofs.SlotLaws.{slots_lawful}
+use Rattle.amqp_laws.proofs.SlotLaws.{slots_lawful}
 use Rattle.amqp_canonical.proofs.Strict.{lawful_strict}
 use Rattle.amqp_canonical.proofs.laws.canonical_slots_are_strict.Goals as goal
 

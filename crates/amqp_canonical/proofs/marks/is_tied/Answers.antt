@@ -5,7 +5,7 @@ use Rattle.amqp_canonical.specs.Marks.{blank}
 use Rattle.amqp_canonical.proofs.InOrder.{tied_as}
 use Rattle.amqp_canonical.proofs.Leading.{same_lead, same_test, never}
 use Rattle.amqp_canonical.proofs.marks.is_tied.Goals as goal
-use Rattle.amqp_values.proofs.Settling.{cmp}
+use Rattle.amqp_laws.proofs.Settling.{cmp}
 
 pub returns-then-mark-next : goal.returns-then-mark-next
 returns-then-mark-next c = λ room read.

@@ -3,7 +3,7 @@ use Rattle.std.proofs.Common.{ℕ, ◌≡◌, ◌≤◌, Bool, true, false, subs
 use Rattle.std.proofs.lemmas.List.{length-drop, take_rest}
 use Rattle.amqp_types.specs.Tags.{tag_at}
 use Rattle.amqp_types.specs.ValueJudging.{judge_value, judge_entry, nested}
-use Rattle.amqp_values.proofs.Filling.{refused_at}
+use Rattle.amqp_laws.proofs.Filling.{refused_at}
 use Rattle.amqp_canonical.specs.Judgements.{IsCanonicalAfterTag, IsCanonicalValue, IsCanonicalArray, IsCanonicalTable}
 use Rattle.amqp_canonical.proofs.Refusing.{err_judged, entry_err, refused_inside}
 use Rattle.amqp_canonical.proofs.Children.{EntriesTo, values_next, values_end, entries_none, entries_next, entries_read, entries_end}

@@ -3,8 +3,9 @@ use Rattle.std.proofs.Common.{sym, ◌∙◌, subst, map, List, [], ◌∷◌, �
 use Rattle.amqp_frame.specs.Frames.{frame_of}
 use Rattle.amqp_content.specs.declared.outcome.Outcome.{Outcome}
 use Rattle.amqp_content.specs.Outcomes.{outcome_of}
-use Rattle.amqp_content.specs.Sequences.{AreGiven}
-use Rattle.amqp_content.proofs.Apart.{none_stand, none_given, assembled_step}
+use Rattle.amqp_turns.specs.Sequences.{AreGiven}
+use Rattle.amqp_turns.proofs.Apart.{none_stand}
+use Rattle.amqp_content.proofs.Apart.{none_given, assembled_step}
 use Rattle.amqp_content.proofs.assembling.assemble.Goals as goal
 
 pub loop-frame-init : goal.loop-frame-init

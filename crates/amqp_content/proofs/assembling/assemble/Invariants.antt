@@ -2,8 +2,8 @@
 use Rattle.std.proofs.Common.{◌≡◌, [], map}
 use Rattle.amqp_frame.specs.Frames.{frame_of}
 use Rattle.amqp_content.specs.Outcomes.{outcome_of}
-use Rattle.amqp_content.specs.Sequences.{AreGiven}
-use Rattle.amqp_content.proofs.Apart.{AllStand}
+use Rattle.amqp_turns.specs.Sequences.{AreGiven}
+use Rattle.amqp_turns.proofs.Apart.{AllStand}
 use Rattle.amqp_content.proofs.assembling.assemble.Given as goal
 
 abbrev pub invariant-loop-frame : goal.invariant-loop-frame

@@ -4,7 +4,7 @@ use Rattle.std.proofs.lemmas.List.{map_push, take_rest}
 use Rattle.std.proofs.lemmas.Bool.Decides.{nat_tests}
 use Rattle.amqp_frame.specs.Frames.{Body, frame_of}
 use Rattle.amqp_content.specs.Splits.{pieces}
-use Rattle.amqp_content.proofs.Pieces.{pieces-taken, pieces-over}
+use Rattle.amqp_turns.proofs.Pieces.{pieces-taken, pieces-over}
 use Rattle.amqp_content.proofs.splitting.push_pieces.Goals as goal
 
 pub loop-rest-preserved : goal.loop-rest-preserved

@@ -2,7 +2,7 @@
 use Rattle.std.proofs.Common.{◌≡◌, Ok, sym, rules}
 use Rattle.amqp_types.specs.PropertyBytes.{properties_size}
 use Rattle.amqp_frame.specs.Frames.{header_of}
-use Rattle.amqp_frame.proofs.Sizes.{header_counted}
+use Rattle.amqp_wire.proofs.Sizes.{header_counted}
 use Rattle.amqp_frame.proofs.content_header.size_content_header.Goals as goal
 
 pub returns-clause-size : goal.returns-clause-size

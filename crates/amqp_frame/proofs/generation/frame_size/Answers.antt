@@ -1,8 +1,8 @@
 -- `frame_size`: what it ensures.
 use Rattle.std.proofs.Common.{sym, ap, ◌∙◌}
 use Rattle.amqp_frame.specs.Frames.{frame_of}
-use Rattle.amqp_frame.specs.Canonical.{framed_size, size_of}
-use Rattle.amqp_frame.proofs.Sizes.{method_size_is, header_size_is}
+use Rattle.amqp_wire.specs.Canonical.{framed_size, size_of}
+use Rattle.amqp_wire.proofs.Sizes.{method_size_is, header_size_is}
 use Rattle.amqp_frame.proofs.generation.frame_size.Goals as goal
 
 pub returns-in-Method : goal.returns-in-Method

@@ -3,8 +3,8 @@ use Rattle.std.proofs.Common.{◌≡◌, ℕ, ◌++◌, ◌∙◌, ap, length, r
 use Rattle.std.proofs.lemmas.List.{length-append, length-replicate}
 use Rattle.amqp_types.proofs.Puts.{appended}
 use Rattle.amqp_frame.specs.Frames.{frame_of}
-use Rattle.amqp_frame.specs.Canonical.{canon, size_of}
-use Rattle.amqp_frame.proofs.Sizes.{size_is}
+use Rattle.amqp_wire.specs.Canonical.{canon, size_of}
+use Rattle.amqp_wire.proofs.Sizes.{size_is}
 use Rattle.amqp_frame.proofs.generation.gen_frame.Goals as goal
 
 pub put_frame-requires-clause-fits : goal.put_frame-requires-clause-fits

@@ -2,8 +2,8 @@
 use Rattle.std.proofs.Common.{◌≡◌, IsOk, length, ap, subst, arith}
 use Rattle.amqp_frame.specs.declared.frame.AMQPFrame.{AMQPFrame}
 use Rattle.amqp_frame.specs.Frames.{frame_of}
-use Rattle.amqp_frame.specs.Canonical.{canon, size_of}
-use Rattle.amqp_frame.proofs.Sizes.{method_fits, header_fits, body_few}
+use Rattle.amqp_wire.specs.Canonical.{canon, size_of}
+use Rattle.amqp_wire.proofs.Sizes.{method_fits, header_fits, body_few}
 use Rattle.amqp_frame.proofs.generation.put_frame.Goals as goal
 
 -- the frame that was matched can be written too

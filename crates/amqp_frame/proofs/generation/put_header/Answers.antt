@@ -3,7 +3,7 @@ use Rattle.std.proofs.Common.{arith}
 use Rattle.amqp_types.proofs.Puts.{puts-length}
 use Rattle.amqp_types.specs.ContentHeaders.{content_header_bytes}
 use Rattle.amqp_frame.specs.Frames.{header_of}
-use Rattle.amqp_frame.proofs.Sizes.{framed_length}
+use Rattle.amqp_wire.proofs.Sizes.{framed_length}
 use Rattle.amqp_frame.proofs.generation.put_header.Goals as goal
 
 pub put_around-requires-clause-few : goal.put_around-requires-clause-few

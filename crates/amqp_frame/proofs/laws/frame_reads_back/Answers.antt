@@ -1,5 +1,5 @@
 -- `frame_reads_back`: what it ensures.
-use Rattle.amqp_frame.proofs.ReadingBack.{written_reads_back}
+use Rattle.amqp_wire.proofs.ReadingBack.{written_reads_back}
 use Rattle.amqp_frame.proofs.laws.frame_reads_back.Goals as goal
 
 pub returns : goal.returns

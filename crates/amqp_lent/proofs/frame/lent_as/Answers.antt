@@ -1,10 +1,10 @@
 -- `lent_as`: clauses `same` and `within` and what calls require.
 use Rattle.std.proofs.Common.{[], length, sym, ap, subst, ◌∙◌, arith}
 use Rattle.std.specs.Prelude.{IsOk}
-use Rattle.amqp_frame.specs.declared.frame_type.AMQPFrameType.{AMQPFrameType}
-use Rattle.amqp_frame.specs.declared.frame_type.AMQPFrameType.TheVariants as kinds
-use Rattle.amqp_frame.specs.Frames.{Raw}
-use Rattle.amqp_frame.specs.Verdicts.{whole, whole_as}
+use Rattle.amqp_wire.specs.declared.frame_type.AMQPFrameType.{AMQPFrameType}
+use Rattle.amqp_wire.specs.declared.frame_type.AMQPFrameType.TheVariants as kinds
+use Rattle.amqp_wire.specs.Frames.{Raw}
+use Rattle.amqp_wire.specs.Verdicts.{whole, whole_as}
 use Rattle.amqp_lent.proofs.Standing.{beat_any, header_long, method_long, ok_is, version_any, version_long}
 use Rattle.amqp_lent.proofs.frame.lent_as.Goals as goal
 

@@ -1,7 +1,7 @@
 -- `lent_frame`: clause `judged` and what calls require.
 use Rattle.std.proofs.Common.{◌∙◌}
-use Rattle.amqp_frame.specs.Frames.{raw_of}
-use Rattle.amqp_frame.specs.Verdicts.{whole}
+use Rattle.amqp_wire.specs.Frames.{raw_of}
+use Rattle.amqp_wire.specs.Verdicts.{whole}
 use Rattle.amqp_lent.proofs.Standing.{is_ok}
 use Rattle.amqp_lent.proofs.frame.lent_frame.Goals as goal
 

@@ -5,7 +5,7 @@ use Rattle.amqp_types.specs.SlotBytes.{slots_bytes}
 use Rattle.amqp_types.specs.SlotJudging.{judge_slots}
 use Rattle.amqp_canonical.specs.Shapes.{slots_of}
 use Rattle.amqp_canonical.specs.Writes.{IsRead, canonical_of}
-use Rattle.amqp_frame.proofs.Rewritten.{method_shorter}
+use Rattle.amqp_wire.proofs.Rewritten.{method_shorter}
 use Rattle.amqp_lent.specs.Payloads.{method_payload}
 use Rattle.amqp_canonical.proofs.PayloadParts.{same_some}
 use Rattle.amqp_lent.proofs.Parts.{method_fits, method_parts}

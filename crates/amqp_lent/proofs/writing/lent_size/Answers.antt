@@ -3,7 +3,7 @@ use Rattle.std.proofs.Common.{◌<◌, ◌^◌, length, ap, subst, arith}
 use Rattle.amqp_types.specs.Methods.{judge_payload, payload_bytes}
 use Rattle.amqp_types.specs.ContentHeaders.{judge_content_header, content_header_bytes}
 use Rattle.amqp_canonical.specs.Writes.{canonical_of}
-use Rattle.amqp_frame.proofs.Sizes.{framed_length}
+use Rattle.amqp_wire.proofs.Sizes.{framed_length}
 use Rattle.amqp_lent.specs.declared.frame.LentFrame.{LentFrame}
 use Rattle.amqp_lent.specs.Frames.{IsFrame, StandsFor, payload_of}
 use Rattle.amqp_lent.specs.Payloads.{header_payload, method_payload}

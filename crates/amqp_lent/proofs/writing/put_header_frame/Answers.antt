@@ -3,8 +3,8 @@ use Rattle.std.proofs.Common.{arith}
 use Rattle.amqp_types.specs.ContentHeaders.{judge_content_header, content_header_bytes}
 use Rattle.amqp_types.proofs.Puts.{puts-length}
 use Rattle.amqp_canonical.specs.Writes.{canonical_of}
-use Rattle.amqp_frame.proofs.Rewritten.{header_shorter}
-use Rattle.amqp_frame.proofs.Sizes.{framed_length}
+use Rattle.amqp_wire.proofs.Rewritten.{header_shorter}
+use Rattle.amqp_wire.proofs.Sizes.{framed_length}
 use Rattle.amqp_lent.specs.Payloads.{header_payload}
 use Rattle.amqp_lent.proofs.Parts.{header_fits}
 use Rattle.amqp_lent.proofs.writing.put_header_frame.Goals as goal

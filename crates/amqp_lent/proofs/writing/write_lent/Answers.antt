@@ -1,6 +1,6 @@
 -- `write_lent`: what it ensures and what calls require.
 use Rattle.std.proofs.Common.{◌≡◌, length, Ok, refl, sym, ap, arith}
-use Rattle.amqp_frame.specs.Canonical.{canon}
+use Rattle.amqp_wire.specs.Canonical.{canon}
 use Rattle.amqp_lent.proofs.writing.write_lent.Goals as goal
 
 pub put_lent-requires : goal.put_lent-requires

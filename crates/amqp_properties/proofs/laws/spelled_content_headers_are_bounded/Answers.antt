@@ -1,5 +1,5 @@
 -- `spelled_content_headers_are_bounded`: what it ensures.
-use Rattle.amqp_properties.proofs.HeaderLaws.{content_headers_bounded}
+use Rattle.amqp_laws.proofs.HeaderLaws.{content_headers_bounded}
 use Rattle.amqp_properties.proofs.laws.spelled_content_headers_are_bounded.Goals as goal
 
 pub returns : goal.returns

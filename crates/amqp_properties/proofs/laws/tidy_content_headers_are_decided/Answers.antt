@@ -1,5 +1,5 @@
 -- `tidy_content_headers_are_decided`: what it ensures.
-use Rattle.amqp_properties.proofs.Tidiness.{content_headers_decided}
+use Rattle.amqp_laws.proofs.PropertyTidiness.{content_headers_decided}
 use Rattle.amqp_properties.proofs.laws.tidy_content_headers_are_decided.Goals as goal
 
 pub returns : goal.returns

@@ -4,7 +4,7 @@ use Rattle.std.proofs.lemmas.Grind.{common_steps}
 use Rattle.amqp_types.specs.Answers.{Refuses}
 use Rattle.amqp_types.specs.Properties.{properties, later_properties}
 use Rattle.amqp_types.specs.PropertyJudging.{judge_set}
-use Rattle.amqp_properties.proofs.Steps.{set_refuses}
+use Rattle.amqp_laws.proofs.PropertySteps.{set_refuses}
 use Rattle.amqp_properties.proofs.parsing.read_properties.Goals as goal
 
 pub returns-in_err-later-clause-step : goal.returns-in_err-later-clause-step

@@ -1,6 +1,6 @@
 -- `write_body`: clause `gathers`.
 use Rattle.std.proofs.Common.{[], ◌∷◌, ◌++◌, length, ap, ◌∙◌, append_assoc, List, ℕ}
-use Rattle.amqp_frame.specs.Spelling.{head}
+use Rattle.amqp_wire.specs.Spelling.{head}
 use Rattle.amqp_stream.proofs.Writes.{WritesAll-then, gather_fails, all_but}
 use Rattle.amqp_stream.proofs.output.write_body.Goals as goal
 

@@ -1,6 +1,6 @@
 -- `write_canonical`: clauses `writes` and `compact`.
 use Rattle.std.proofs.Common.{Ok, arith}
-use Rattle.amqp_frame.specs.Frames.{raw_of}
+use Rattle.amqp_wire.specs.Frames.{raw_of}
 use Rattle.amqp_stream.proofs.Writes.{wrote-body, wrote-beat, wrote-proto, pushed}
 use Rattle.amqp_stream.proofs.output.write_canonical.Goals as goal
 

@@ -1,7 +1,7 @@
 -- `line_of`: clause `line`.
 use Rattle.std.proofs.Common.{List, ℕ, ◌++◌, ap, ◌∙◌}
 use Rattle.amqp_frame.specs.Frames.{frame_of}
-use Rattle.amqp_text.specs.Lines.{line}
+use Rattle.amqp_lines.specs.Lines.{line}
 use Rattle.amqp_text.proofs.Generated.{typed_in}
 use Rattle.amqp_text.proofs.generation.line_of.Goals as goal
 

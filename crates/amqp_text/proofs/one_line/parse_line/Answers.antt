@@ -1,6 +1,10 @@
 -- `parse_line`: what it ensures.
-use Rattle.amqp_text.proofs.OneLine.{is_line, parsed}
+use Rattle.std.proofs.Common.{List, ℕ, ◌++◌, ap, ◌∙◌}
+use Rattle.amqp_text.proofs.OneLine.{parsed}
 use Rattle.amqp_text.proofs.one_line.parse_line.Goals as goal
 
 pub returns-in-Ok : goal.returns-in-Ok
-returns-in-Ok c = parsed c.in-Ok.frame _ (is_line c.in_ok-is_line.field-0 c.in_ok-is_line.ensures c.if-not-branch.false) c.canonical.ensures c.in-Ok.ensures.judged
+returns-in-Ok c =
+    let read = c.in_ok-undump_line.ensures in
+    let canonical = c.deref.ensures.value ∙ read.2 ∙ ap (λ (bytes : List ℕ). bytes ++ read.0) c.new-canonical.ensures.items in
+    parsed c.in-Ok.frame _ read.1 canonical c.in-Ok.ensures.judged

@@ -2,7 +2,7 @@
 use Rattle.std.proofs.Common.{◌≡◌, ◌↔◌, IsTrue, List, sym, ap, ◌∙◌}
 use Rattle.amqp_types.specs.Values.{FieldValue, items, values_of}
 use Rattle.amqp_values.specs.Sameness.{same_items, same_items-decides}
-use Rattle.amqp_values.proofs.Conversions.{items-values_of}
+use Rattle.amqp_laws.proofs.Conversions.{items-values_of}
 use Rattle.amqp_values.proofs.equality_laws.equal_field_arrays.Goals as goal
 
 arrays_decide : (array other : List FieldValue) → IsTrue (same_items (values_of array) (values_of other)) ↔ (array ≡ other)

@@ -7,8 +7,9 @@ use Rattle.amqp_types.specs.Strings.{is_too_long}
 use Rattle.amqp_types.specs.Writing.{written, Puts}
 use Rattle.amqp_values.specs.Views.{value_of}
 use Rattle.amqp_values.proofs.Parts.{weight_at}
-use Rattle.amqp_values.proofs.Pieces.{IsPut, has_room, puts}
-use Rattle.amqp_values.proofs.Walk.{at_place, or_left, or_right, some_of}
+use Rattle.amqp_laws.proofs.Pieces.{IsPut, has_room, puts}
+use Rattle.amqp_values.proofs.Walk.{at_place, some_of}
+use Rattle.amqp_laws.proofs.Deciding.{or_left, or_right}
 use Rattle.amqp_types.specs.Tags.{tag_byte, tag_of}
 use Rattle.amqp_types.proofs.Puts.{puts_then, puts_none}
 use Rattle.amqp_values.proofs.generation.+put.Goals as goal

@@ -3,7 +3,7 @@ use Rattle.std.proofs.Common.{◌≡◌, ℕ, ◌+◌, ◌*◌, ◌≤◌, drop,
 use Rattle.amqp_types.specs.Values.{array_value, table_value, weight, values_weight, entries_weight, values_of, entries_of}
 use Rattle.amqp_types.specs.ValueBytes.{value_bytes, values_bytes, entries_bytes, any_value_long, any_entry_long}
 use Rattle.amqp_values.specs.Views.{value_of}
-use Rattle.amqp_values.proofs.Pieces.{IsPut}
+use Rattle.amqp_laws.proofs.Pieces.{IsPut}
 use Rattle.amqp_values.proofs.generation.+put.Given as goal
 
 abbrev pub decreases-put_behind : goal.decreases-put_behind

@@ -1,5 +1,5 @@
 -- `tables_are_lawful`: what it ensures.
-use Rattle.amqp_values.proofs.ValueLaws.{tables_lawful}
+use Rattle.amqp_laws.proofs.ValueLaws.{tables_lawful}
 use Rattle.amqp_values.proofs.laws.tables_are_lawful.Goals as goal
 
 pub returns : goal.returns

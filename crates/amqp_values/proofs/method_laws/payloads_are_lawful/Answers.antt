@@ -1,5 +1,5 @@
 -- `payloads_are_lawful`: what it ensures.
-use Rattle.amqp_values.proofs.MethodLaws.{payloads_lawful}
+use Rattle.amqp_laws.proofs.MethodLaws.{payloads_lawful}
 use Rattle.amqp_values.proofs.method_laws.payloads_are_lawful.Goals as goal
 
 pub returns : goal.returns

@@ -1,5 +1,5 @@
 -- `spelled_payloads_are_bounded`: what it ensures.
-use Rattle.amqp_values.proofs.MethodLaws.{payloads_bounded}
+use Rattle.amqp_laws.proofs.MethodLaws.{payloads_bounded}
 use Rattle.amqp_values.proofs.method_laws.spelled_payloads_are_bounded.Goals as goal
 
 pub returns : goal.returns

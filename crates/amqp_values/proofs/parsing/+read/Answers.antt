@@ -4,7 +4,7 @@ use Rattle.std.proofs.lemmas.List.{append-nil, drop-drop, length-drop, take_rest
 use Rattle.amqp_values.specs.Views.{value_of, entry_of}
 use Rattle.amqp_types.specs.ValueJudging.{judge_value, judge_entry}
 use Rattle.amqp_types.specs.Settling.{settled_on}
-use Rattle.amqp_values.proofs.Filling.{refused_at, goes_on, goes_on_settled, ends}
+use Rattle.amqp_laws.proofs.Filling.{refused_at, goes_on, goes_on_settled, ends}
 use Rattle.amqp_values.proofs.parsing.+read.Goals as goal
 
 pub values_in-returns-in-Err : goal.values_in-returns-in-Err

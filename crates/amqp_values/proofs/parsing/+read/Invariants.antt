@@ -2,7 +2,7 @@
 use Rattle.std.proofs.Common.{◌≡◌, ◌+◌, ◌-◌, ◌*◌, ◌≤◌, length, drop}
 use Rattle.amqp_types.specs.ValueJudging.{judge_value, filled, judge_entry, read_map}
 use Rattle.amqp_types.specs.Settling.{settled, settled_on}
-use Rattle.amqp_values.proofs.Filling.{after}
+use Rattle.amqp_laws.proofs.Filling.{after}
 use Rattle.amqp_values.proofs.parsing.+read.Given as goal
 
 abbrev pub decreases-behind_tag_within : goal.decreases-behind_tag_within

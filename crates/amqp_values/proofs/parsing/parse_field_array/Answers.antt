@@ -7,7 +7,7 @@ use Rattle.amqp_types.specs.ValueJudging.{judge_field_array}
 use Rattle.amqp_types.specs.ValueLaws.{IsNoLonger}
 use Rattle.amqp_types.specs.declared.errors.ParserError.{ParserError}
 use Rattle.amqp_types.specs.Values.{FieldValue}
-use Rattle.amqp_values.proofs.ValueLaws.{array_within}
+use Rattle.amqp_laws.proofs.ValueLaws.{array_within}
 use Rattle.amqp_values.proofs.parsing.parse_field_array.Goals as goal
 
 within : (bytes : List ℕ) (r : Result (ℕ × List FieldValue) ParserError) → IsBytes bytes → Answers (λ vs. vs) r (judge_field_array bytes) → IfOk r (λ x. IsNoLonger (array_size x.1) (array_bytes x.1) x.0)

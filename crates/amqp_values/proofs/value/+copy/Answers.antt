@@ -6,7 +6,8 @@ use Rattle.std.specs.Ordering.{nat_cmp}
 use Rattle.std.specs.Cmp.Lexicographic.{slice_cmp}
 use Rattle.amqp_types.specs.Values.{Entry, weight, values_weight, values_of, entries_weight, entries_of}
 use Rattle.amqp_values.specs.Views.{value_of}
-use Rattle.amqp_values.proofs.Parts.{weight_at, weight_in, insert_last}
+use Rattle.amqp_values.proofs.Parts.{weight_at, weight_in}
+use Rattle.amqp_laws.proofs.Settling.{insert_last}
 use Rattle.amqp_values.proofs.value.+copy.Goals as goal
 
 pub FieldArray::copy-copy-requires : goal.FieldArray::copy-copy-requires

@@ -1,13 +1,9 @@
 -- `Assembler::keep`: clauses `kept` and `others`.
-use Rattle.std.proofs.Common.{ap, ◌∙◌}
-use Rattle.amqp_content.specs.Stands.{kept_at}
-use Rattle.amqp_content.specs.Outcomes.{Assembling}
-use Rattle.amqp_content.proofs.Entries.{updates_kept}
+use Rattle.amqp_content.proofs.Entries.{here_if, others}
 use Rattle.amqp_content.proofs.assembler.Assembler.keep.Goals as goal
 
 pub returns-clause-kept : goal.returns-clause-kept
-returns-clause-kept c = (updates_kept c.self.inside.channels c.insert.new.self _ _ c.in_ok-insert.ensures.updates).here
+returns-clause-kept c = here_if c.insert.result c.insert.new.self c.args.channel_id c.args.pending c.insert.ensures.kept
 
 pub returns-clause-others : goal.returns-clause-others
-returns-clause-others c = λ other ne.
-    (updates_kept c.self.inside.channels c.insert.new.self _ _ c.in_ok-insert.ensures.updates).others other ne ∙ ap (λ (a : Assembling). kept_at a.channels other) c.self.view_is
+returns-clause-others c = others c.self.inside.channels c.args.self.now c.self.view_is c.args.channel_id c.insert.new.self c.insert.ensures.others

@@ -1,10 +1,10 @@
 -- `Assembler::push_header`: clause `takes`.
 use Rattle.std.proofs.Common.{sym, subst, ◌∙◌}
 use Rattle.amqp_frame.specs.Frames.{Head, header_of}
-use Rattle.amqp_content.specs.declared.mark.Mark.{Mark}
-use Rattle.amqp_content.specs.Stands.{kept_at}
+use Rattle.amqp_turns.specs.declared.mark.Mark.{Mark}
+use Rattle.amqp_turns.specs.Stands.{kept_at}
 use Rattle.amqp_content.specs.Outcomes.{TakesIn, outcome_of}
-use Rattle.amqp_content.proofs.Telling.{header_taken}
+use Rattle.amqp_turns.proofs.Telling.{header_taken}
 use Rattle.amqp_content.proofs.assembler.Assembler.push_header.Goals as goal
 
 pub returns-in_default-clause-takes : goal.returns-in_default-clause-takes

@@ -1,7 +1,7 @@
 -- `LentTable::get`: what it ensures.
 use Rattle.std.proofs.Common.{sym, ap, ◌∙◌}
 use Rattle.amqp_types.specs.Settling.{last_at, value_at}
-use Rattle.amqp_values.proofs.Settling.{settles}
+use Rattle.amqp_laws.proofs.Settling.{settles}
 use Rattle.amqp_canonical.specs.Marks.{entries_in}
 use Rattle.amqp_lent.proofs.value.LentTable.get.Goals as goal
 

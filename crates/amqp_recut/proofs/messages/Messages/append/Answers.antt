@@ -1,24 +1,29 @@
--- `Messages::append`: clause `ok`, what calls require and the invariant of its type.
-use Rattle.std.proofs.Common.{◌++◌, sym, ◌∙◌}
-use Rattle.amqp_recut.specs.Held.{kept_in}
-use Rattle.amqp_recut.proofs.Current.{appended, apart_after, view_after, there_other}
+-- `Messages::append`: clauses `err` and `ok` and what calls require.
+use Rattle.std.proofs.Common.{◌≡◌, ◌++◌, true, false, Option, sym, ap, ◌∙◌, subst}
+use Rattle.std.specs.Prelude.{option_map, IsSome}
+use Rattle.std.specs.FinMap as finite
+use Rattle.std.proofs.lemmas.Result.{on_ok_weaker, on_err_weaker}
+use Rattle.amqp_recut.specs.Held.{Held, HeldByChannel, held_of, kept_in}
+use Rattle.amqp_recut.proofs.Holding.{get-holding, holding_of, holding_written, holding_unwritten}
 use Rattle.amqp_recut.proofs.messages.Messages.append.Goals as goal
 
-pub returns-then-is_of-clause-ok : goal.returns-then-is_of-clause-ok
-returns-then-is_of-clause-ok c =
-    appended c.self.inside.current c.in-Some.current c.self.inside.others c.args.self.now c.args.channel_id c.args.progress c.args.bytes.now _ c.append.result c.in-Some.is (sym c.is_of.ensures ∙ c.if-is_of.true) c.self.view_is c.append.ensures.ok
+pub unreachable-requires : goal.unreachable-requires
+unreachable-requires c =
+    let none = ap (λ (m : HeldByChannel). finite.get m c.args.channel_id) (sym c.self.view_is) ∙ get-holding held_of c.self.inside.channels c.args.channel_id ∙ ap (option_map held_of) (sym c.in_default.ensures.value) in
+    let no : false ≡ true = subst (λ (o : Option Held). IsSome o) none c.requires.there in
+    cc
 
-pub append-requires-2 : goal.append-requires-2
-append-requires-2 c =
-    let other = sym c.is_of.ensures ∙ c.if-is_of.false in
-    record { there = there_other c.self.inside.current c.self.inside.others c.args.self.now c.args.channel_id other c.self.view_is c.requires.there }
-
-pub invariant_of-self-2 : goal.invariant_of-self-2
-invariant_of-self-2 c =
-    let other = sym c.is_of.ensures ∙ c.if-is_of.false in
-    apart_after c.self.inside.current c.self.inside.others c.append-2.new.self c.args.channel_id _ c.append-2.result other c.self.invariant c.append-2.ensures.ok c.append-2.ensures.err
+pub returns-clause-err : goal.returns-clause-err
+returns-clause-err c =
+    let found = sym c.in-Some.ensures.value in
+    on_err_weaker c.append.result (λ e. holding_unwritten held_of c.self.inside.channels _ c.args.channel_id c.in-Some.message.now c.append.new.self found e (c.get_mut.follows.holds c.append.new.self) ∙ c.self.view_is) c.append.ensures.err
 
 pub returns-clause-ok : goal.returns-clause-ok
 returns-clause-ok c =
-    let other = sym c.is_of.ensures ∙ c.if-is_of.false in
-    view_after c.self.inside.current c.self.inside.others c.append-2.new.self c.args.self.now c.args.channel_id (λ held. record { progress = c.args.progress; kept = kept_in held ++ c.args.bytes.now }) c.append-2.result other c.self.view_is c.append-2.ensures.ok
+    let found = sym c.in-Some.ensures.value in
+    let es = c.self.inside.channels in
+    let was = ap (λ (m : HeldByChannel). finite.get m c.args.channel_id) (sym c.self.view_is) ∙ get-holding held_of es c.args.channel_id ∙ ap (option_map held_of) found in
+    on_ok_weaker c.append.result (λ e.
+    holding_written held_of es _ c.args.channel_id c.in-Some.message.now c.append.new.self found (c.get_mut.follows.holds c.append.new.self)
+    ∙ ap (λ (h : Held). finite.insert (holding_of held_of es) c.args.channel_id h) (e ∙ ap (λ (o : Option Held). record { progress = c.args.progress; kept = kept_in o ++ c.args.bytes.now }) (sym was))
+    ∙ ap (λ (m : HeldByChannel). finite.insert m c.args.channel_id (record { progress = c.args.progress; kept = kept_in (finite.get c.args.self.now c.args.channel_id) ++ c.args.bytes.now })) c.self.view_is) c.append.ensures.ok

@@ -1,6 +1,9 @@
 -- `Messages::is_empty`: what it ensures.
-use Rattle.amqp_recut.proofs.Current.{is_some}
+use Rattle.std.proofs.Common.{ap, ◌∙◌, eqb}
+use Rattle.std.specs.FinMap as finite
+use Rattle.amqp_recut.specs.Held.{HeldByChannel, held_of}
+use Rattle.amqp_recut.proofs.Holding.{holding_empty}
 use Rattle.amqp_recut.proofs.messages.Messages.is_empty.Goals as goal
 
-pub returns-in-Some : goal.returns-in-Some
-returns-in-Some c = is_some c.self.inside.current c.in-Some.field-0 c.self.inside.others c.args.self.now c.in-Some.is c.self.view_is
+pub returns : goal.returns
+returns c = c.is_empty.ensures ∙ holding_empty held_of c.self.inside.channels ∙ ap (λ (m : HeldByChannel). eqb (finite.len m) 0) c.self.view_is

@@ -1,14 +1,17 @@
 -- `Messages::progress`: what it ensures.
-use Rattle.std.proofs.Common.{ap, ◌∙◌}
-use Rattle.std.proofs.lemmas.Bool.{eq-eqb, ne_eqb}
-use Rattle.amqp_recut.specs.Held.{progress_in}
-use Rattle.amqp_recut.proofs.Current.{get_of, get_else}
+use Rattle.std.proofs.Common.{sym, ap, ◌∙◌}
+use Rattle.std.specs.Prelude.{option_map}
+use Rattle.std.specs.FinMap as finite
+use Rattle.amqp_recut.specs.Held.{HeldByChannel, held_of, progress_in}
+use Rattle.amqp_recut.proofs.Holding.{get-holding}
 use Rattle.amqp_recut.proofs.messages.Messages.progress.Goals as goal
 
-pub returns-then-current-channel_id : goal.returns-then-current-channel_id
-returns-then-current-channel_id c =
-    ap progress_in (get_of c.self.inside.current c.in-Some.current c.self.inside.others c.args.self.now c.args.channel_id c.in-Some.is c.self.view_is (eq-eqb c.in-Some.current.channel_id c.args.channel_id c.if-current-channel_id.true))
+pub returns-in-Some : goal.returns-in-Some
+returns-in-Some c =
+    let held = sym (get-holding held_of c.self.inside.channels c.args.channel_id ∙ ap (option_map held_of) (sym c.in-Some.ensures)) ∙ ap (λ (m : HeldByChannel). finite.get m c.args.channel_id) c.self.view_is in
+    ap progress_in held
 
-pub returns-else-current-channel_id : goal.returns-else-current-channel_id
-returns-else-current-channel_id c =
-    c.progress.ensures ∙ ap progress_in (get_else c.self.inside.current c.in-Some.current c.self.inside.others c.args.self.now c.args.channel_id c.in-Some.is c.self.view_is (ne_eqb c.in-Some.current.channel_id c.args.channel_id c.if-current-channel_id.false))
+pub returns-in-None : goal.returns-in-None
+returns-in-None c =
+    let held = sym (get-holding held_of c.self.inside.channels c.args.channel_id ∙ ap (option_map held_of) (sym c.in-None.ensures)) ∙ ap (λ (m : HeldByChannel). finite.get m c.args.channel_id) c.self.view_is in
+    ap progress_in held

@@ -1,6 +1,6 @@
 -- `Recutter::end_body`: clause `writes`.
 use Rattle.std.proofs.Common.{◌++◌, List, ℕ, true, Ok, Err, sym, ap, ◌∙◌}
-use Rattle.amqp_frame.specs.Canonical.{canon_frames}
+use Rattle.amqp_wire.specs.Canonical.{canon_frames}
 use Rattle.amqp_recut.specs.declared.recutter.Recutter.{Recutter}
 use Rattle.amqp_recut.specs.Held.{kept_in}
 use Rattle.amqp_recut.specs.Stepping.{frames_given, held_at}

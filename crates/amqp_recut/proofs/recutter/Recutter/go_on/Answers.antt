@@ -2,7 +2,7 @@
 use Rattle.std.proofs.Common.{◌++◌, ◌<◌, List, ℕ, false, Ok, Err, refl, sym, ap, ◌∙◌, arith, length}
 use Rattle.std.proofs.lemmas.List.{length-append}
 use Rattle.std.specs.FinMap as finite
-use Rattle.amqp_frame.specs.Canonical.{canon_frames}
+use Rattle.amqp_wire.specs.Canonical.{canon_frames}
 use Rattle.amqp_stream.proofs.Writes.{kept}
 use Rattle.amqp_recut.specs.declared.recutter.Recutter.{Recutter}
 use Rattle.amqp_recut.specs.Held.{kept_in}

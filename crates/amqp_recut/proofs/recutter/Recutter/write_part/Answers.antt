@@ -1,9 +1,9 @@
 -- `Recutter::write_part`: clause `writes`.
 use Rattle.std.proofs.Common.{length, take, sym, ap, ◌∙◌, Ok, Err}
 use Rattle.std.proofs.lemmas.List.{take_at}
-use Rattle.amqp_frame.specs.Frames.{raw_of}
-use Rattle.amqp_frame.specs.Canonical.{canon}
-use Rattle.amqp_frame.specs.Judgements.{IsPayloadFault}
+use Rattle.amqp_wire.specs.Frames.{raw_of}
+use Rattle.amqp_wire.specs.Canonical.{canon}
+use Rattle.amqp_wire.specs.Judgements.{IsPayloadFault}
 use Rattle.amqp_stream.proofs.Writes.{added, kept}
 use Rattle.amqp_recut.proofs.Stepping.{changing, typed_wants}
 use Rattle.amqp_recut.proofs.Writing.{faulty_frame}

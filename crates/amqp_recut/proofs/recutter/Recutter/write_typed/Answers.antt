@@ -1,7 +1,7 @@
 -- `Recutter::write_typed`: clause `writes` and what calls require.
 use Rattle.std.proofs.Common.{length, refl, sym, ap, ◌∙◌, arith}
-use Rattle.amqp_frame.specs.Frames.{raw_of}
-use Rattle.amqp_content.specs.Steps.{mark_after, progress_after}
+use Rattle.amqp_wire.specs.Frames.{raw_of}
+use Rattle.amqp_turns.specs.Steps.{mark_after, progress_after}
 use Rattle.amqp_recut.specs.InTurn.{greatest}
 use Rattle.amqp_recut.proofs.Stepping.{passing, refused_as, typed_passed, typed_part, typed_refused, typed_length}
 use Rattle.amqp_recut.proofs.recutter.Recutter.write_typed.Goals as goal

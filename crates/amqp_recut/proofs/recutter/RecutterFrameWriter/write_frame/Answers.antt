@@ -1,6 +1,6 @@
 -- `RecutterFrameWriter::write_frame`: clause `writes`.
 use Rattle.std.proofs.Common.{sym, subst}
-use Rattle.amqp_frame.specs.Frames.{raw_of}
+use Rattle.amqp_wire.specs.Frames.{raw_of}
 use Rattle.amqp_recut.proofs.Stepping.{IsOutsideType, outside_passed, passing, proto_is_outside, beat_is_outside}
 use Rattle.amqp_recut.proofs.recutter.RecutterFrameWriter.write_frame.Goals as goal
 

@@ -1,5 +1,5 @@
 -- `SelectorFrameWriter::write_frame`: clause `writes`.
-use Rattle.amqp_frame.specs.Frames.{raw_of}
+use Rattle.amqp_wire.specs.Frames.{raw_of}
 use Rattle.amqp_select.proofs.Selected.{dropped, written}
 use Rattle.amqp_select.proofs.selecting.SelectorFrameWriter.write_frame.Goals as goal
 

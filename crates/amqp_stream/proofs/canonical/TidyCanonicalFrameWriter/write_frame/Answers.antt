@@ -2,7 +2,7 @@
 use Rattle.std.proofs.Common.{refl, sym, ◌∙◌}
 use Rattle.std.specs.declared.string.ParseError.{Infallible}
 use Rattle.amqp_types.specs.Levels.{tidy}
-use Rattle.amqp_frame.specs.Frames.{raw_of}
+use Rattle.amqp_wire.specs.Frames.{raw_of}
 use Rattle.amqp_stream.proofs.Writes.{canonical_by}
 use Rattle.amqp_stream.proofs.Tidying.{put_by, untidy_beat, tidy-always, tidy-beat}
 use Rattle.amqp_stream.proofs.canonical.TidyCanonicalFrameWriter.write_frame.Goals as goal

@@ -1,7 +1,7 @@
 -- `FrameReader::buffered`: clause `finds`.
 use Rattle.std.proofs.Common.{◌≡◌, ℕ, Some, refl, ap, subst}
 use Rattle.amqp_types.specs.Judging.{fault, unknown_frame_type, bad_protocol_header, too_large, bad_frame_end}
-use Rattle.amqp_frame.specs.Outer.{outer}
+use Rattle.amqp_wire.specs.Outer.{outer}
 use Rattle.amqp_stream.proofs.reader.FrameReader.buffered.Goals as goal
 
 pub returns-in-UnknownFrameType-clause-finds : goal.returns-in-UnknownFrameType-clause-finds

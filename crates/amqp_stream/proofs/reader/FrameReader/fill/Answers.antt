@@ -1,6 +1,6 @@
 -- `FrameReader::fill`: what calls require.
 use Rattle.std.proofs.Common.{◌≤◌, length, ap, arith}
-use Rattle.amqp_frame.proofs.OuterLook.{outer-past_few}
+use Rattle.amqp_wire.proofs.OuterLook.{outer-past_few}
 use Rattle.amqp_stream.proofs.Spans.{part-length}
 use Rattle.amqp_stream.proofs.reader.FrameReader.fill.Goals as goal
 

@@ -1,10 +1,10 @@
 -- `FrameReader::frame`: clauses `frame` and `few`.
 use Rattle.std.proofs.Common.{◌-◌, ◌+◌, ◌≤◌, List, ℕ, length, take, drop, refl, ap, ◌∙◌, arith}
-use Rattle.amqp_frame.specs.Looks.{laid_out}
-use Rattle.amqp_frame.proofs.OuterLook.{outer-in_bounds}
+use Rattle.amqp_wire.specs.Looks.{laid_out}
+use Rattle.amqp_wire.proofs.OuterLook.{outer-in_bounds}
 use Rattle.amqp_stream.proofs.Spans.{part-length, part-frame}
 use Rattle.amqp_stream.proofs.reader.FrameReader.frame.Goals as goal
-use Rattle.amqp_frame.proofs.Looked.{raw_with}
+use Rattle.amqp_wire.proofs.Looked.{raw_with}
 
 pub returns-clause-frame : goal.returns-clause-frame
 returns-clause-frame c =

@@ -1,12 +1,12 @@
 -- `FrameReader::next`: what it ensures.
 use Rattle.std.proofs.Common.{◌+◌, ◌-◌, ◌^◌, ◌<◌, ◌≤◌, ℕ, List, length, take, drop, Ok, Err, None, refl, sym, ap, subst, ◌∙◌, arith}
-use Rattle.amqp_frame.specs.Looks.{laid_out}
-use Rattle.amqp_frame.proofs.OuterLook.{outer-in_bounds}
+use Rattle.amqp_wire.specs.Looks.{laid_out}
+use Rattle.amqp_wire.proofs.OuterLook.{outer-in_bounds}
 use Rattle.amqp_stream.specs.Reading.{Holding, LiesIn, IsBorrowed, HasNext}
 use Rattle.amqp_stream.proofs.Spans.{part-drop, part-frame, part-length}
 use Rattle.amqp_stream.proofs.Pulling.{has_next, err_as, none_as, some_as}
 use Rattle.amqp_stream.proofs.reader.FrameReader.next.Goals as goal
-use Rattle.amqp_frame.proofs.Looked.{raw_with}
+use Rattle.amqp_wire.proofs.Looked.{raw_with}
 
 pub returns-in-Err : goal.returns-in-Err
 returns-in-Err g c =

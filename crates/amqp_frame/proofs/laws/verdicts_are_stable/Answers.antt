@@ -1,6 +1,0 @@
--- `verdicts_are_stable`: what it ensures.
-use Rattle.amqp_frame.proofs.Cuts.{verdict-append}
-use Rattle.amqp_frame.proofs.laws.verdicts_are_stable.Goals as goal
-
-pub returns : goal.returns
-returns c = verdict-append

@@ -1,6 +1,0 @@
--- `written_again`: what it ensures.
-use Rattle.amqp_frame.proofs.Strictness.{gives_itself}
-use Rattle.amqp_frame.proofs.laws.written_again.Goals as goal
-
-pub returns : goal.returns
-returns c = gives_itself

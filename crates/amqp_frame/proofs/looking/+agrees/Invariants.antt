@@ -1,6 +1,0 @@
--- `agrees`, which calls itself: what falls with each iteration or call.
-use Rattle.std.proofs.Common.{length}
-use Rattle.amqp_frame.proofs.looking.+agrees.Given as goal
-
-abbrev pub decreases-agrees : goal.decreases-agrees
-decreases-agrees l = length l.bytes.now

@@ -1,0 +1,14 @@
+-- Tests joined: what two of them decide, and what it says of each that neither, or both, hold.
+use Rattle.std.proofs.Common.{◌≡◌, Bool, true, false, ◌&&◌, ◌||◌, true≢false, refl, rules}
+use Rattle.std.specs.Bool.{Decides}
+
+pub both : (p q : Bool) {P Q : Type 0} → Decides p P → Decides q Q → Decides (p && q) (P × Q)
+both p q d e = search rules
+
+pub or_left : (a b : Bool) → (a || b) ≡ false → a ≡ false
+or_left true b h = h
+or_left false b h = refl
+
+pub or_right : (a b : Bool) → (a || b) ≡ false → b ≡ false
+or_right true b h = absurd (true≢false h)
+or_right false b h = h

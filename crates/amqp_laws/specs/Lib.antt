@@ -1,0 +1,2 @@
+-- The definitions of amqp_laws.
+pub mod HeldMethods

@@ -1,0 +1,163 @@
+-- Whether a text is the line of a frame can be decided, and so some sequence of lines in front of a text is the longest.
+use Rattle.std.proofs.Common.{◌≡◌, ◌≢◌, ◌⊎◌, ℕ, zero, suc, ◌+◌, ◌-◌, ◌≤◌, Bool, true, false, List, [], ◌∷◌, ◌++◌, length, take, drop, Option, Some, None, refl, sym, ap, subst, ◌∙◌, inl, inr, append_assoc, arith}
+use Rattle.std.specs.Str.{bytes_eq}
+use Rattle.std.proofs.lemmas.Bool.{cases_lt}
+use Rattle.std.proofs.lemmas.List.{length-append, length-drop, take_at, take-append-drop}
+use Rattle.std.proofs.lemmas.Slice.Eq.{bytes_eq-Decides}
+use Rattle.amqp_types.specs.Levels.{strict}
+use Rattle.amqp_types.specs.Judging.{IsBytes, Judged, took, past, fault}
+use Rattle.amqp_types.proofs.Took.{value_took}
+use Rattle.amqp_wire.specs.Frames.{Frame, Raw, channel_id_of}
+use Rattle.amqp_wire.specs.Spelling.{Spells, raw_bytes}
+use Rattle.amqp_wire.specs.Canonical.{canon, payload_of}
+use Rattle.amqp_wire.specs.Verdicts.{verdict}
+use Rattle.amqp_wire.proofs.Spelled.{verdict-spelled}
+use Rattle.amqp_wire.proofs.Encoded.{verdict-spells}
+use Rattle.amqp_stream.proofs.Adding.{IsBytes-append, IsBytes-nil}
+use Rattle.amqp_lines.specs.Laws.{IsStrict}
+use Rattle.amqp_lines.specs.Lines.{words, line, lines}
+use Rattle.amqp_lines.specs.LineReading.{HasNoNewline, IsFirstLine}
+use Rattle.amqp_lines.specs.OneLine.{IsStrictWithin, IsNoLine}
+use Rattle.amqp_lines.specs.ReadingLines.{read_words}
+use Rattle.amqp_lines.proofs.ReadLines.{kind_of}
+use Rattle.amqp_lines.proofs.ReadWords.{bytes_behind, bytes_front}
+use Rattle.amqp_lines.proofs.LinesApart.{raw_canon, strict_back}
+use Rattle.amqp_lines.proofs.TextFronts.{AllStrict, first_is_canon, IsAtNone, at_clean, at_other}
+use Rattle.amqp_lines.proofs.CanonBytes.{one_byte}
+
+-- ---- what is read of a line
+
+abbrev pub raw_in : Frame → Raw
+raw_in f = record { kind = kind_of f; channel = channel_id_of f; payload = payload_of f }
+
+words_in : (f : Frame) (text : List ℕ) → text ≡ line f → take (length text - 1) text ≡ words f
+unfolding line
+words_in f text e = ap (λ (xs : List ℕ). take (length xs - 1) xs) e ∙ take_at (words f) (10 ∷ []) (length (words f ++ 10 ∷ []) - 1) (omega (arith, length-append (words f) (10 ∷ [])))
+
+pub line_back : (f : Frame) (text : List ℕ) → IsStrict f → text ≡ line f → read_words (take (length text - 1) text) ≡ Some (raw_in f)
+line_back f text h e = ap read_words (words_in f text e) ∙ strict_back f h
+
+-- ---- tests
+
+bytes_or : (xs : List ℕ) → IsBytes xs ⊎ (IsBytes xs → ⊥)
+bytes_or [] = inl IsBytes-nil
+bytes_or (x ∷ xs) = elim (cases_lt x 256) [
+  | inl low ↦ elim (bytes_or xs) [
+    | inl h ↦ inl (IsBytes-append (x ∷ []) xs (λ i. one_byte x i low) h)
+    | inr never ↦ inr (λ h. never (bytes_behind (x ∷ []) xs (x ∷ xs) refl h))
+  ]
+  | inr high ↦ inr (λ h. omega (arith, h 0))
+]
+
+same_by : (xs ys : List ℕ) (b : Bool) → bytes_eq xs ys ≡ b → (xs ≡ ys) ⊎ (xs ≢ ys)
+same_by xs ys true h = inl ((bytes_eq-Decides xs ys).0 h)
+same_by xs ys false h = inr (λ e. absurd (let x = sym h ∙ (bytes_eq-Decides xs ys).1 e in cc))
+
+same_or : (xs ys : List ℕ) → (xs ≡ ys) ⊎ (xs ≢ ys)
+same_or xs ys = same_by xs ys (bytes_eq xs ys) refl
+
+-- ---- deciding
+
+pub record IsALine (m : ℕ) (text : List ℕ) : Type 0 where
+  pub frame : Frame
+  pub good : IsStrictWithin m frame
+  pub is_line : text ≡ line frame
+
+-- what the bytes of a frame are decoded as, of which a text is the line
+judged_line : (m : ℕ) (text : List ℕ) (raw : Raw) (f : Frame) → read_words (take (length text - 1) text) ≡ Some raw → IsStrictWithin m f → text ≡ line f → raw_bytes raw ≡ canon f
+judged_line m text raw f found good e =
+    let same : raw ≡ raw_in f = let x = sym found ∙ line_back f text good.is_strict e in cc in
+    ap raw_bytes same ∙ raw_canon f
+
+verdict_line : (m : ℕ) (f : Frame) → IsStrictWithin m f → verdict strict (Some m) (canon f) ≡ took f (length (canon f))
+verdict_line m f good = verdict-spelled strict (Some m) (canon f) f good.is_strict.encodes good.within
+
+by_verdict : (m : ℕ) (text : List ℕ) (raw : Raw) (v : Judged Frame) → read_words (take (length text - 1) text) ≡ Some raw → verdict strict (Some m) (raw_bytes raw) ≡ v → IsALine m text ⊎ IsNoLine m text
+by_verdict m text raw past found h = inr (λ f good e. absurd (let x = sym h ∙ ap (verdict strict (Some m)) (judged_line m text raw f found good e) ∙ verdict_line m f good in cc))
+by_verdict m text raw (fault bad) found h = inr (λ f good e. absurd (let x = sym h ∙ ap (verdict strict (Some m)) (judged_line m text raw f found good e) ∙ verdict_line m f good in cc))
+by_verdict m text raw (took g n) found h = elim (bytes_or (raw_bytes raw)) [
+  | inr never ↦ inr (λ f good e. absurd (never (subst (λ (bs : List ℕ). IsBytes bs) (sym (judged_line m text raw f found good e)) good.is_strict.are_bytes)))
+  | inl fits ↦ elim (same_or text (line g)) [
+    | inr other ↦ inr (λ f good e. absurd (other (e ∙ ap line (value_took f g (length (canon f)) n (sym (verdict_line m f good) ∙ ap (verdict strict (Some m)) (sym (judged_line m text raw f found good e)) ∙ h)))))
+    | inl same ↦
+        let spelled = verdict-spells strict (Some m) (raw_bytes raw) g n fits h in
+        let is = first_is_canon (take n (raw_bytes raw)) g spelled.0 in
+        let front = bytes_front (take n (raw_bytes raw)) (drop n (raw_bytes raw)) (raw_bytes raw) (sym (take-append-drop n (raw_bytes raw))) fits in
+        inl (record {
+          frame = g;
+          good = record {
+            is_strict = record { are_bytes = subst (λ (bs : List ℕ). IsBytes bs) is front; encodes = subst (λ (bs : List ℕ). Spells strict bs g) is spelled.0 };
+            within = subst (λ (bs : List ℕ). length bs ≤ m + 8) is spelled.1;
+          };
+          is_line = same;
+        })
+  ]
+]
+
+by_words : (m : ℕ) (text : List ℕ) (found : Option Raw) → read_words (take (length text - 1) text) ≡ found → IsALine m text ⊎ IsNoLine m text
+by_words m text None h = inr (λ f good e. absurd (let x = sym h ∙ line_back f text good.is_strict e in cc))
+by_words m text (Some raw) h = by_verdict m text raw (verdict strict (Some m) (raw_bytes raw)) h refl
+
+decide_line : (m : ℕ) (text : List ℕ) → IsALine m text ⊎ IsNoLine m text
+decide_line m text = by_words m text (read_words (take (length text - 1) text)) refl
+
+-- ---- the first line of a text
+
+first_more : (c : ℕ) (text : List ℕ) (end : ℕ) → c ≢ 10 → IsFirstLine text end → IsFirstLine (c ∷ text) (suc end)
+first_more c text end differs h = record { front = c ∷ h.front; parts = ap (λ (xs : List ℕ). c ∷ xs) h.parts; none_before = (differs, h.none_before); some = omega arith; within = omega (arith, h.within) }
+
+pub record HasFirstLine (text : List ℕ) : Type 0 where
+  pub end : ℕ
+  pub is_first : IsFirstLine text end
+
+pub first_or : (text : List ℕ) → HasFirstLine text ⊎ HasNoNewline text
+first_or [] = inr tt
+first_or (c ∷ cs) = elim (same_or (c ∷ []) (10 ∷ [])) [
+  | inl same ↦ inl (record { end = 1; is_first = record { front = []; parts = same; none_before = tt; some = omega arith; within = omega arith } })
+  | inr other ↦
+      let differs : c ≢ 10 = λ e. other (ap (λ (x : ℕ). x ∷ []) e) in
+      elim (first_or cs) [
+        | inl h ↦ inl (record { end = suc h.end; is_first = first_more c cs h.end differs h.is_first })
+        | inr none ↦ inr (differs, none)
+      ]
+]
+
+-- ---- the longest text
+
+pub record Fronts (m : ℕ) (text : List ℕ) : Type 0 where
+  pub frames : List Frame
+  pub rest : List ℕ
+  pub good : AllStrict m frames
+  pub parts : text ≡ lines frames ++ rest
+  pub none : IsAtNone m rest
+
+none_front : (m : ℕ) (text : List ℕ) → IsAtNone m text → Fronts m text
+unfolding lines
+none_front m text h = record { frames = []; rest = text; good = tt; parts = refl; none = h }
+
+unfoldable pub more_front : (m : ℕ) (text : List ℕ) (end : ℕ) (f : Frame) → IsStrictWithin m f → take end text ≡ line f → Fronts m (drop end text) → Fronts m text
+unfolding lines
+more_front m text end f good is h = record {
+  frames = f ∷ h.frames;
+  rest = h.rest;
+  good = (good, h.good);
+  parts = sym (take-append-drop end text) ∙ ap (λ (xs : List ℕ). xs ++ drop end text) is ∙ ap (λ (xs : List ℕ). line f ++ xs) h.parts ∙ sym (append_assoc (line f) (lines h.frames) h.rest);
+  none = h.none;
+}
+
+fronts_by : (m n : ℕ) (text : List ℕ) → length text ≤ n → Fronts m text
+fronts_by m zero text few = none_front m text (at_clean m text (none_in text few))
+  where
+    none_in : (xs : List ℕ) → length xs ≤ 0 → HasNoNewline xs
+    none_in [] h = tt
+    none_in (x ∷ xs) h = absurd (omega arith)
+fronts_by m (suc n) text few = elim (first_or text) [
+  | inr none ↦ none_front m text (at_clean m text none)
+  | inl h ↦ elim (decide_line m (take h.end text)) [
+    | inl is ↦ more_front m text h.end is.frame is.good is.is_line (fronts_by m n (drop h.end text) (omega (arith, few, length-drop h.end text, h.is_first.some, h.is_first.within)))
+    | inr other ↦ none_front m text (at_other m text h.end h.is_first other)
+  ]
+]
+
+pub fronts_of : (m : ℕ) (text : List ℕ) → Fronts m text
+fronts_of m text = fronts_by m (length text) text (omega arith)

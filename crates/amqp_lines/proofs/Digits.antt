@@ -1,0 +1,53 @@
+-- Digits of a number that are put at the end of a buffer, the last one first.
+use Rattle.std.proofs.Common.{◌≡◌, ℕ, ◌+◌, ◌-◌, ◌/◌, ◌%◌, ◌^◌, ◌<◌, ◌≤◌, List, [], ◌∷◌, ◌++◌, length, drop, sym, ap, ◌∙◌, append_assoc, arith}
+use Rattle.std.specs.Prelude.{map, slice_set}
+use Rattle.std.specs.Fmt.{decimal}
+use Rattle.std.proofs.lemmas.Fmt.{decimal_digit, decimal_step, decimal_nonempty, length-decimal-le}
+use Rattle.std.proofs.lemmas.Grind.{drop-set_at}
+use Rattle.std.proofs.lemmas.List.{length-append, length-drop, map-append}
+use Rattle.amqp_types.specs.Flags.{flag_at, flags_from}
+use Rattle.amqp_types.proofs.FlagBytes.{flags_from_next}
+use Rattle.amqp_lines.specs.Words.{sign}
+
+-- the last digits are put, and those of the rest of the number are not
+pub record ArePut (number : ℕ) (digits : List ℕ) (place rest : ℕ) : Type 0 where
+  pub few : place < 20
+  pub fits : rest < 2 ^ 64
+  pub all : decimal rest ++ drop (place + 1) digits ≡ decimal number
+
+short : (n : ℕ) → n < 2 ^ 64 → length (decimal n) ≤ 20
+short n h = length-decimal-le 20 n (omega arith) (omega arith) h
+
+-- where more than one digit is left, there is room for one more
+pub has_room : (number : ℕ) (digits : List ℕ) (place rest : ℕ) → number < 2 ^ 64 → length digits ≡ 20 → 10 ≤ rest → ArePut number digits place rest → 1 ≤ place
+has_room number digits place rest fits count more h =
+    let fits_rest : rest < 2 ^ 64 = h.fits in
+    let step = ap length (decimal_step rest more fits_rest) ∙ length-append (decimal (rest / 10)) _ in
+    let some = decimal_nonempty (rest / 10) (omega arith) in
+    let whole = sym (length-append (decimal rest) (drop (place + 1) digits)) ∙ ap length h.all in
+    omega (arith, step, some, whole, short number fits, length-drop (place + 1) digits, h.few)
+
+pub one_more : (number : ℕ) (digits : List ℕ) (place rest : ℕ) → length digits ≡ 20 → 10 ≤ rest → 1 ≤ place → ArePut number digits place rest → ArePut number (slice_set digits place (48 + rest % 10)) (place - 1) (rest / 10)
+one_more number digits place rest count more some h =
+    let fits_rest : rest < 2 ^ 64 = h.fits in
+    let few : place < 20 = h.few in
+    let put : drop (place - 1 + 1) (slice_set digits place (48 + rest % 10)) ≡ (48 + rest % 10) ∷ drop (place + 1) digits = drop-set_at digits place (place - 1 + 1) (48 + rest % 10) (omega arith) (omega arith) in
+    record {
+      few = omega arith;
+      fits = omega arith;
+      all = ap (λ (xs : List ℕ). decimal (rest / 10) ++ xs) put ∙ sym (append_assoc (decimal (rest / 10)) ((48 + rest % 10) ∷ []) (drop (place + 1) digits))
+          ∙ ap (λ (xs : List ℕ). xs ++ drop (place + 1) digits) (sym (decimal_step rest more fits_rest)) ∙ h.all;
+    }
+
+pub last_one : (number : ℕ) (digits : List ℕ) (place rest : ℕ) → length digits ≡ 20 → rest < 10 → ArePut number digits place rest → drop place (slice_set digits place (48 + rest)) ≡ decimal number
+last_one number digits place rest count less h =
+    let few : place < 20 = h.few in
+    drop-set_at digits place place (48 + rest) (omega arith) (omega arith) ∙ ap (λ (xs : List ℕ). xs ++ drop (place + 1) digits) (sym (decimal_digit rest less)) ∙ h.all
+
+-- ---- flags
+
+pub one_more_sign : (k byte : ℕ) (old now next : List ℕ) (one : ℕ) → now ≡ old ++ map sign (flags_from k 0 byte) → one ≡ sign (flag_at byte k) → next ≡ now ++ one ∷ [] → next ≡ old ++ map sign (flags_from (k + 1) 0 byte)
+one_more_sign k byte old now next one h is e =
+    let flags = flags_from k 0 byte in
+    e ∙ ap (λ (xs : List ℕ). xs ++ one ∷ []) h ∙ append_assoc old (map sign flags) (one ∷ []) ∙ ap (λ (n : ℕ). old ++ (map sign flags ++ n ∷ [])) is
+    ∙ ap (λ (xs : List ℕ). old ++ xs) (sym (ap (map sign) (flags_from_next k byte) ∙ map-append sign flags (flag_at byte k ∷ [])))

@@ -1,0 +1,83 @@
+-- What is returned and written by all the bytes of a source, however they are cut.
+use Rattle.std.proofs.Common.{◌≡◌, ℕ, List, [], ◌∷◌, ◌++◌, Some, Result, Ok, Err, sym, ap, subst, ◌∙◌, append_assoc, append-nil}
+use Rattle.amqp_wire.specs.Frames.{Frame}
+use Rattle.amqp_wire.specs.Canonical.{canon_frames}
+use Rattle.amqp_stream.specs.Ends.{Supply, Store}
+use Rattle.amqp_stream.specs.Writing.{IsPrefix}
+use Rattle.amqp_lines.specs.Lines.{lines}
+use Rattle.amqp_lines.specs.Undumping.{HoldsNewline, IsLongestText, Undumps, IsAnswerToText, UndumpsExactly}
+use Rattle.amqp_lines.specs.declared.errors.UndumpError.{UndumpError}
+use Rattle.amqp_lines.specs.declared.errors.UndumpError.TheVariants as errors
+use Rattle.amqp_lines.proofs.TextFronts.{all_strict, is_longest}
+use Rattle.amqp_lines.proofs.Deciding.{fronts_of}
+use Rattle.amqp_lines.proofs.Gathering.{canon_both, at_none, longest_after, longest_is}
+use Rattle.amqp_lines.proofs.Undumps.{never_began}
+use Rattle.amqp_lines.proofs.Completing.{at_none_more, Left, left_of, empty_left}
+
+-- a newline after the longest text ends it, whatever comes
+longest_more : (m : ℕ) (bytes more : List ℕ) (frames : List Frame) (rest : List ℕ) → HoldsNewline rest → IsLongestText m bytes frames rest → IsLongestText m (bytes ++ more) frames (rest ++ more)
+longest_more m bytes more frames rest holds h =
+    is_longest m (bytes ++ more) frames (rest ++ more) (all_strict m frames h.are_strict) (ap (λ (xs : List ℕ). xs ++ more) h.parts ∙ append_assoc (lines frames) rest more) (at_none_more m rest more holds (at_none m bytes frames rest h))
+
+holds_more : (rest more : List ℕ) → HoldsNewline rest → HoldsNewline (rest ++ more)
+holds_more rest more h = record { front = h.front; back = h.back ++ more; parts = ap (λ (xs : List ℕ). xs ++ more) h.parts ∙ append_assoc h.front (10 ∷ h.back) more }
+
+-- a part of the canonical bytes is one of those with others after them
+prefix_more : (written : List ℕ) (fs gs : List Frame) → IsPrefix written (canon_frames fs) → IsPrefix written (canon_frames (fs ++ gs))
+prefix_more written fs gs h = (h.0 ++ canon_frames gs, sym (append_assoc written h.0 (canon_frames gs)) ∙ ap (λ (xs : List ℕ). xs ++ canon_frames gs) h.1 ∙ sym (canon_both fs gs))
+
+whole_part : (written all : List ℕ) → written ≡ all → IsPrefix written all
+whole_part written all e = ([], append-nil written ∙ e)
+
+module _ {m turns : ℕ} {a b : Supply} {k l : Store} (bytes : List ℕ) where
+  -- all bytes were taken
+  to_end : (r : Result (Unit {0}) UndumpError) (u : Undumps m turns a b k l r) → (is : Left bytes u.taken b.left) → is.more ≡ [] → IsAnswerToText (canon_frames u.frames) u.rest u.written r → UndumpsExactly m bytes k l r
+  to_end r u is none answer = record {
+    frames = u.frames;
+    rest = u.rest;
+    text = subst (λ (xs : List ℕ). IsLongestText m xs u.frames u.rest) (sym (is.parts ∙ ap (λ (xs : List ℕ). u.taken ++ xs) none ∙ append-nil u.taken)) u.text;
+    written = u.written;
+    gains = u.gains;
+    answer = answer;
+  }
+
+  -- no more of the bytes is a text
+  to_newline : (u : Undumps m turns a b k l (Err errors.BadText)) → (is : Left bytes u.taken b.left) → UndumpsExactly m bytes k l (Err errors.BadText)
+  to_newline u is = record {
+    frames = u.frames;
+    rest = u.rest ++ is.more;
+    text = subst (λ (xs : List ℕ). IsLongestText m xs u.frames (u.rest ++ is.more)) (sym is.parts) (longest_more m u.taken is.more u.frames u.rest u.cause u.text);
+    written = u.written;
+    gains = u.gains;
+    answer = (holds_more u.rest is.more u.cause, u.writes);
+  }
+
+  -- the call was stopped, and more of the bytes may be a text
+  stopped_at : (r : Result (Unit {0}) UndumpError) (u : Undumps m turns a b k l r) → (is : Left bytes u.taken b.left) → ((all rest : List ℕ) → IsPrefix u.written all → IsAnswerToText all rest u.written r) → IsPrefix u.written (canon_frames u.frames) → UndumpsExactly m bytes k l r
+  stopped_at r u is answer part =
+      let h = fronts_of m (u.rest ++ is.more) in
+      let whole : bytes ≡ lines u.frames ++ (u.rest ++ is.more) = is.parts ∙ ap (λ (xs : List ℕ). xs ++ is.more) u.text.parts ∙ append_assoc (lines u.frames) u.rest is.more in
+      record {
+        frames = u.frames ++ h.frames;
+        rest = h.rest;
+        text = subst (λ (xs : List ℕ). IsLongestText m xs (u.frames ++ h.frames) h.rest) (sym whole) (longest_after m u.frames (u.rest ++ is.more) h.frames h.rest (all_strict m u.frames u.text.are_strict) (longest_is m (u.rest ++ is.more) h));
+        written = u.written;
+        gains = u.gains;
+        answer = answer (canon_frames (u.frames ++ h.frames)) h.rest (prefix_more u.written u.frames h.frames part);
+      }
+
+  pub exactly : (r : Result (Unit {0}) UndumpError) → Undumps m turns a b k l r → a.left ≡ Some bytes → UndumpsExactly m bytes k l r
+  exactly r u left = by_answer r u (left_of bytes u.taken b.left (sym left ∙ u.takes.bytes))
+    where
+      by_answer : (r : Result (Unit {0}) UndumpError) (u : Undumps m turns a b k l r) → Left bytes u.taken b.left → UndumpsExactly m bytes k l r
+      by_answer (Ok done) u is = to_end (Ok done) u is (empty_left b.left is.more is.is u.cause.1) (u.cause.0, u.writes)
+      by_answer (Err errors.BadText) u is = to_newline u is
+      by_answer (Err errors.CutShort) u is = to_end (Err errors.CutShort) u is (empty_left b.left is.more is.is u.cause.2) (u.cause.0, u.cause.1, u.writes)
+      by_answer (Err errors.TurnsSpent) u is = stopped_at (Err errors.TurnsSpent) u is (λ all rest part. part) (whole_part u.written (canon_frames u.frames) u.writes)
+      by_answer (Err errors.ReadFault) u is = stopped_at (Err errors.ReadFault) u is (λ all rest part. part) (whole_part u.written (canon_frames u.frames) u.writes)
+      by_answer (Err errors.WriteFault) u is = stopped_at (Err errors.WriteFault) u is (λ all rest part. part) u.writes
+      by_answer (Err errors.NoMemory) u is = stopped_at (Err errors.NoMemory) u is (λ all rest part. part) u.writes
+
+-- memory ran out before the first read
+pub never_exactly : (m turns : ℕ) (bytes : List ℕ) (a : Supply) (k : Store) → a.left ≡ Some bytes → UndumpsExactly m bytes k k (Err errors.NoMemory)
+never_exactly m turns bytes a k left = exactly bytes (Err errors.NoMemory) (never_began m turns a k) left

@@ -1,0 +1,134 @@
+-- Equal lines are those of equal frames, and equal texts those of equal sequences.
+use Rattle.std.proofs.Common.{◌≡◌, ◌≢◌, ℕ, List, [], ◌∷◌, ◌++◌, length, take, Option, Some, refl, sym, ap, ap₂, subst, ◌∙◌, append_assoc, arith}
+use Rattle.std.specs.Prelude.{codes, None}
+use Rattle.std.specs.List.{AllByRecursion, flat_map}
+use Rattle.std.proofs.lemmas.List.{length-append, take_at}
+use Rattle.amqp_types.specs.Levels.{strict}
+use Rattle.amqp_types.specs.Judging.{IsBytes}
+use Rattle.amqp_types.specs.Methods.{payload_bytes}
+use Rattle.amqp_types.specs.ContentHeaders.{content_header_bytes}
+use Rattle.amqp_types.specs.MethodSpelling.{SpellsPayload}
+use Rattle.amqp_types.specs.ContentHeaders.{SpellsContentHeader}
+use Rattle.amqp_types.proofs.Took.{value_took}
+use Rattle.amqp_laws.proofs.MethodLaws.{payloads_lawful}
+use Rattle.amqp_laws.proofs.HeaderLaws.{content_headers_lawful}
+use Rattle.amqp_wire.specs.Frames.{Frame, Proto, Meth, Head, Body, Beat, BadBeat, Raw, channel_id_of}
+use Rattle.amqp_wire.specs.Spelling.{Spells, framed, head, raw_bytes}
+use Rattle.amqp_wire.specs.Canonical.{canon, payload_of}
+use Rattle.amqp_wire.specs.Verdicts.{verdict}
+use Rattle.amqp_wire.proofs.Spelled.{verdict-spelled}
+use Rattle.amqp_lines.specs.Lines.{words, line, lines}
+use Rattle.amqp_lines.specs.Payloads.{IsPayload}
+use Rattle.amqp_lines.specs.Laws.{IsStrict}
+use Rattle.amqp_lines.specs.ReadingLines.{read_words}
+use Rattle.amqp_lines.proofs.ReadWords.{bytes_behind, bytes_front}
+use Rattle.amqp_lines.proofs.ReadLines.{IsNumbered, kind_of, words_back}
+use Rattle.amqp_lines.proofs.Newlines.{one_newline}
+
+-- ---- what a frame is that its canonical bytes encode strictly
+
+framed_payload : (type channel : ℕ) (payload : List ℕ) → IsBytes (framed type channel payload) → IsBytes payload
+framed_payload type channel payload fits =
+    let front = head type channel (length payload) in
+    bytes_front payload (206 ∷ []) (payload ++ 206 ∷ []) refl (bytes_behind front (payload ++ 206 ∷ []) (framed type channel payload) refl fits)
+
+payload_fits : (f : Frame) → IsBytes (canon f) → IsBytes (payload_of f)
+unfolding canon
+payload_fits (Proto a b c) fits = bytes_behind (65 ∷ 77 ∷ 81 ∷ 80 ∷ 0 ∷ []) (a ∷ b ∷ c ∷ []) _ refl fits
+payload_fits (Meth channel m) fits = framed_payload 1 channel (payload_bytes m) fits
+payload_fits (Head channel header) fits = framed_payload 2 channel (content_header_bytes header) fits
+payload_fits (Body channel content) fits = framed_payload 3 channel content fits
+payload_fits Beat fits = framed_payload 8 0 [] fits
+payload_fits (BadBeat channel) fits = framed_payload 8 channel [] fits
+
+payload_is : (f : Frame) → Spells strict (canon f) f → IsPayload (payload_of f) f
+payload_is (Proto a b c) h = refl
+payload_is (Meth channel m) h = let P : List ℕ → Type 0 = λ bs. SpellsPayload strict bs m in subst P (payloads_lawful.strict_is_canonical h.payload m h.spelled) h.spelled
+payload_is (Head channel header) h = let P : List ℕ → Type 0 = λ bs. SpellsContentHeader strict bs header in subst P (content_headers_lawful.strict_is_canonical h.payload header h.spelled) h.spelled
+payload_is (Body channel content) h = refl
+payload_is Beat h = refl
+payload_is (BadBeat channel) h = refl
+
+numbers_fit : (f : Frame) → IsBytes (canon f) → Spells strict (canon f) f → IsNumbered f
+unfolding canon
+numbers_fit (Proto a b c) fits h = (fits 5, fits 6, fits 7)
+numbers_fit (Meth channel m) fits h = h.is_framed.channel_fits
+numbers_fit (Head channel header) fits h = h.is_framed.channel_fits
+numbers_fit (Body channel content) fits h = h.channel_fits
+numbers_fit Beat fits h = tt
+numbers_fit (BadBeat channel) fits h = (h.0, h.1.is_framed.channel_fits)
+
+pub raw_canon : (f : Frame) → raw_bytes (record { kind = kind_of f; channel = channel_id_of f; payload = payload_of f }) ≡ canon f
+unfolding canon
+raw_canon (Proto a b c) = refl
+raw_canon (Meth channel m) = refl
+raw_canon (Head channel header) = refl
+raw_canon (Body channel content) = refl
+raw_canon Beat = refl
+raw_canon (BadBeat channel) = refl
+
+-- what is read of its words
+pub strict_back : (f : Frame) → IsStrict f → read_words (words f) ≡ Some (record { kind = kind_of f; channel = channel_id_of f; payload = payload_of f })
+strict_back f h = words_back f (payload_of f) (payload_fits f h.are_bytes) (payload_is f h.encodes) (numbers_fit f h.are_bytes h.encodes)
+
+-- ---- one frame
+
+raw_in : Option Raw → List ℕ
+raw_in None = []
+raw_in (Some raw) = raw_bytes raw
+
+same_words : (f g : Frame) → IsStrict f → IsStrict g → words f ≡ words g → f ≡ g
+unfolding raw_in
+same_words f g p q h =
+    let bytes : canon f ≡ canon g = sym (raw_canon f) ∙ ap raw_in (sym (strict_back f p) ∙ ap read_words h ∙ strict_back g q) ∙ raw_canon g in
+    value_took f g (length (canon f)) (length (canon g)) (sym (verdict-spelled strict None (canon f) f p.encodes tt) ∙ ap (verdict strict None) bytes ∙ verdict-spelled strict None (canon g) g q.encodes tt)
+
+same_front : (a b end : List ℕ) → a ++ end ≡ b ++ end → a ≡ b
+same_front a b end h =
+    let count : length a ≡ length b = omega (arith, ap length h, length-append a end, length-append b end) in
+    sym (take_at a end (length b) count) ∙ ap (take (length b)) h ∙ take_at b end (length b) refl
+
+pub same_frame : (f g : Frame) → IsStrict f → IsStrict g → line f ≡ line g → f ≡ g
+unfolding line
+same_frame f g p q h = same_words f g p q (same_front (words f) (words g) (codes "\n") h)
+
+-- ---- sequences
+
+pub head_same : (x y : ℕ) (xs ys : List ℕ) → x ∷ xs ≡ y ∷ ys → (x ≡ y) × (xs ≡ ys)
+head_same x y xs ys h = (cc, cc)
+
+-- where newlines end the fronts, these are the same
+pub newline_once : (a b x y : List ℕ) → AllByRecursion (λ c. c ≢ 10) a → AllByRecursion (λ c. c ≢ 10) b → a ++ (10 ∷ x) ≡ b ++ (10 ∷ y) → (a ≡ b) × (x ≡ y)
+newline_once [] [] x y p q h = (refl, (head_same 10 10 x y h).1)
+newline_once [] (c ∷ cs) x y p q h = absurd (q.0 (sym (head_same 10 c x (cs ++ (10 ∷ y)) h).0))
+newline_once (c ∷ cs) [] x y p q h = absurd (p.0 (head_same c 10 (cs ++ (10 ∷ x)) y h).0)
+newline_once (c ∷ cs) (d ∷ ds) x y p q h =
+    let e = head_same c d (cs ++ (10 ∷ x)) (ds ++ (10 ∷ y)) h in
+    let r = newline_once cs ds x y p.1 q.1 e.1 in
+    (ap₂ (λ (z : ℕ) (zs : List ℕ). z ∷ zs) e.0 r.0, r.1)
+
+-- a line and the text after it
+pub record Split (f g : Frame) (x y : List ℕ) : Type 0 where
+  pub first : line f ≡ line g
+  pub others : x ≡ y
+
+pub split : (f g : Frame) (x y : List ℕ) → line f ++ x ≡ line g ++ y → Split f g x y
+split f g x y h =
+    let a = one_newline f in
+    let b = one_newline g in
+    let left : line f ++ x ≡ a.front ++ (10 ∷ x) = ap (λ (xs : List ℕ). xs ++ x) a.parts ∙ append_assoc a.front (10 ∷ []) x in
+    let right : line g ++ y ≡ b.front ++ (10 ∷ y) = ap (λ (xs : List ℕ). xs ++ y) b.parts ∙ append_assoc b.front (10 ∷ []) y in
+    let same = newline_once a.front b.front x y a.none_before b.none_before (sym left ∙ h ∙ right) in
+    record { first = a.parts ∙ ap (λ (xs : List ℕ). xs ++ codes "\n") same.0 ∙ sym b.parts; others = same.1 }
+
+pub line_some : (f : Frame) (x : List ℕ) → [] ≡ line f ++ x → ⊥
+line_some f x h = let a = one_newline f in omega (arith, ap length h, length-append (line f) x, ap length a.parts, length-append a.front (10 ∷ []))
+
+pub same_sequence : (fs gs : List Frame) → AllByRecursion IsStrict fs → AllByRecursion IsStrict gs → lines fs ≡ lines gs → fs ≡ gs
+unfolding lines
+same_sequence [] [] p q h = refl
+same_sequence [] (g ∷ gs) p q h = absurd (line_some g (flat_map line gs) h)
+same_sequence (f ∷ fs) [] p q h = absurd (line_some f (flat_map line fs) (sym h))
+same_sequence (f ∷ fs) (g ∷ gs) p q h =
+    let s = split f g (flat_map line fs) (flat_map line gs) h in
+    ap₂ (λ (x : Frame) (xs : List Frame). x ∷ xs) (same_frame f g p.0 q.0 s.first) (same_sequence fs gs p.1 q.1 s.others)

@@ -1,0 +1,198 @@
+-- The text of fields and properties is read back as their canonical bytes.
+use Rattle.std.proofs.Common.{◌≡◌, ℕ, ◌+◌, ◌%◌, ◌^◌, ◌<◌, List, [], ◌∷◌, ◌++◌, length, take, drop, Bool, true, false, cond, Option, Some, None, refl, sym, ap, ap₂, ◌∙◌, append_assoc, arith}
+use Rattle.std.specs.Prelude.{codes, ◌&&◌, ◌==◌, if◌then◌else◌}
+use Rattle.std.proofs.lemmas.Bool.{eq-eqb}
+use Rattle.std.proofs.lemmas.List.{take_at, drop_at}
+use Rattle.amqp_types.specs.Levels.{strict}
+use Rattle.amqp_types.specs.Judging.{IsBytes}
+use Rattle.amqp_types.specs.Numbers.{bytes2, number_bytes}
+use Rattle.amqp_types.specs.Flags.{flag_at, flags_from}
+use Rattle.amqp_types.specs.Slots.{Item, Form, number_form, flags_form, short_string_form, long_string_form, table_form, Slot, kept_slot, reserved_slot}
+use Rattle.amqp_types.specs.SlotBytes.{item_count, flags_of, form_bytes}
+use Rattle.amqp_types.specs.SlotSpelling.{SpellsForm, SpellsSlots}
+use Rattle.amqp_types.specs.Properties.{Property, properties, later_properties}
+use Rattle.amqp_types.specs.PropertyBytes.{mask_of, worth_of, set_bytes, properties_bytes}
+use Rattle.amqp_types.specs.PropertyJudging.{first_item}
+use Rattle.amqp_types.specs.PropertyLaws.{gives_one, give_one}
+use Rattle.amqp_types.specs.PropertySpelling.{SpellsOptional, SpellsSet, SpellsProperties}
+use Rattle.amqp_types.proofs.FlagBytes.{flags_from_length}
+use Rattle.amqp_types.proofs.FormLaws.{flags_byte_back}
+use Rattle.amqp_laws.proofs.SlotForms.{flags_of-map, forms_lawful, form_gives}
+use Rattle.amqp_laws.proofs.SlotLaws.{both_true}
+use Rattle.amqp_laws.proofs.PropertyLaws.{properties_lawful, one_each}
+use Rattle.amqp_lines.specs.Words.{signs}
+use Rattle.amqp_lines.specs.Slots.{form_text, slots_text, property_name, option_text, set_text}
+use Rattle.amqp_types.specs.Reading.{◌>>=◌}
+use Rattle.amqp_lines.specs.Reading.{is_hex, is_digit, read_unsigned, read_signs, read_flags, read_short_string, read_long_string, read_table, read_value, read_form, read_slot, read_slots, strip, named, read_option, read_set, read_properties}
+use Rattle.amqp_lines.proofs.ReadWords.{Ends, IsReadAs, bytes_behind, bytes_front, number_back, long_string_back, short_string_back, signs_back}
+use Rattle.amqp_lines.proofs.ReadBack.{field_table_back}
+use Rattle.amqp_lines.proofs.SlotsBack.{one_text, plain_form}
+use Rattle.amqp_laws.proofs.Options.{counted_one}
+
+-- ---- one field
+
+flags_read : (count byte : ℕ) (rest : List ℕ) → byte < 256 → byte < 2 ^ count → read_signs count (signs (flags_from count 0 byte) ++ rest) ≡ Some (byte, rest)
+flags_read count byte rest fits below =
+    let back = flags_byte_back count byte below in
+    ap (λ (k : ℕ). read_signs k (signs (flags_from count 0 byte) ++ rest)) (sym (flags_from_length count 0 byte))
+    ∙ signs_back (flags_from count 0 byte) rest (omega (arith, back)) ∙ ap (λ (b : ℕ). Some (b, rest)) back
+
+form_back : (form : Form) → IsReadAs (read_form form) (SpellsForm strict form) (form_text form)
+unfolding read_form form_text read_flags
+form_back (number_form width) bytes rest items fits h e = ap (λ xs. read_unsigned width (form_text (number_form width) xs ++ rest)) h.made ∙ number_back width bytes rest h.thing fits h.spelled e
+form_back (flags_form count) bytes rest items fits h e =
+    let s = h.spelled in
+    ap (λ xs. read_flags count (signs (flags_of xs) ++ rest)) h.made ∙ ap (λ flags. read_flags count (signs flags ++ rest)) (flags_of-map h.thing ∙ s.flags_are)
+    ∙ ap (λ r. r >>= λ (b : ℕ × List ℕ). Some (b.0 ∷ [], b.1)) (flags_read count s.byte rest s.fits s.unused)
+    ∙ ap (λ (bs : List ℕ). Some (bs, rest)) (sym s.bytes_are)
+form_back short_string_form bytes rest items fits h e = ap (λ xs. read_short_string (form_text short_string_form xs ++ rest)) h.made ∙ short_string_back bytes rest h.thing fits h.spelled e
+form_back long_string_form bytes rest items fits h e = ap (λ xs. read_long_string (form_text long_string_form xs ++ rest)) h.made ∙ long_string_back bytes rest h.thing fits h.spelled e
+form_back table_form bytes rest items fits h e = ap (λ xs. read_table (read_value 63) (form_text table_form xs ++ rest)) h.made ∙ field_table_back bytes rest h.thing fits h.spelled e
+
+-- ---- fields, one after another
+
+pub space_ends : is_hex 32 ≡ false
+unfolding is_hex is_digit
+space_ends = refl
+
+pub slots_end : (slots : List Slot) (items : List Item) (rest : List ℕ) → Ends rest → Ends (slots_text slots items ++ rest)
+unfolding slots_text
+slots_end [] items rest e = e
+slots_end (kept_slot form ∷ slots) items rest e = space_ends
+slots_end (reserved_slot form constant ∷ slots) items rest e = slots_end slots items rest e
+
+pub slots_back : (slots : List Slot) → IsReadAs (read_slots slots) (SpellsSlots strict slots) (slots_text slots)
+unfolding read_slots read_slot slots_text
+slots_back [] bytes rest items fits h e = ap (λ (bs : List ℕ). Some (bs, rest)) (sym h.0)
+slots_back (kept_slot form ∷ slots) bytes rest items fits h e =
+    let front = h.front in
+    let behind = h.behind in
+    let count = (form_gives form front h.one (plain_form form front h.one h.first_is)).count in
+    let word = form_text form h.one in
+    let tail = slots_text slots h.two in
+    let first = ap (λ (xs : List Item). form_text form xs) (ap (take (item_count form)) h.joined ∙ take_at h.one h.two (item_count form) count) in
+    let second = ap (λ (xs : List Item). slots_text slots xs) (ap (drop (item_count form)) h.joined ∙ drop_at h.one h.two (item_count form) count) in
+    ap₂ (λ (xs ys : List ℕ). read_slots (kept_slot form ∷ slots) (((32 ∷ xs) ++ ys) ++ rest)) first second
+    ∙ ap (λ (xs : List ℕ). read_slots (kept_slot form ∷ slots) (32 ∷ xs)) (append_assoc word tail rest)
+    ∙ ap (λ r. r >>= λ (one : List ℕ × List ℕ). read_slots slots one.1 >>= λ (others : List ℕ × List ℕ). Some (one.0 ++ others.0, others.1)) (form_back form front (tail ++ rest) h.one (bytes_front front behind bytes h.bytes_are fits) h.first_is (slots_end slots h.two rest e))
+    ∙ ap (λ r. r >>= λ (others : List ℕ × List ℕ). Some (front ++ others.0, others.1)) (slots_back slots behind rest h.two (bytes_behind front behind bytes h.bytes_are fits) h.second_is e)
+    ∙ ap (λ (bs : List ℕ). Some (bs, rest)) (sym h.bytes_are)
+slots_back (reserved_slot form constant ∷ slots) bytes rest items fits h e =
+    let front = h.front in
+    let behind = h.behind in
+    let first = h.first_is in
+    let canonical : form_bytes form constant ≡ front = sym ((forms_lawful form).strict_is_canonical front first.dropped first.spelled ∙ ap (form_bytes form) first.unused) in
+    let same = h.joined ∙ ap (λ (xs : List Item). xs ++ h.two) first.none in
+    ap (λ (xs : List Item). read_slots (reserved_slot form constant ∷ slots) (slots_text slots xs ++ rest)) same
+    ∙ ap (λ r. r >>= λ (others : List ℕ × List ℕ). Some (form_bytes form constant ++ others.0, others.1)) (slots_back slots behind rest h.two (bytes_behind front behind bytes h.bytes_are fits) h.second_is e)
+    ∙ ap (λ (bs : List ℕ). Some (bs ++ behind, rest)) canonical ∙ ap (λ (bs : List ℕ). Some (bs, rest)) (sym h.bytes_are)
+
+-- ---- properties
+
+strip_front : (name rest : List ℕ) → strip name (name ++ rest) ≡ Some rest
+strip_front [] rest = refl
+strip_front (c ∷ cs) rest = ap (λ (b : Bool). cond b (strip cs (cs ++ rest)) None) (eq-eqb c c refl) ∙ strip_front cs rest
+
+-- at some place two names have different characters
+abbrev differ : List ℕ → List ℕ → Bool
+differ [] b = false
+differ (x ∷ xs) [] = false
+differ (x ∷ xs) (y ∷ ys) = if y == x then differ xs ys else true
+
+either_way : (same later : Bool) (o : Option (List ℕ)) → (later ≡ true → o ≡ None) → cond same later true ≡ true → cond same o None ≡ None
+either_way true later o f h = f h
+either_way false later o f h = refl
+
+strip_other : (a b rest : List ℕ) → differ a b ≡ true → strip a (b ++ rest) ≡ None
+strip_other [] b rest h = absurd cc
+strip_other (x ∷ xs) [] rest h = absurd cc
+strip_other (x ∷ xs) (y ∷ ys) rest h = either_way (y == x) (differ xs ys) (strip xs (ys ++ rest)) (λ k. strip_other xs ys rest k) h
+
+-- a name is none of the later ones
+abbrev apart_from : ℕ → List Property → Bool
+apart_from bit [] = true
+apart_from bit (p ∷ ps) = differ (named bit) (named p.bit) && apart_from bit ps
+
+abbrev are_apart : List Property → Bool
+are_apart [] = true
+are_apart (p ∷ ps) = apart_from p.bit ps && are_apart ps
+
+name_parts : (bit : ℕ) (words tail : List ℕ) → (codes " " ++ (property_name bit ++ (codes "=" ++ words))) ++ tail ≡ named bit ++ (words ++ tail)
+name_parts bit words tail =
+    let name = property_name bit in
+    ap (λ (xs : List ℕ). 32 ∷ xs) (append_assoc name (61 ∷ words) tail ∙ sym (append_assoc name (61 ∷ []) (words ++ tail)))
+
+-- where no later property has this name, their text does not begin with it
+strip_none : (bit : ℕ) (ps : List Property) (options : List (Option Item)) → apart_from bit ps ≡ true → strip (named bit) (set_text ps options) ≡ None
+unfolding set_text option_text
+strip_none bit [] options h = refl
+strip_none bit (p ∷ ps) [] h = refl
+strip_none bit (p ∷ ps) (None ∷ options) h = strip_none bit ps options (both_true (differ (named bit) (named p.bit)) (apart_from bit ps) h).1
+strip_none bit (p ∷ ps) (Some item ∷ options) h =
+    let words = form_text p.form (item ∷ []) in
+    ap (strip (named bit)) (name_parts p.bit words (set_text ps options)) ∙ strip_other (named bit) (named p.bit) (words ++ set_text ps options) (both_true (differ (named bit) (named p.bit)) (apart_from bit ps) h).0
+
+pub set_end : (ps : List Property) (options : List (Option Item)) → Ends (set_text ps options)
+unfolding set_text option_text
+set_end [] options = tt
+set_end (p ∷ ps) [] = tt
+set_end (p ∷ ps) (None ∷ options) = set_end ps options
+set_end (p ∷ ps) (Some item ∷ options) = space_ends
+
+worth_some : (worth : ℕ) (items : List Item) → length items ≡ 1 → worth_of worth (first_item items) ≡ worth
+unfolding worth_of
+worth_some worth [] h = absurd (omega arith)
+worth_some worth (item ∷ items) h = refl
+
+option_back : (present : Bool) (p : Property) (ps : List Property) (front : List ℕ) (option : Option Item) (options : List (Option Item)) → gives_one p.form ≡ true → apart_from p.bit ps ≡ true → IsBytes front → SpellsOptional strict present p.form front option
+    → (let text = option_text p option ++ set_text ps options in read_option p (strip (named p.bit) text) text ≡ Some ((worth_of (2 ^ p.bit) option % 2 ^ 16, front), set_text ps options))
+unfolding read_option option_text worth_of
+option_back true p ps front option options one apart fits h =
+    let tail = set_text ps options in
+    let words = form_text p.form h.thing in
+    let count = (form_gives p.form front h.thing (plain_form p.form front h.thing h.spelled)).count in
+    let text = ap (λ (o : Option Item). option_text p o ++ tail) h.made ∙ ap (λ (xs : List ℕ). xs ++ tail) (one_text p.form h.thing p refl one count) ∙ name_parts p.bit words tail in
+    let worth : worth_of (2 ^ p.bit) option ≡ 2 ^ p.bit = ap (worth_of (2 ^ p.bit)) h.made ∙ worth_some (2 ^ p.bit) h.thing (count ∙ counted_one p.form one) in
+    ap (λ (xs : List ℕ). read_option p (strip (named p.bit) xs) xs) text
+    ∙ ap (λ (o : Option (List ℕ)). read_option p o (named p.bit ++ (words ++ tail))) (strip_front (named p.bit) (words ++ tail))
+    ∙ ap (λ r. r >>= λ (x : List ℕ × List ℕ). Some ((2 ^ p.bit % 2 ^ 16, x.0), x.1)) (form_back p.form front tail h.thing fits h.spelled (set_end ps options))
+    ∙ ap (λ (w : ℕ). Some ((w % 2 ^ 16, front), tail)) (sym worth)
+option_back false p ps front option options one apart fits h =
+    let tail = set_text ps options in
+    ap (λ (o : Option Item). read_option p (strip (named p.bit) (option_text p o ++ tail)) (option_text p o ++ tail)) h.1
+    ∙ ap (λ (o : Option (List ℕ)). read_option p o tail) (strip_none p.bit ps options apart)
+    ∙ ap₂ (λ (o : Option Item) (bs : List ℕ). Some ((worth_of (2 ^ p.bit) o % 2 ^ 16, bs), tail)) (sym h.1) (sym h.0)
+
+set_back : (mask : ℕ) (ps : List Property) → give_one ps ≡ true → are_apart ps ≡ true → (bytes : List ℕ) (options : List (Option Item)) → IsBytes bytes → SpellsSet strict mask ps bytes options → read_set ps (set_text ps options) ≡ Some ((mask_of ps options % 2 ^ 16, bytes), [])
+unfolding read_set set_text mask_of
+set_back mask [] one apart bytes options fits h = ap (λ (bs : List ℕ). Some ((0, bs), [])) (sym h.0)
+set_back mask (p ∷ ps) one apart bytes options fits h =
+    let b = both_true (gives_one p.form) (give_one ps) one in
+    let a = both_true (apart_from p.bit ps) (are_apart ps) apart in
+    let first = option_back (flag_at mask p.bit) p ps h.front h.one h.two b.0 a.0 (bytes_front h.front h.behind bytes h.bytes_are fits) h.first_is in
+    let second = set_back mask ps b.1 a.1 h.behind h.two (bytes_behind h.front h.behind bytes h.bytes_are fits) h.second_is in
+    let sum : (worth_of (2 ^ p.bit) h.one % 2 ^ 16 + mask_of ps h.two % 2 ^ 16) % 2 ^ 16 ≡ (worth_of (2 ^ p.bit) h.one + mask_of ps h.two) % 2 ^ 16 = omega arith in
+    ap (λ (os : List (Option Item)). read_set (p ∷ ps) (set_text (p ∷ ps) os)) h.joined
+    ∙ ap (λ r. r >>= λ (one : (ℕ × List ℕ) × List ℕ). read_set ps one.1 >>= λ (others : (ℕ × List ℕ) × List ℕ). Some (((one.0.0 + others.0.0) % 2 ^ 16, one.0.1 ++ others.0.1), others.1)) first
+    ∙ ap (λ r. r >>= λ (others : (ℕ × List ℕ) × List ℕ). Some (((worth_of (2 ^ p.bit) h.one % 2 ^ 16 + others.0.0) % 2 ^ 16, h.front ++ others.0.1), others.1)) second
+    ∙ ap (λ (m : ℕ). Some ((m, h.front ++ h.behind), [])) sum
+    ∙ ap₂ (λ (os : List (Option Item)) (bs : List ℕ). Some ((mask_of (p ∷ ps) os % 2 ^ 16, bs), [])) (sym h.joined) (sym h.bytes_are)
+
+each_apart : are_apart properties ≡ true
+unfolding properties later_properties property_name
+each_apart = refl
+
+-- a mask of two bytes
+low_mask : (n : ℕ) → number_bytes bytes2 (n % 2 ^ 16) ≡ number_bytes bytes2 n
+low_mask n = ap₂ (λ (a b : ℕ). a ∷ b ∷ []) (omega arith) (omega arith)
+
+pub properties_back : (bytes : List ℕ) (options : List (Option Item)) → IsBytes bytes → SpellsProperties strict bytes options → read_properties (set_text properties options) ≡ Some (bytes, [])
+unfolding read_properties properties_bytes form_bytes
+properties_back bytes options fits h =
+    let mask = mask_of properties options in
+    let canonical = properties_lawful.strict_is_canonical bytes options h in
+    let front : number_bytes bytes2 mask ≡ number_bytes bytes2 h.mask =
+    sym (take_at (number_bytes bytes2 mask) (set_bytes properties options) 2 refl) ∙ ap (take 2) (sym canonical ∙ h.bytes_are) ∙ take_at (number_bytes bytes2 h.mask) h.behind 2 refl in
+    ap (λ r. r >>= λ (set : (ℕ × List ℕ) × List ℕ). Some (number_bytes bytes2 set.0.0 ++ set.0.1, set.1))
+    (set_back h.mask properties one_each each_apart h.behind options (bytes_behind (number_bytes bytes2 h.mask) h.behind bytes h.bytes_are fits) h.set)
+    ∙ ap (λ (bs : List ℕ). Some (bs ++ h.behind, [])) (low_mask mask ∙ front) ∙ ap (λ (bs : List ℕ). Some (bs, [])) (sym h.bytes_are)

@@ -1,0 +1,135 @@
+-- Laws of texts: the longest is one, what was dumped is read back, and strict bytes and texts correspond.
+use Rattle.std.proofs.Common.{◌≡◌, ◌≢◌, ◌↔◌, ℕ, false, List, [], ◌∷◌, ◌++◌, length, Some, None, Ok, refl, sym, ap, ap₂, subst, ◌∙◌, append_assoc, append-nil, arith, Result, Err}
+use Rattle.std.specs.List.{AllByRecursion, flat_map}
+use Rattle.std.proofs.lemmas.List.{take_all}
+use Rattle.std.proofs.lemmas.Bool.{ne_eqb}
+use Rattle.amqp_types.specs.Levels.{plain, strict}
+use Rattle.amqp_types.specs.Judging.{IsBytes}
+use Rattle.amqp_wire.specs.Frames.{Frame, Proto, Meth, Head, Body, Beat, BadBeat}
+use Rattle.amqp_wire.specs.Fronts.{front, place}
+use Rattle.amqp_wire.specs.Spelling.{Spells, SpellsFrames}
+use Rattle.amqp_wire.specs.Canonical.{canon, canon_frames, is_deep, is_long, size_of, read_back}
+use Rattle.amqp_wire.specs.Laws.{IsFrameHeld}
+use Rattle.amqp_wire.proofs.Encoded.{verdict-spells}
+use Rattle.amqp_wire.proofs.ReadingBack.{reads_back}
+use Rattle.amqp_wire.proofs.Sequences.{front-is_sequence, one_sequence}
+use Rattle.amqp_wire.proofs.Strictness.{one_strict, sequence_shortest}
+use Rattle.amqp_stream.specs.Ends.{Store, Gains}
+use Rattle.amqp_lines.specs.Dumping.{dumped}
+use Rattle.amqp_lines.specs.Laws.{IsStrict}
+use Rattle.amqp_lines.specs.Lines.{line, lines}
+use Rattle.amqp_lines.specs.Undumping.{AreStrict, IsLongestText, UndumpsExactly}
+use Rattle.amqp_lines.specs.LineReading.{HasNoNewline}
+use Rattle.amqp_lines.specs.UndumpLaws.{IsSameText, Undoes, AreBytesAndText, IsUsual}
+use Rattle.amqp_lines.specs.declared.errors.UndumpError.{UndumpError}
+use Rattle.amqp_lines.specs.declared.errors.UndumpError.TheVariants as errors
+use Rattle.amqp_lines.proofs.CanonBytes.{canonical_bytes}
+use Rattle.amqp_lines.proofs.ReadWords.{bytes_front}
+use Rattle.amqp_lines.proofs.LinesApart.{same_frame, split, same_sequence}
+use Rattle.amqp_lines.proofs.TextFronts.{AllStrict, all_strict, at_clean, holds_none, is_longest}
+
+-- ---- the longest text is one
+
+same_text : (m : ℕ) (fs gs : List Frame) (rest more : List ℕ) → AllStrict m fs → AllStrict m gs → length fs ≡ length gs → lines fs ++ rest ≡ lines gs ++ more → IsSameText fs gs rest more
+unfolding lines
+same_text m [] [] rest more p q n e = record { frames = refl; rests = e }
+same_text m [] (g ∷ gs) rest more p q n e = absurd (omega arith)
+same_text m (f ∷ fs) [] rest more p q n e = absurd (omega arith)
+same_text m (f ∷ fs) (g ∷ gs) rest more p q n e =
+    let s = split f g (flat_map line fs ++ rest) (flat_map line gs ++ more) (sym (append_assoc (line f) (flat_map line fs) rest) ∙ e ∙ append_assoc (line g) (flat_map line gs) more) in
+    let others = same_text m fs gs rest more p.1 q.1 (omega arith) s.others in
+    record { frames = ap₂ (λ (x : Frame) (xs : List Frame). x ∷ xs) (same_frame f g p.0.is_strict q.0.is_strict s.first) others.frames; rests = others.rests }
+
+pub one_longest : (m : ℕ) (bytes : List ℕ) (fs gs : List Frame) (rest more : List ℕ) → IsLongestText m bytes fs rest → IsLongestText m bytes gs more → IsSameText fs gs rest more
+one_longest m bytes fs gs rest more h k =
+    let up = h.longest gs k.are_strict (more, sym k.parts) in
+    let down = k.longest fs h.are_strict (rest, sym h.parts) in
+    same_text m fs gs rest more (all_strict m fs h.are_strict) (all_strict m gs k.are_strict) (omega (arith, up, down)) (sym h.parts ∙ k.parts)
+
+-- ---- what was dumped
+
+pub dumped_back : (m : ℕ) (bytes : List ℕ) → IsBytes bytes → IsLongestText m (dumped m bytes) (front plain (Some m) bytes) []
+dumped_back m bytes fits =
+    let frames = front plain (Some m) bytes in
+    let cut = front-is_sequence plain (Some m) bytes fits in
+    let used = bytes_front cut.used (place plain (Some m) bytes) bytes cut.parts fits in
+    let good : AreStrict m frames = ((one_strict plain (Some m) cut.used frames cut.sequence).canonical, canonical_bytes (Some m) cut.used frames used cut.sequence) in
+    is_longest m (lines frames) frames [] (all_strict m frames good) (sym (append-nil (lines frames))) (at_clean m [] tt)
+
+-- what stands after the text, and is none of it
+undoes : (m : ℕ) (bytes : List ℕ) (k l : Store) (r : Result (Unit {0}) UndumpError) (u : UndumpsExactly m (dumped m bytes) k l r) → u.frames ≡ front plain (Some m) bytes → u.rest ≡ [] → Undoes m bytes k l r
+undoes m bytes k l (Ok done) u frames none = record {
+  never_bad = λ e. absurd cc;
+  never_short = λ e. absurd cc;
+  written = λ e. subst (λ (xs : List ℕ). Gains k l xs) (u.answer.1 ∙ ap canon_frames frames) u.gains;
+}
+undoes m bytes k l (Err errors.BadText) u frames none = absurd (holds_none u.rest (subst HasNoNewline (sym none) tt) u.answer.0)
+undoes m bytes k l (Err errors.CutShort) u frames none = absurd (u.answer.0 none)
+undoes m bytes k l (Err errors.TurnsSpent) u frames none = record { never_bad = λ e. absurd cc; never_short = λ e. absurd cc; written = λ e. absurd cc }
+undoes m bytes k l (Err errors.ReadFault) u frames none = record { never_bad = λ e. absurd cc; never_short = λ e. absurd cc; written = λ e. absurd cc }
+undoes m bytes k l (Err errors.WriteFault) u frames none = record { never_bad = λ e. absurd cc; never_short = λ e. absurd cc; written = λ e. absurd cc }
+undoes m bytes k l (Err errors.NoMemory) u frames none = record { never_bad = λ e. absurd cc; never_short = λ e. absurd cc; written = λ e. absurd cc }
+
+pub undump_undoes : (m : ℕ) (bytes : List ℕ) (k l : Store) (r : Result (Unit {0}) UndumpError) → IsBytes bytes → UndumpsExactly m (dumped m bytes) k l r → Undoes m bytes k l r
+undump_undoes m bytes k l r fits u =
+    let same = one_longest m (dumped m bytes) u.frames (front plain (Some m) bytes) u.rest [] u.text (dumped_back m bytes fits) in
+    undoes m bytes k l r u same.frames same.rests
+
+-- ---- strict bytes and texts
+
+only_strict : (m : ℕ) (bytes text : List ℕ) (h : AreBytesAndText m bytes text) → bytes ≡ canon_frames h.frames
+only_strict m bytes text h = (one_strict strict (Some m) bytes h.frames h.is_sequence).only bytes h.is_sequence
+
+are_strict_frames : (m : ℕ) (bytes text : List ℕ) (h : AreBytesAndText m bytes text) → AreStrict m h.frames
+are_strict_frames m bytes text h =
+    let is = only_strict m bytes text h in
+    (subst (λ (bs : List ℕ). SpellsFrames strict (Some m) bs h.frames) is h.is_sequence, subst (λ (bs : List ℕ). IsBytes bs) is h.are_bytes)
+
+each_strict : (m : ℕ) (fs : List Frame) → AllStrict m fs → AllByRecursion IsStrict fs
+each_strict m [] h = tt
+each_strict m (f ∷ fs) h = (h.0.is_strict, each_strict m fs h.1)
+
+pub one_text : (m : ℕ) (bytes t u : List ℕ) → AreBytesAndText m bytes t → AreBytesAndText m bytes u → t ≡ u
+one_text m bytes t u h k = h.is_text ∙ ap lines (one_sequence strict (Some m) bytes h.frames k.frames h.is_sequence k.is_sequence) ∙ sym k.is_text
+
+pub one_text_bytes : (m : ℕ) (b c text : List ℕ) → AreBytesAndText m b text → AreBytesAndText m c text → b ≡ c
+one_text_bytes m b c text h k =
+    let fs = each_strict m h.frames (all_strict m h.frames (are_strict_frames m b text h)) in
+    let gs = each_strict m k.frames (all_strict m k.frames (are_strict_frames m c text k)) in
+    only_strict m b text h ∙ ap canon_frames (same_sequence h.frames k.frames fs gs (sym h.is_text ∙ k.is_text)) ∙ sym (only_strict m c text k)
+
+-- ---- which frames are encoded strictly
+
+not_bad_beat : (f : Frame) → Spells strict (canon f) f → f ≢ BadBeat 0
+not_bad_beat f h e = absurd (let P : Frame → Type 0 = λ g. Spells strict (canon g) g in let x = subst P e h in omega (arith, x.0))
+
+strict_usual : (f : Frame) → IsStrict f → IsUsual f
+strict_usual f h =
+    let sequence : SpellsFrames strict None (canon f) (f ∷ []) = (canon f, [], sym (append-nil (canon f)), h.encodes, tt, refl) in
+    let sized = sequence_shortest strict None (canon f) (f ∷ []) sequence in
+    record { belongs = not_bad_beat f h.encodes; not_deep = sized.none_is_deep.0; not_long = sized.none_is_long.0 }
+
+back_same : (f : Frame) → f ≢ BadBeat 0 → read_back f ≡ f
+back_same (Proto a b c) h = refl
+back_same (Meth channel m) h = refl
+back_same (Head channel header) h = refl
+back_same (Body channel content) h = refl
+back_same Beat h = refl
+back_same (BadBeat channel) h = rw (ne_eqb channel 0 (λ e. h (ap BadBeat e))) refl
+
+has_size : (f : Frame) → is_deep f ≡ false → is_long f ≡ false → size_of f ≡ Ok (length (canon f))
+unfolding size_of
+has_size f deep long = rw (deep, long) refl
+
+usual_strict : (f : Frame) → IsFrameHeld f → IsBytes (canon f) → IsUsual f → IsStrict f
+usual_strict f held fits h =
+    let n = length (canon f) in
+    let back = (reads_back strict f held (has_size f h.not_deep h.not_long)).whole [] in
+    let found = verdict-spells strict None (canon f) (read_back f) n fits (rw (append-nil (canon f)) at back) in
+    record {
+      are_bytes = fits;
+      encodes = subst (λ (g : Frame). Spells strict (canon f) g) (back_same f h.belongs) (subst (λ (bs : List ℕ). Spells strict bs (read_back f)) (take_all n (canon f) (omega arith)) found.0);
+    }
+
+pub strict_is_usual : (f : Frame) → IsFrameHeld f → IsBytes (canon f) → IsStrict f ↔ IsUsual f
+strict_is_usual f held fits = (strict_usual f, usual_strict f held fits)

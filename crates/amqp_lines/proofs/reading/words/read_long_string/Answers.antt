@@ -1,0 +1,12 @@
+-- `read_long_string`: clause `read`.
+use Rattle.amqp_lines.specs.Reading.{inside, read_escaped, framed_long, read_long_string}
+use Rattle.amqp_lines.proofs.ReadSteps.{failed, long_framed}
+use Rattle.amqp_lines.proofs.reading.words.read_long_string.Goals as goal
+
+pub returns-in-Ok-clause-read : goal.returns-in-Ok-clause-read
+unfolding read_long_string
+returns-in-Ok-clause-read c = long_framed _ _ (inside read_escaped 34 c.args.i.now) _ _ _ _ c.in_ok-place.place c.in-Ok.rest _ c.in_ok-place.ensures.zeros c.in_ok-place.ensures.place c.in-Ok.ensures.read c.set_long.ensures.read
+
+pub returns-in-Err-clause-read : goal.returns-in-Err-clause-read
+unfolding read_long_string
+returns-in-Err-clause-read c = failed _ _ (inside read_escaped 34 c.args.i.now) framed_long _ _ _ _ _ c.in-Err.ensures.read

@@ -1,0 +1,15 @@
+-- `gather_lines`: what loops keep and what falls with each iteration or call.
+use Rattle.std.proofs.Common.{◌≤◌, length, take}
+use Rattle.amqp_lines.specs.LineReading.{HasNoNewline}
+use Rattle.amqp_lines.proofs.Gathering.{Along}
+use Rattle.amqp_lines.proofs.undumping.gather_lines.Given as goal
+
+abbrev pub invariant-lines : goal.invariant-lines
+invariant-lines g l = record {
+  along : Along l.fn.max_payload l.fn.text l.rest (g.K.Sink.store l.fn.sink) (g.K.Sink.store l.sink) l.fn.out.bytes l.out.bytes;
+  within : l.seen ≤ length l.rest;
+  none : HasNoNewline (take l.seen l.rest);
+}
+
+abbrev pub decreases-lines : goal.decreases-lines
+decreases-lines g l = length l.rest

@@ -1,0 +1,92 @@
+//! Streams whose frames are written as lines of text.
+
+ghost use Rattle.std.specs.Prelude.{◌≡◌, ◌≢◌, ◌⊎◌, ℕ, List, Some, Err};
+ghost use Rattle.amqp_types.specs.Levels.{plain};
+ghost use Rattle.amqp_stream.specs.Transcribing.{TranscribesExactly, NeverBegan, IsValid, NoFaults, IsOkOrNoMemory};
+ghost use Rattle.amqp_lines.specs.Lines.{lines};
+ghost use Rattle.amqp_lines.specs.Dumping.{Dumps};
+
+use crate::line_text::LineText;
+use amqp_stream::{
+    FrameWriter, OutputBuffer, RunError, Sink, Source, StreamError, gather, run_stream, unrefused,
+};
+use amqp_types::ChunkSize;
+use amqp_wire::AMQPRawFrame;
+use std::alloc::Global;
+use std::convert::Infallible;
+use std::marker::Model;
+
+/// Writes the line of each frame. What it keeps is memory that is used again, of which contracts see nothing.
+#[derive(Drop)]
+pub(crate) struct Dumper {
+    text: LineText,
+}
+
+impl Model for Dumper {
+    ghost Value = { Unit {0} };
+
+    ghost view = { λ dumper. tt };
+}
+
+impl FrameWriter for Dumper {
+    ghost use Rattle.amqp_lines.specs.Dumping.{dumping};
+
+    type Refusal = Infallible;
+
+    ghost manner = { dumping };
+
+    fn write_frame<K: Sink>(
+        &mut self,
+        out: &mut OutputBuffer,
+        sink: &mut K,
+        raw: AMQPRawFrame<'_>,
+    ) -> Result<(), RunError<Infallible>> {
+        match self.text.put_line(raw) {
+            Err(error) => return Err(RunError::Stream(error)),
+            Ok(()) => {}
+        }
+        match gather(out, sink, self.text.line()) {
+            Ok(()) => Ok(()),
+            Err(_) => Err(RunError::Stream(StreamError::WriteFault)),
+        }
+    }
+
+    fn finish(&self) -> Result<(), Infallible> {
+        Ok(())
+    }
+}
+
+/// Writes the line of each frame of a stream, to the end of input or an error. `turns` is the read budget: so many
+/// reads at most are made. `max_payload` is in bytes; a longer payload is `TooLarge`. Memory may run out at any frame:
+/// a line is longer than its frame.
+pub fn dump<S: Source, K: Sink>(
+    alloc: Global,
+    source: &mut S,
+    sink: &mut K,
+    max_payload: ChunkSize,
+    turns: u64,
+) -> Result<(), StreamError>
+    ensures stream { Dumps max_payload turns (S.supply source.old) (S.supply source.new)
+        (K.store sink.old) (K.store sink.new) result
+        ⊎ NeverBegan (S.supply source.old) (S.supply source.new) (K.store sink.old) (K.store sink.new) result }
+    ensures unread { turns ≡ 0 → source.new ≡ source.old }
+    ensures spent { turns ≡ 0 → (result ≡ Err StreamError.TurnsSpent) ⊎ (result ≡ Err StreamError.NoMemory) }
+    ensures unwritten { turns ≡ 0 → sink.new ≡ sink.old }
+    ensures never_untidy { result ≢ Err StreamError.NotTidy }
+
+    // Over a source that reports its bytes, the result depends on all of them, however they are cut.
+    ensures exact { (bytes : List ℕ) → (S.supply source.old).left ≡ Some bytes
+        → TranscribesExactly lines plain max_payload bytes (K.store sink.old) (K.store sink.new) result }
+    ensures complete { (bytes : List ℕ) → (S.supply source.old).left ≡ Some bytes
+        → IsValid plain max_payload turns bytes
+        → NoFaults (S.supply source.old) (S.supply source.new) (K.store sink.old) (K.store sink.new)
+        → IsOkOrNoMemory result }
+{
+    match LineText::open(alloc) {
+        Ok(text) => {
+            let mut writer = Dumper { text };
+            unrefused(run_stream(alloc, &mut writer, source, sink, max_payload, turns))
+        }
+        Err(_) => Err(StreamError::NoMemory),
+    }
+}

@@ -1,0 +1,46 @@
+//! Laws of lines, each the contract of a function that does nothing.
+
+ghost use Rattle.amqp_lines.specs.Laws.{EqualLinesAreEqualFrames, EqualTextsAreEqualSequences, LinesHaveOneNewline};
+ghost use Rattle.amqp_lines.specs.UndumpLaws.{CorrespondOneToOne, DumpedTextIsReadBack, OneLongestText, StrictFramesAreUsual, UndumpUndoesDump};
+
+/// A line holds one newline, which is its last byte.
+pub fn lines_have_one_newline()
+    ensures { LinesHaveOneNewline }
+{}
+
+/// Two frames that their canonical bytes encode strictly are equal where their lines are.
+pub fn equal_lines_are_equal_frames()
+    ensures { EqualLinesAreEqualFrames }
+{}
+
+/// Two sequences of such frames are equal where their texts are.
+pub fn equal_texts_are_equal_sequences()
+    ensures { EqualTextsAreEqualSequences }
+{}
+
+/// Within a limit, bytes begin with at most one longest text.
+pub fn one_longest_text()
+    ensures { OneLongestText }
+{}
+
+/// What `dump` writes for some bytes is, to its end, the text of the frames at their front.
+pub fn dumped_text_is_read_back()
+    ensures { DumpedTextIsReadBack }
+{}
+
+/// Over what `dump` writes for some bytes, `undump` finds no fault, and writes the canonical bytes of the frames at
+/// their front.
+pub fn undump_undoes_dump()
+    ensures { UndumpUndoesDump }
+{}
+
+/// Strict bytes and texts correspond one to one.
+pub fn bytes_and_texts_correspond()
+    ensures { CorrespondOneToOne }
+{}
+
+/// A frame that programs hold is encoded strictly by its canonical bytes exactly where it is neither too deep nor long,
+/// and no heartbeat on channel 0 that does not belong there.
+pub fn strict_frames_are_usual()
+    ensures { StrictFramesAreUsual }
+{}

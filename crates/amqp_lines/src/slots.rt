@@ -1,0 +1,179 @@
+//! The fields of methods and the properties of messages as text, out of their canonical bytes.
+
+ghost use Rattle.std.specs.Prelude.{◌≡◌, ◌++◌, codes, map};
+ghost use Rattle.amqp_types.specs.Flags.{judge_flags};
+ghost use Rattle.amqp_types.specs.Sequences.{judge_map};
+ghost use Rattle.amqp_types.specs.Strings.{judge_short_string};
+ghost use Rattle.amqp_canonical.specs.Shapes.{form_of, property_of, slot_of, slots_of};
+ghost use Rattle.amqp_lines.specs.Words.{quoted, signs};
+ghost use Rattle.amqp_lines.specs.Slots.{property_name};
+ghost use Rattle.amqp_lines.specs.Rendering.{Says, Renders, AppendsText, is_reserved, rendered_form, rendered_properties, rendered_set, rendered_slot, rendered_slots};
+
+use crate::values::{
+    write_long_long_uint, write_long_string, write_long_uint, write_short_short_uint,
+    write_short_uint, write_table,
+};
+use crate::words::{write_bytes, write_quoted, write_signs};
+use amqp_canonical::{Shape, bytes_from, has_bit, property_shapes, slot_size, split_key};
+use amqp_types::{INNER_DEPTH, Identifier, NoMemory};
+
+/// So many flags of a byte.
+#[tactic(auto, unfolding(amqp_types::specs::Flags::judge_flags))]
+fn write_flags(out: &mut Vec<u8>, count: u8, i: &[u8]) -> Result<usize, NoMemory>
+    ensures { Renders (judge_map signs (judge_flags count) i.now) out.old.items out.new.items result }
+{
+    match i {
+        [byte, ..] => {
+            write_signs(out, count, *byte)?;
+            Ok(1)
+        }
+        [] => Ok(0),
+    }
+}
+
+/// A short string.
+#[tactic(auto, using(crate::proofs::Rendered::short_rendered))]
+fn write_short_string(out: &mut Vec<u8>, i: &[u8]) -> Result<usize, NoMemory>
+    ensures { Renders (judge_map quoted judge_short_string i.now) out.old.items out.new.items result }
+{
+    let (text, _) = split_key(i);
+    write_quoted(out, text)?;
+    Ok(1 + text.len())
+}
+
+/// What stands at the front as this shape.
+#[tactic(auto, unfolding(crate::specs::Rendering::rendered_form))]
+fn write_form(out: &mut Vec<u8>, shape: Shape, i: &[u8]) -> Result<usize, NoMemory>
+    ensures { Renders (rendered_form (form_of shape) i.now) out.old.items out.new.items result }
+{
+    match shape {
+        Shape::Octet => write_short_short_uint(out, i),
+        Shape::Short => write_short_uint(out, i),
+        Shape::ReservedShort(_) => write_short_uint(out, i),
+        Shape::Long => write_long_uint(out, i),
+        Shape::ReservedLong(_) => write_long_uint(out, i),
+        Shape::LongLong => write_long_long_uint(out, i),
+        Shape::Flags(count) => write_flags(out, count, i),
+        Shape::ReservedFlag => write_flags(out, 1, i),
+        Shape::ShortString => write_short_string(out, i),
+        Shape::ReservedShortString => write_short_string(out, i),
+        Shape::LongString => write_long_string(out, i),
+        Shape::ReservedLongString => write_long_string(out, i),
+        Shape::Table => write_table(out, i, INNER_DEPTH),
+    }
+}
+
+/// Whether a field is reserved.
+pub(crate) fn is_reserved(shape: Shape) -> bool
+    ensures { result ≡ is_reserved (slot_of shape) }
+{
+    match shape {
+        Shape::ReservedShort(_) => true,
+        Shape::ReservedLong(_) => true,
+        Shape::ReservedFlag => true,
+        Shape::ReservedShortString => true,
+        Shape::ReservedLongString => true,
+        Shape::Octet => false,
+        Shape::Short => false,
+        Shape::Long => false,
+        Shape::LongLong => false,
+        Shape::Flags(_) => false,
+        Shape::ShortString => false,
+        Shape::LongString => false,
+        Shape::Table => false,
+    }
+}
+
+/// A field: a space and a word, or nothing where it is reserved.
+#[tactic(auto, using(crate::proofs::RenderedSlots::reserved_rendered, crate::proofs::RenderedSlots::kept_rendered))]
+fn write_slot(out: &mut Vec<u8>, shape: Shape, i: &[u8]) -> Result<usize, NoMemory>
+    ensures { Renders (rendered_slot (slot_of shape) i.now) out.old.items out.new.items result }
+{
+    if is_reserved(shape) {
+        return Ok(slot_size(shape, i));
+    }
+    out.push(b' ')?;
+    write_form(out, shape, i)
+}
+
+/// Appends the text of fields of these shapes, one after another.
+#[tactic(auto, using(crate::proofs::RenderedSlots::slots_rendered, crate::proofs::RenderedSlots::no_slots))]
+pub(crate) fn write_slots(out: &mut Vec<u8>, shapes: &[Shape], i: &[u8]) -> Result<(), NoMemory>
+    ensures { Says (rendered_slots (slots_of shapes.now) i.now) out.old.items out.new.items result }
+{
+    match shapes {
+        [] => Ok(()),
+        [shape, others @ ..] => {
+            let used = write_slot(out, *shape, i)?;
+            write_slots(out, others, bytes_from(i, used))
+        }
+    }
+}
+
+/// The name of the property with this bit in the mask.
+#[tactic(auto, unfolding(crate::specs::Slots::property_name))]
+pub(crate) fn property_name(bit: Identifier) -> &'static [u8]
+    ensures { result.now ≡ property_name bit }
+{
+    match bit {
+        15 => b"content_type",
+        14 => b"content_encoding",
+        13 => b"headers",
+        12 => b"delivery_mode",
+        11 => b"priority",
+        10 => b"correlation_id",
+        9 => b"reply_to",
+        8 => b"expiration",
+        7 => b"message_id",
+        6 => b"timestamp",
+        5 => b"kind",
+        4 => b"user_id",
+        3 => b"app_id",
+        2 => b"cluster_id",
+        _ => b"",
+    }
+}
+
+/// A space, the name of the property with this bit, and `=`.
+fn write_name(out: &mut Vec<u8>, bit: u16) -> Result<(), NoMemory>
+    ensures { AppendsText out.old.items out.new.items (codes " " ++ (property_name bit ++ codes "=")) result }
+{
+    out.push(b' ')?;
+    write_bytes(out, property_name(bit))?;
+    out.push(b'=')?;
+    Ok(())
+}
+
+/// The properties of these bits and shapes that the mask has, one after another.
+#[tactic(auto, using(crate::proofs::RenderedSlots::option_rendered, crate::proofs::RenderedSlots::option_past, crate::proofs::RenderedSlots::no_options))]
+fn write_set(
+    out: &mut Vec<u8>,
+    mask: u16,
+    shapes: &[(u16, Shape)],
+    i: &[u8],
+) -> Result<(), NoMemory>
+    ensures { Says (rendered_set mask (map property_of shapes.now) i.now) out.old.items out.new.items result }
+{
+    match shapes {
+        [] => Ok(()),
+        [shape, others @ ..] => {
+            if !has_bit(mask, shape.0) {
+                return write_set(out, mask, others, i);
+            }
+            write_name(out, shape.0)?;
+            let used = write_form(out, shape.1, i)?;
+            write_set(out, mask, others, bytes_from(i, used))
+        }
+    }
+}
+
+/// Appends the text of the properties that are set.
+#[tactic(auto, using(crate::proofs::RenderedSlots::properties_rendered), unfolding(crate::specs::Rendering::rendered_properties))]
+pub(crate) fn write_properties(out: &mut Vec<u8>, i: &[u8]) -> Result<(), NoMemory>
+    ensures { Says (rendered_properties i.now) out.old.items out.new.items result }
+{
+    match i {
+        [a, b, rest @ ..] => write_set(out, u16::from_be_bytes([*a, *b]), property_shapes(), rest),
+        _ => Ok(()),
+    }
+}

@@ -1,0 +1,252 @@
+//! Streams of lines, whose frames are written as their canonical bytes.
+
+ghost use Rattle.std.specs.Prelude.{◌≡◌, ◌⊎◌, ◌-◌, ◌<◌, ◌≤◌, ℕ, List, [], Some, Err, drop, length, take, vec_len, IfOk};
+ghost use Rattle.amqp_stream.specs.Ends.{Supply};
+ghost use Rattle.amqp_stream.specs.Transcribing.{NoFaults};
+ghost use Rattle.amqp_lines.specs.LineReading.{EndsLine, GathersLine, GathersLines, HasNoNewline, ReadsOnce, StopsWith, end_of_text};
+ghost use Rattle.amqp_lines.specs.Undumping.{IsOkOrNoMemory, IsValidText, Undumps, UndumpsExactly, read_size};
+
+use crate::errors::UndumpError;
+use crate::line_reading::LineReader;
+use crate::words::write_bytes;
+use amqp_canonical::bytes_from;
+use amqp_stream::{OutputBuffer, Sink, Source, flush, gather};
+use amqp_types::{ChunkSize, NoMemory};
+use std::alloc::Global;
+
+/// How many bytes a read takes at most, and how many are pending at most.
+const PIECE: usize = 65536;
+
+/// How many bytes the first line takes, with its newline; None where no newline comes. The first `searched` bytes, none
+/// of which is a newline, are not looked at.
+pub fn line_end(text: &[u8], searched: usize) -> Option<usize>
+    requires within { searched ≤ length text.now }
+    requires none { HasNoNewline (take searched text.now) }
+    ensures { EndsLine text.now result }
+{
+    let mut place = searched;
+    while place < text.len() {
+        if text[place] == b'\n' {
+            return Some(place + 1);
+        }
+        place += 1;
+    }
+    None
+}
+
+/// The first bytes of a text.
+fn first_bytes(text: &[u8], end: usize) -> &[u8]
+    requires { end ≤ length text.now }
+    ensures { result.now ≡ take end text.now }
+{
+    &text[..end]
+}
+
+/// Gathers the canonical bytes of the frame of a line.
+fn gather_line<K: Sink>(
+    reader: &mut LineReader,
+    out: &mut OutputBuffer,
+    sink: &mut K,
+    text: &[u8],
+    max_payload: ChunkSize,
+) -> Result<(), UndumpError>
+    ensures { GathersLine max_payload text.now (K.store sink.old) (K.store sink.new) out.old.bytes out.new.bytes result }
+{
+    match reader.is_line(text, max_payload) {
+        Err(_) => return Err(UndumpError::NoMemory),
+        Ok(false) => return Err(UndumpError::BadText),
+        Ok(true) => {}
+    }
+    match gather(out, sink, reader.canonical()) {
+        Ok(()) => Ok(()),
+        Err(_) => Err(UndumpError::WriteFault),
+    }
+}
+
+/// Gathers the canonical bytes of the frames whose lines stand in front, and returns how many bytes come after these
+/// lines.
+fn gather_lines<K: Sink>(
+    reader: &mut LineReader,
+    out: &mut OutputBuffer,
+    sink: &mut K,
+    text: &[u8],
+    searched: usize,
+    max_payload: ChunkSize,
+) -> Result<usize, UndumpError>
+    requires within { searched ≤ length text.now }
+    requires none { HasNoNewline (take searched text.now) }
+    ensures { GathersLines max_payload text.now (K.store sink.old) (K.store sink.new) out.old.bytes out.new.bytes result }
+{
+    let mut rest = text;
+    let mut seen = searched;
+    'lines: loop {
+        match line_end(rest, seen) {
+            None => return Ok(rest.len()),
+            Some(end) => {
+                match gather_line(reader, out, sink, first_bytes(rest, end), max_payload) {
+                    Err(error) => return Err(error),
+                    Ok(()) => {}
+                }
+                rest = bytes_from(rest, end);
+                seen = 0;
+            }
+        }
+    }
+}
+
+/// Drops all but the last `left` bytes.
+fn keep_last(held: &mut Vec<u8>, left: usize)
+    requires { left ≤ length held.old.items }
+    ensures { held.new.items ≡ drop (length held.old.items - left) held.old.items }
+{
+    let used = held.len() - left;
+    if used > 0 {
+        held.copy_within(used.., 0);
+        held.truncate(left);
+    }
+}
+
+/// Reads once, after the bytes that are held, and returns how many bytes came. None is the end of input.
+fn read_once<S: Source>(
+    source: &mut S,
+    piece: &mut Vec<u8>,
+    held: &mut Vec<u8>,
+) -> Result<usize, UndumpError>
+    requires { length piece.old.items ≡ read_size }
+    ensures reads { ReadsOnce (S.supply source.old) (S.supply source.new) held.old.items held.new.items result }
+    ensures room { length piece.new.items ≡ length piece.old.items }
+{
+    match source.read(piece) {
+        Err(_) => Err(UndumpError::ReadFault),
+        Ok(count) => match write_bytes(held, &piece[..count]) {
+            Err(_) => Err(UndumpError::NoMemory),
+            Ok(()) => Ok(count),
+        },
+    }
+}
+
+/// Writes what is pending, and ends with an error.
+fn stop<K: Sink>(
+    out: &mut OutputBuffer,
+    sink: &mut K,
+    error: UndumpError,
+) -> Result<(), UndumpError>
+    ensures { StopsWith (K.store sink.old) (K.store sink.new) out.old.bytes error result }
+{
+    match flush(out, sink) {
+        Ok(()) => Err(error),
+        Err(_) => Err(UndumpError::WriteFault),
+    }
+}
+
+/// The result at the end of input: what is held is a part of a line.
+fn end_of_input(held: &[u8]) -> Result<(), UndumpError>
+    ensures { result ≡ end_of_text held.now }
+{
+    if held.is_empty() {
+        Ok(())
+    } else {
+        Err(UndumpError::CutShort)
+    }
+}
+
+/// What a call holds between two reads, in memory that is used again: a part of a line, and a piece for a read.
+#[derive(Drop)]
+struct Lines {
+    reader: LineReader,
+    held: Vec<u8>,
+    piece: Vec<u8>,
+    ghost room: { vec_len piece ≡ 65536 },
+}
+
+impl Lines {
+    /// Nothing is held yet.
+    fn open(alloc: Global) -> Result<Lines, NoMemory>
+        ensures { IfOk result (λ lines. lines.held.items ≡ []) }
+    {
+        Ok(Lines {
+            reader: LineReader::open(alloc)?,
+            held: Vec::new(alloc),
+            piece: vec![in alloc; 0u8; PIECE]?,
+        })
+    }
+}
+
+/// Writes the canonical bytes of the frame of each line that is read, to the end of input. What is pending is written
+/// before each read.
+fn run<S: Source, K: Sink>(
+    lines: &mut Lines,
+    out: &mut OutputBuffer,
+    source: &mut S,
+    sink: &mut K,
+    max_payload: ChunkSize,
+    turns: u64,
+) -> Result<(), UndumpError>
+    requires none { lines.old.held.items ≡ [] }
+    ensures stream { Undumps max_payload turns (S.supply source.old) (S.supply source.new) (K.store sink.old) (K.store sink.new) result }
+    ensures unread { turns ≡ 0 → source.new ≡ source.old }
+    ensures spent { turns ≡ 0 → result ≡ Err UndumpError.TurnsSpent }
+    ensures unwritten { turns ≡ 0 → sink.new ≡ sink.old }
+{
+    out.clear();
+    let mut left = turns;
+    'reads: loop {
+        if left == 0 {
+            return Err(UndumpError::TurnsSpent);
+        }
+        left -= 1;
+        let searched = lines.held.len();
+        match read_once(source, &mut lines.piece, &mut lines.held) {
+            Err(error) => return Err(error),
+            Ok(0) => return end_of_input(&lines.held),
+            Ok(_) => {}
+        }
+        match gather_lines(
+            &mut lines.reader,
+            out,
+            sink,
+            &lines.held,
+            searched,
+            max_payload,
+        ) {
+            Err(error) => return stop(out, sink, error),
+            Ok(place) => keep_last(&mut lines.held, place),
+        }
+        match flush(out, sink) {
+            Err(_) => return Err(UndumpError::WriteFault),
+            Ok(()) => {}
+        }
+    }
+}
+
+/// Writes the canonical bytes of the frame of each line of a stream, to the end of input or an error. `turns` is the
+/// read budget: so many reads at most are made, each of 65536 bytes at most. `max_payload` is in bytes; the line of a
+/// longer payload is bad text. Memory is taken for one line and one read.
+pub fn undump<S: Source, K: Sink>(
+    alloc: Global,
+    source: &mut S,
+    sink: &mut K,
+    max_payload: ChunkSize,
+    turns: u64,
+) -> Result<(), UndumpError>
+    ensures stream { Undumps max_payload turns (S.supply source.old) (S.supply source.new) (K.store sink.old) (K.store sink.new) result }
+    ensures unread { turns ≡ 0 → source.new ≡ source.old }
+    ensures spent { turns ≡ 0 → (result ≡ Err UndumpError.TurnsSpent) ⊎ (result ≡ Err UndumpError.NoMemory) }
+    ensures unwritten { turns ≡ 0 → sink.new ≡ sink.old }
+
+    // Over a source that reports its bytes, the result follows from all of them, however they are cut.
+    ensures exact { (bytes : List ℕ) → (S.supply source.old).left ≡ Some bytes
+        → UndumpsExactly max_payload bytes (K.store sink.old) (K.store sink.new) result }
+    ensures complete { (bytes : List ℕ) → (S.supply source.old).left ≡ Some bytes
+        → IsValidText max_payload turns bytes
+        → NoFaults (S.supply source.old) (S.supply source.new) (K.store sink.old) (K.store sink.new)
+        → IsOkOrNoMemory result }
+{
+    match Lines::open(alloc) {
+        Err(_) => Err(UndumpError::NoMemory),
+        Ok(mut lines) => match OutputBuffer::open(alloc, PIECE) {
+            Err(_) => Err(UndumpError::NoMemory),
+            Ok(mut out) => run(&mut lines, &mut out, source, sink, max_payload, turns),
+        },
+    }
+}

@@ -1,9 +1,0 @@
--- `Others::forget`: what it ensures.
-use Rattle.std.proofs.Common.{ap, ◌∙◌, None}
-use Rattle.std.specs.FinMap as finite
-use Rattle.amqp_recut.specs.Held.{HeldByChannel, held_of}
-use Rattle.amqp_recut.proofs.Holding.{holding_updated}
-use Rattle.amqp_recut.proofs.others.Others.forget.Goals as goal
-
-pub returns : goal.returns
-returns c = holding_updated held_of c.self.inside.channels c.remove.new.self c.args.channel_id None c.remove.ensures.updates ∙ ap (λ (m : HeldByChannel). finite.remove m c.args.channel_id) c.self.view_is

@@ -1,6 +1,0 @@
--- `dumped_text_is_read_back`: what it ensures.
-use Rattle.amqp_text.proofs.TextLaws.{dumped_back}
-use Rattle.amqp_text.proofs.laws.dumped_text_is_read_back.Goals as goal
-
-pub returns : goal.returns
-returns c = dumped_back

@@ -1,6 +1,0 @@
--- `one_longest_text`: what it ensures.
-use Rattle.amqp_text.proofs.TextLaws.{one_longest}
-use Rattle.amqp_text.proofs.laws.one_longest_text.Goals as goal
-
-pub returns : goal.returns
-returns c = one_longest

@@ -1,6 +1,0 @@
--- `undump_undoes_dump`: what it ensures.
-use Rattle.amqp_text.proofs.TextLaws.{undump_undoes}
-use Rattle.amqp_text.proofs.laws.undump_undoes_dump.Goals as goal
-
-pub returns : goal.returns
-returns c = undump_undoes

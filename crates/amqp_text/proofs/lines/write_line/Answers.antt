@@ -1,8 +1,0 @@
--- `write_line`: what it ensures.
-use Rattle.std.proofs.Common.{List, ◌∷◌, [], ◌++◌, ℕ, ap, ◌∙◌, append_assoc}
-use Rattle.amqp_text.specs.Lines.{line, words}
-use Rattle.amqp_text.proofs.lines.write_line.Goals as goal
-
-pub returns : goal.returns
-unfolding line
-returns c = λ frame is. c.in_ok-push.ensures.items ∙ ap (λ (xs : List ℕ). xs ++ 10 ∷ []) (c.in_ok-write_words.ensures frame is) ∙ append_assoc c.args.out.now.items (words frame) (10 ∷ [])

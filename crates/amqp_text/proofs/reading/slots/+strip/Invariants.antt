@@ -1,6 +1,0 @@
--- `strip`, which calls itself: what falls with each iteration or call.
-use Rattle.std.proofs.Common.{length}
-use Rattle.amqp_text.proofs.reading.slots.+strip.Given as goal
-
-abbrev pub decreases-strip : goal.decreases-strip
-decreases-strip l = length l.front.now

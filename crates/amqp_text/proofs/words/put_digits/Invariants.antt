@@ -1,9 +1,0 @@
--- `put_digits`: what loops keep and what falls with each iteration or call.
-use Rattle.amqp_text.proofs.Digits.{ArePut}
-use Rattle.amqp_text.proofs.words.put_digits.Given as goal
-
-abbrev pub invariant-loop-rest : goal.invariant-loop-rest
-invariant-loop-rest l = ArePut l.number l.digits l.place l.rest
-
-abbrev pub decreases-loop-rest : goal.decreases-loop-rest
-decreases-loop-rest l = l.rest

@@ -1,0 +1,11 @@
+-- The lemmas of amqp_turns.
+pub mod Moving
+pub mod Running
+pub mod Tracking
+pub mod Telling
+pub mod Pieces
+pub mod Whole
+pub mod Apart
+pub mod Errors
+pub mod Entries
+pub mod LastEntry

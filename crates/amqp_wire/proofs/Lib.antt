@@ -1,0 +1,20 @@
+-- The lemmas of amqp_wire.
+pub mod OuterLook
+pub mod Looked
+pub mod Cuts
+pub mod Payloads
+pub mod Typed
+pub mod Spelled
+pub mod Encoded
+pub mod Outlined
+pub mod Tidied
+pub mod Sequences
+pub mod Strictness
+pub mod Holding
+pub mod ReadingBack
+pub mod Sizes
+pub mod Parts
+pub mod Within
+pub mod Judged
+pub mod Rewritten
+pub mod EqualVersions
