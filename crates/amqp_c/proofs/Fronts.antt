@@ -1,8 +1,8 @@
 -- One frame that is put, and the loop over the frames in front.
-use Rattle.std.proofs.Common.{◌≡◌, ◌≢◌, ℕ, ◌+◌, ◌<◌, ◌≤◌, ◌^◌, List, get_or, [], ◌∷◌, ◌++◌, length, drop, Some, Ok, Err, refl, sym, ap, subst, ◌∙◌, arith, append_assoc, append-nil}
+use Rattle.std.proofs.Common.{◌≡◌, ◌≢◌, ℕ, ◌+◌, ◌<◌, ◌≤◌, ◌^◌, List, [], ◌∷◌, ◌++◌, length, drop, Some, Ok, Err, refl, sym, ap, subst, ◌∙◌, arith, append_assoc, append-nil}
 use Rattle.std.proofs.lemmas.List.{length-append, length-drop, drop-drop, drop_all}
 use Rattle.amqp_types.specs.Levels.{Level}
-use Rattle.amqp_types.specs.Judging.{Fault, Judged, past, fault, took, not_tidy, short_payload, trailing_bytes}
+use Rattle.amqp_types.specs.Judging.{Fault, Judged, past, fault, took, not_tidy}
 use Rattle.amqp_types.specs.Answers.{RefusesWhole}
 use Rattle.amqp_types.specs.Writing.{Puts}
 use Rattle.amqp_types.specs.declared.errors.ParserError.{ParserError}
@@ -10,6 +10,7 @@ use Rattle.amqp_types.specs.declared.errors.ParserError.TheVariants as parses
 use Rattle.amqp_types.proofs.Puts.{puts_none, puts_then}
 use Rattle.amqp_wire.specs.declared.frame_type.AMQPFrameType.TheVariants as kinds
 use Rattle.amqp_wire.specs.declared.looking.FrameLayout.{FrameLayout}
+use Rattle.amqp_wire.specs.declared.version.ProtocolVersion.{ProtocolVersion}
 use Rattle.amqp_wire.specs.Canonical.{canon, canon_frames}
 use Rattle.amqp_wire.specs.Frames.{Frame, Proto, Raw}
 use Rattle.amqp_wire.specs.Fronts.{front, place}
@@ -55,38 +56,17 @@ unput level old new at raw error stream is inside some h same =
     (f.bad, is_faulty level raw f.bad f.is_whole f.other, is ∙ f.error_is, same)
 
 -- a protocol header
-version_whole : (channel : ℕ) (payload : List ℕ) → length payload ≡ 3 → whole_as kinds.ProtocolHeader channel payload ≡ Ok (Proto (get_or payload 0 0) (get_or payload 1 0) (get_or payload 2 0))
-unfolding whole_as
-version_whole channel [] e = absurd (omega arith)
-version_whole channel (a ∷ []) e = absurd (omega arith)
-version_whole channel (a ∷ b ∷ []) e = absurd (omega arith)
-version_whole channel (a ∷ b ∷ c ∷ []) e = refl
-version_whole channel (a ∷ b ∷ c ∷ d ∷ more) e = absurd (omega arith)
-
-pub version_put : (old new payload bytes : List ℕ) (at end : ℕ) → length payload ≡ 3 → bytes ≡ proto (get_or payload 0 0) (get_or payload 1 0) (get_or payload 2 0) → Puts old new at bytes end → PutsVersion old new at payload (Ok end)
+pub version_put : (old new payload bytes : List ℕ) (at end : ℕ) (v : ProtocolVersion) → ((channel : ℕ) → whole_as kinds.ProtocolHeader channel payload ≡ Ok (Proto v.major v.minor v.revision)) → bytes ≡ proto v.major v.minor v.revision → Puts old new at bytes end → PutsVersion old new at payload (Ok end)
 unfolding canon
-version_put old new payload bytes at end e is put = (Proto _ _ _, (λ channel. version_whole channel payload e), subst (λ (xs : List ℕ). Puts old new at xs end) is put, refl)
+version_put old new payload bytes at end v is_whole is put = (Proto v.major v.minor v.revision, is_whole, subst (λ (xs : List ℕ). Puts old new at xs end) is put, refl)
 
-version_fails : (channel : ℕ) (payload : List ℕ) → length payload < 3 → whole_as kinds.ProtocolHeader channel payload ≡ Err short_payload
-unfolding whole_as
-version_fails channel [] h = refl
-version_fails channel (a ∷ []) h = refl
-version_fails channel (a ∷ b ∷ []) h = refl
-version_fails channel (a ∷ b ∷ c ∷ more) h = absurd (omega arith)
-
-pub version_short : (buf payload : List ℕ) (at : ℕ) → length payload < 3 → PutsVersion buf buf at payload (Err errors.ShortPayload)
-version_short buf payload at h = (short_payload, (λ channel. version_fails channel payload h), (λ e. absurd cc), refl, refl)
-
-version_trails : (channel : ℕ) (payload : List ℕ) → 4 ≤ length payload → whole_as kinds.ProtocolHeader channel payload ≡ Err trailing_bytes
-unfolding whole_as
-version_trails channel [] h = absurd (omega arith)
-version_trails channel (a ∷ []) h = absurd (omega arith)
-version_trails channel (a ∷ b ∷ []) h = absurd (omega arith)
-version_trails channel (a ∷ b ∷ c ∷ []) h = absurd (omega arith)
-version_trails channel (a ∷ b ∷ c ∷ d ∷ more) h = refl
-
-pub version_trailing : (buf payload : List ℕ) (at : ℕ) → 4 ≤ length payload → PutsVersion buf buf at payload (Err errors.TrailingBytes)
-version_trailing buf payload at h = (trailing_bytes, (λ channel. version_trails channel payload h), (λ e. absurd cc), refl, refl)
+pub version_refused : (buf payload : List ℕ) (at : ℕ) (error : ParserError) → IsPayloadError error → error ≢ parses.NoMemory → ((channel : ℕ) → RefusesWhole error (whole_as kinds.ProtocolHeader channel payload)) → PutsVersion buf buf at payload (Err (payload_fault error))
+version_refused buf payload at parses.NoMemory inside some h = absurd (some refl)
+version_refused buf payload at parses.Incomplete inside some h = absurd inside
+version_refused buf payload at parses.UnknownFrameType inside some h = absurd inside
+version_refused buf payload at parses.BadProtocolHeader inside some h = absurd inside
+version_refused buf payload at parses.BadFrameEnd inside some h = absurd inside
+version_refused buf payload at error inside some h = (_, h, (λ e. absurd cc), refl, refl)
 
 -- ---- the frame in front
 

@@ -50,17 +50,9 @@ fn put_version(out: &mut [u8], at: usize, payload: &[u8]) -> Result<usize, Strea
     requires { at + 8 ≤ length out.old }
     ensures { PutsVersion out.old out.new at payload.now result }
 {
-    match payload {
-        [major, minor, revision] => {
-            let version = ProtocolVersion {
-                major: *major,
-                minor: *minor,
-                revision: *revision,
-            };
-            Ok(put_bytes(out, at, &header_bytes(version)))
-        }
-        [_, _, _, _, ..] => Err(StreamError::TrailingBytes),
-        _ => Err(StreamError::ShortPayload),
+    match ProtocolVersion::from_payload(payload) {
+        Ok(version) => Ok(put_bytes(out, at, &header_bytes(version))),
+        Err(error) => Err(payload_error(error)),
     }
 }
 

@@ -1,15 +1,25 @@
--- Shapes and results of decoding are equal exactly where contracts see the same.
+-- Forms, fields and results of decoding are equal exactly where contracts see the same.
 use Rattle.std.proofs.Common.{◌≡◌, rules}
 use Rattle.std.specs.Bool.{Decides}
-use Rattle.amqp_canonical.specs.declared.shapes.Shape.{Shape}
-use Rattle.amqp_canonical.specs.contracts.shapes.ShapePartialEq.TheImpl as shape
+use Rattle.amqp_canonical.specs.declared.shapes.Form.{Form}
+use Rattle.amqp_canonical.specs.contracts.shapes.FormPartialEq.TheImpl as form
+use Rattle.amqp_canonical.specs.declared.shapes.Slot.{Slot}
+use Rattle.amqp_canonical.specs.declared.shapes.Slot.TheVariants as slots
+use Rattle.amqp_canonical.specs.Shapes.{AreSameSlots}
+use Rattle.amqp_canonical.specs.contracts.shapes.SlotPartialEq.TheImpl as slot
 use Rattle.amqp_canonical.specs.declared.slots.Judgement.{Judgement}
 use Rattle.amqp_canonical.specs.contracts.slots.JudgementPartialEq.TheImpl as judgement
 use Rattle.amqp_canonical.specs.declared.values.ValueJudgement.{ValueJudgement}
 use Rattle.amqp_canonical.specs.contracts.values.ValueJudgementPartialEq.TheImpl as value_judgement
 
-pub same_shape : (a b : Shape) → Decides (shape.ghosts.eq a b) (a ≡ b)
-same_shape a b = search rules
+pub same_form : (a b : Form) → Decides (form.ghosts.eq a b) (a ≡ b)
+same_form a b = search rules
+
+pub same_slot : (a b : Slot) → Decides (slot.ghosts.eq a b) (AreSameSlots a b)
+same_slot (slots.Kept a) (slots.Kept b) = search rules
+same_slot (slots.Kept a) (slots.Reserved b y) = search rules
+same_slot (slots.Reserved a x) (slots.Kept b) = search rules
+same_slot (slots.Reserved a x) (slots.Reserved b y) = search rules
 
 pub same_judgement : (a b : Judgement) → Decides (judgement.ghosts.eq a b) (a ≡ b)
 same_judgement a b = search rules

@@ -80,14 +80,14 @@ and_assoc : (a b c : Bool) → (a && (b && c)) ≡ ((a && b) && c)
 and_assoc true b c = refl
 and_assoc false b c = refl
 
-and_true : (a : Bool) → (a && true) ≡ a
+pub and_true : (a : Bool) → (a && true) ≡ a
 and_true true = refl
 and_true false = refl
 
 abbrev pub judgement : ℕ → Bool → Bool → Result Judgement ParserError
 judgement n c t = Ok (record { used = n; canonical = c; tidy = t })
 
-same_judgement : (n m : ℕ) (c d t u : Bool) → n ≡ m → c ≡ d → t ≡ u → judgement n c t ≡ judgement m d u
+pub same_judgement : (n m : ℕ) (c d t u : Bool) → n ≡ m → c ≡ d → t ≡ u → judgement n c t ≡ judgement m d u
 same_judgement n m c d t u p q r = ap (λ a. judgement a c t) p ∙ ap (λ a. judgement m a t) q ∙ ap (λ a. judgement m d a) r
 
 after_twice : (at n : ℕ) (c d t u : Bool) (r : Result Judgement ParserError) → after_others at c t (after_others n d u r) ≡ after_others (at + n) (c && d) (t && u) r

@@ -7,6 +7,7 @@ pub mod Whole
 pub mod Strict
 pub mod Joining
 pub mod Forms
+pub mod Constants
 pub mod OneSlot
 pub mod MethodWalk
 pub mod Properties
@@ -23,5 +24,6 @@ pub mod PutParts
 pub mod SlotParts
 pub mod InTurn
 pub mod PayloadParts
+pub mod GivenParts
 pub mod NoLonger
 pub mod EqualJudgements

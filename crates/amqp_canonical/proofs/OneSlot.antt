@@ -9,16 +9,16 @@ use Rattle.std.specs.Result.{IsErrAnd}
 use Rattle.amqp_types.specs.Levels.{Level, plain, tidy, strict}
 use Rattle.amqp_types.specs.Judging.{Judged, took, past, IsBytes, ◌>>=◌}
 use Rattle.amqp_types.specs.Answers.{AnswersFully}
-use Rattle.amqp_types.specs.Numbers.{NumberWidth, width_of, byte_count, number_limit, number_bytes, judge_number}
+use Rattle.amqp_types.specs.Numbers.{NumberWidth, bytes2, width_of, byte_count, number_limit, judge_number, number_bytes}
 use Rattle.amqp_types.specs.Flags.{flags_from, judge_flags}
 use Rattle.amqp_types.specs.Strings.{judge_short_string, judge_long_string}
 use Rattle.amqp_types.specs.Values.{Entry}
 use Rattle.amqp_types.specs.ValueJudging.{judge_table, judge_value}
 use Rattle.amqp_types.specs.ValueSpelling.{SpellsTable, SpellsValue}
-use Rattle.amqp_types.specs.Slots.{Item, number_item, flag_item, text_item, bytes_item, entries_item, Form, number_form, flags_form, short_string_form, long_string_form, table_form, Slot, reserved_slot}
-use Rattle.amqp_types.specs.SlotJudging.{judge_form, judge_dropped, judge_slot}
+use Rattle.amqp_types.specs.Slots.{Item, number_item, flag_item, text_item, bytes_item, entries_item, Form, number_form, flags_form, short_string_form, long_string_form, table_form}
+use Rattle.amqp_types.specs.SlotJudging.{judge_form, judge_dropped}
 use Rattle.amqp_types.specs.SlotBytes.{form_bytes}
-use Rattle.amqp_types.specs.SlotSpelling.{SpellsForm, SpellsReserved, SpellsSlot}
+use Rattle.amqp_types.specs.SlotSpelling.{SpellsForm, SpellsReserved}
 use Rattle.amqp_types.specs.SlotLaws.{is_least}
 use Rattle.amqp_types.specs.declared.errors.ParserError.{ParserError}
 use Rattle.amqp_types.proofs.FormLaws.{numbers_lawful}
@@ -27,15 +27,15 @@ use Rattle.amqp_types.proofs.Texts.{short_string_exact, long_string_exact}
 use Rattle.amqp_laws.proofs.PlainValues.{field_table_plain_is_tidy}
 use Rattle.amqp_laws.proofs.SlotForms.{forms_lawful}
 use Rattle.amqp_laws.proofs.SlotLaws.{reserved_lawful}
-use Rattle.amqp_canonical.specs.declared.shapes.Shape.{Shape}
 use Rattle.amqp_canonical.specs.declared.slots.Judgement.{Judgement}
 use Rattle.amqp_canonical.specs.declared.values.ValueJudgement.{ValueJudgement}
 use Rattle.amqp_canonical.specs.Judgements.{IsCanonicalTable, DecodesAs}
-use Rattle.amqp_canonical.specs.Shapes.{form_of, slot_of}
-use Rattle.amqp_canonical.specs.SlotJudgements.{TakesTidily, JudgesTidily, JudgesLevels}
+use Rattle.amqp_canonical.specs.Shapes.{is_constant, constant_of}
+use Rattle.amqp_canonical.specs.SlotJudgements.{TakesTidily, JudgesTidily}
 use Rattle.amqp_canonical.proofs.Refusing.{Fails, fully, fails_next}
 use Rattle.amqp_canonical.proofs.Children.{decided_as}
 use Rattle.amqp_canonical.proofs.AfterTag.{number_past, number_took}
+use Rattle.amqp_canonical.proofs.Constants.{constant_put, constant_least}
 use Rattle.amqp_canonical.proofs.Strict.{table_strict}
 
 -- an error that `?` passes on
@@ -188,6 +188,14 @@ pub bytes_decided : (xs ys : List ℕ) (r : Bool) → r ≡ pointwise nat_eq xs 
 bytes_decided xs ys true h = (λ t. told_text xs ys true h, λ e. refl)
 bytes_decided xs ys false h = (λ t. absurd (true≢false (sym t)), λ e. absurd (told_text xs ys false h e))
 
+-- a reserved field is its constant
+pub constant_took : (form : Form) (bytes constant : List ℕ) (j : Judgement) (as_written : Bool) → IsBytes bytes → is_constant form constant ≡ true → TakesTidily (SpellsForm strict form) (SpellsForm tidy form) j bytes (judge_form form bytes)
+    → IsTrue as_written ↔ (take j.used bytes ≡ constant)
+    → TakesTidily (SpellsReserved strict form (constant_of form constant)) (SpellsReserved tidy form (constant_of form constant)) (record { used = j.used; canonical = as_written; tidy = as_written }) bytes (judge_dropped form bytes)
+constant_took form bytes constant j as_written fits is h decides =
+    let put = constant_put form constant is in
+    reserved_took form (constant_of form constant) bytes j as_written fits (constant_least form constant is) h (decided_as as_written _ _ decides (λ e. e ∙ sym put) (λ e. e ∙ put))
+
 -- a number is its constant
 pub reserved_number_took : (width : NumberWidth) (bytes : List ℕ) (n constant used : ℕ) (as_written : Bool) → IsBytes bytes → constant < number_limit width → judge_number width bytes ≡ took n used → IsTrue as_written ↔ (n ≡ constant)
     → TakesTidily (SpellsReserved strict (number_form width) (number_item constant ∷ [])) (SpellsReserved tidy (number_form width) (number_item constant ∷ [])) (record { used = used; canonical = as_written; tidy = as_written }) bytes (judge_dropped (number_form width) bytes)
@@ -203,15 +211,16 @@ pub reserved_number_fails : {A : Type 0} (width : NumberWidth) (bytes : List ℕ
 unfolding judge_dropped judge_form
 reserved_number_fails width bytes view e h = fails_next e (judge_form (number_form width) bytes) _ (fails_next e (judge_number width bytes) _ (fully view e (judge_number width bytes) h))
 
--- the arm of a reserved field
-pub reserved_arm : (shape other : Shape) (constant : List Item) (written bytes : List ℕ) (r : Result Judgement ParserError) → shape ≡ other → slot_of other ≡ reserved_slot (form_of other) constant → is_least (form_of other) constant ≡ true
-    → written ≡ form_bytes (form_of other) constant
-    → ((items : List Item) → is_least (form_of shape) items ≡ true → written ≡ form_bytes (form_of shape) items → JudgesLevels (λ level. SpellsReserved level (form_of shape) items) bytes r (judge_dropped (form_of shape) bytes))
-    → JudgesLevels (λ level. SpellsSlot level (slot_of shape)) bytes r (judge_slot (slot_of shape) bytes)
-reserved_arm shape other constant written bytes r same slot least is h =
-    let P : Shape → Type 0 = λ s.
-    ((items : List Item) → is_least (form_of s) items ≡ true → written ≡ form_bytes (form_of s) items → JudgesLevels (λ level. SpellsReserved level (form_of s) items) bytes r (judge_dropped (form_of s) bytes))
-    → JudgesLevels (λ level. SpellsSlot level (slot_of s)) bytes r (judge_slot (slot_of s) bytes)
-    in
-    let Q : Slot → Type 0 = λ s. JudgesLevels (λ level. SpellsSlot level s) bytes r (judge_slot s bytes) in
-    subst P (sym same) (λ k. subst Q (sym slot) (k constant least is)) h
+two_bytes : (bytes : List ℕ) → length bytes ≡ 2 → bytes ≡ get_or bytes 0 0 ∷ get_or bytes 1 0 ∷ []
+two_bytes [] two = absurd (omega (arith, two))
+two_bytes (a ∷ []) two = absurd (omega (arith, two))
+two_bytes (a ∷ b ∷ []) two = refl
+two_bytes (a ∷ b ∷ c ∷ bytes) two = absurd (omega (arith, two))
+
+-- the same of a constant of 2 bytes
+pub reserved_short_took : (bytes constant : List ℕ) (n written used : ℕ) (as_written : Bool) → IsBytes bytes → length constant ≡ 2 → written ≡ from_be_bytes (width_of bytes2) (get_or constant 0 0 ∷ get_or constant 1 0 ∷ []) → written < number_limit bytes2 → judge_number bytes2 bytes ≡ took n used → IsTrue as_written ↔ (n ≡ written)
+    → (let items = constant_of (number_form bytes2) constant in TakesTidily (SpellsReserved strict (number_form bytes2) items) (SpellsReserved tidy (number_form bytes2) items) (record { used = used; canonical = as_written; tidy = as_written }) bytes (judge_dropped (number_form bytes2) bytes))
+reserved_short_took bytes constant n written used as_written fits two is low taken decides =
+    let same : written ≡ from_be_bytes (width_of bytes2) constant = is ∙ ap (from_be_bytes (width_of bytes2)) (sym (two_bytes constant two)) in
+    let P : ℕ → Type 0 = λ m. TakesTidily (SpellsReserved strict (number_form bytes2) (number_item m ∷ [])) (SpellsReserved tidy (number_form bytes2) (number_item m ∷ [])) (record { used = used; canonical = as_written; tidy = as_written }) bytes (judge_dropped (number_form bytes2) bytes) in
+    subst P same (reserved_number_took bytes2 bytes n written used as_written fits low taken decides)

@@ -1,6 +1,7 @@
 -- Methods, properties and content headers that were read, by the parts in which they are put.
 use Rattle.std.proofs.Common.{◌≡◌, ◌<◌, ◌≤◌, ◌^◌, ◌%◌, ◌-◌, ℕ, zero, suc, ◌+◌, nat_lt, eqb, Bool, true, false, List, [], ◌∷◌, ◌++◌, length, get_or, take, drop, map, Option, Some, None, refl, sym, ap, ap₂, subst, ◌∙◌, arith}
-use Rattle.std.proofs.lemmas.List.{length-map, drop-drop}
+use Rattle.std.proofs.lemmas.Bool.{ltb-false}
+use Rattle.std.proofs.lemmas.List.{length-map, drop-drop, length-drop}
 use Rattle.std.specs.Prelude.{is_some, unwrap_or}
 use Rattle.std.specs.Int.{bit_at}
 use Rattle.amqp_types.specs.Levels.{plain}
@@ -8,7 +9,8 @@ use Rattle.amqp_types.specs.Judging.{Judged, Judge, took, unknown_class, unknown
 use Rattle.amqp_types.specs.Sequences.{judge_map}
 use Rattle.amqp_types.specs.Numbers.{NumberWidth, bytes2, bytes8, byte_count, number_bytes, judge_number}
 use Rattle.amqp_types.specs.Flags.{flag_at}
-use Rattle.amqp_types.specs.Slots.{Item, number_item, Form, number_form, Slot, kept_slot, reserved_slot}
+use Rattle.amqp_types.specs.Slots.{Item, number_item, number_form, Slot, kept_slot, reserved_slot}
+use Rattle.amqp_types.specs.Slots as meant
 use Rattle.amqp_types.specs.SlotJudging.{judge_form, judge_dropped, judge_slot, judge_slots}
 use Rattle.amqp_types.specs.SlotBytes.{form_bytes, slots_bytes}
 use Rattle.amqp_types.specs.Rows.{rows_of, slots_at}
@@ -28,7 +30,7 @@ use Rattle.amqp_types.proofs.FormLaws.{numbers_lawful}
 use Rattle.amqp_laws.proofs.Masks.{set_flags, mask_is, mask_of-flags}
 use Rattle.amqp_laws.proofs.Options.{sets_lawful, set_gives, counted_one}
 use Rattle.amqp_laws.proofs.PropertyLaws.{one_each}
-use Rattle.amqp_canonical.specs.declared.shapes.Shape.{Shape}
+use Rattle.amqp_canonical.specs.declared.shapes.Form.{Form}
 use Rattle.amqp_canonical.specs.Shapes.{property_of}
 use Rattle.amqp_canonical.specs.Writes.{IsRead, canonical_of}
 use Rattle.amqp_canonical.proofs.InTurn.{FirstOf, PutInTurn, HereInTurn, turn_none, turn_here, turn_end}
@@ -41,6 +43,9 @@ use Rattle.amqp_types.specs.Tidiness.{used_by}
 
 number_count : (width : NumberWidth) (bytes : List ℕ) (x n : ℕ) → judge_number width bytes ≡ took x n → n ≡ byte_count width
 number_count width bytes x n h = let long = guard_took (nat_lt (length bytes) (byte_count width)) _ x n h in sym (count_took _ x (byte_count width) n long.1)
+
+number_long : (width : NumberWidth) (bytes : List ℕ) (x n : ℕ) → judge_number width bytes ≡ took x n → byte_count width ≤ length bytes
+number_long width bytes x n h = let long = guard_took (nat_lt (length bytes) (byte_count width)) _ x n h in ltb-false (length bytes) (byte_count width) long.0
 
 -- a number of 2 bytes that is reported rightly
 abbrev pub IsShortAt : List ℕ → ℕ → Type 0
@@ -109,6 +114,10 @@ method_read bytes h =
       is = all.2 ∙ ap (λ m. took m all.1) (sym found);
     }
 
+-- both ids of it have their bytes
+pub payload_long : (bytes : List ℕ) → IsRead (judge_payload bytes) → 4 ≤ length bytes
+payload_long bytes h = let r = method_read bytes h in omega (arith, length-drop 2 bytes, number_long bytes2 (drop 2 bytes) r.id 2 r.id_is)
+
 pub payload_put : (bytes : List ℕ) (class id : ℕ) → IsRead (judge_payload bytes) → IsShortAt bytes class → IsShortAt (drop 2 bytes) id → PayloadPut bytes class id
 payload_put bytes class id h one two =
     let r = method_read bytes h in
@@ -130,14 +139,14 @@ same_some x y h = cc
 
 -- ---- properties
 
-first_is : (form : Form) (items : List Item) → length items ≡ 1 → optional_bytes form (first_item items) ≡ form_bytes form items
+first_is : (form : meant.Form) (items : List Item) → length items ≡ 1 → optional_bytes form (first_item items) ≡ form_bytes form items
 unfolding optional_bytes
 first_is form [] h = absurd (omega (arith, h))
 first_is form (x ∷ []) h = refl
 first_is form (x ∷ y ∷ items) h = absurd (omega (arith, h))
 
 -- the option that a property gives
-option_bytes : (form : Form) (bytes : List ℕ) (items : List Item) (n : ℕ) → gives_one form ≡ true → IsBytes bytes → judge_form form bytes ≡ took items n → optional_bytes form (first_item items) ≡ form_bytes form items
+option_bytes : (form : meant.Form) (bytes : List ℕ) (items : List Item) (n : ℕ) → gives_one form ≡ true → IsBytes bytes → judge_form form bytes ≡ took items n → optional_bytes form (first_item items) ≡ form_bytes form items
 unfolding optional_bytes
 option_bytes form bytes items n one fits is =
     let laws = forms_lawful form in
@@ -186,22 +195,22 @@ pub set_end : (mask : ℕ) (ps : List Property) (bytes left : List ℕ) (k : ℕ
 set_end mask = turn_end (one_property mask) (judge_set mask) property_bytes set_bytes (no_properties mask)
 
 -- a property that is there, for which there is room
-pub record PropertyHere (mask : ℕ) (ps : List Property) (form : Form) (bytes left : List ℕ) (k n : ℕ) (old mid : List ℕ) (at end : ℕ) : Type 0 where
+pub record PropertyHere (mask : ℕ) (ps : List Property) (form : meant.Form) (bytes left : List ℕ) (k n : ℕ) (old mid : List ℕ) (at end : ℕ) : Type 0 where
   pub read : IsRead (judge_form form left)
   pub room : end + length (canonical_of (form_bytes form) (judge_form form left)) ≤ length mid
   pub next : (new : List ℕ) (place : ℕ) → Puts mid new end (canonical_of (form_bytes form) (judge_form form left)) place → SetPut mask ps bytes (drop n left) (k + 1) old new at place
 
-optional_there : (flag : Bool) (form : Form) (bytes : List ℕ) → flag ≡ true → judge_optional flag form bytes ≡ judge_map first_item (judge_form form) bytes
+optional_there : (flag : Bool) (form : meant.Form) (bytes : List ℕ) → flag ≡ true → judge_optional flag form bytes ≡ judge_map first_item (judge_form form) bytes
 unfolding judge_optional
 optional_there true form bytes h = refl
 optional_there false form bytes h = absurd cc
 
-optional_none : (flag : Bool) (form : Form) (bytes : List ℕ) → flag ≡ false → judge_optional flag form bytes ≡ took None 0
+optional_none : (flag : Bool) (form : meant.Form) (bytes : List ℕ) → flag ≡ false → judge_optional flag form bytes ≡ took None 0
 unfolding judge_optional
 optional_none true form bytes h = absurd cc
 optional_none false form bytes h = refl
 
-option_put : (form : Form) (bytes : List ℕ) → gives_one form ≡ true → IsBytes bytes → IsRead (judge_form form bytes) → canonical_of (optional_bytes form) (judge_map first_item (judge_form form) bytes) ≡ canonical_of (form_bytes form) (judge_form form bytes)
+option_put : (form : meant.Form) (bytes : List ℕ) → gives_one form ≡ true → IsBytes bytes → IsRead (judge_form form bytes) → canonical_of (optional_bytes form) (judge_map first_item (judge_form form) bytes) ≡ canonical_of (form_bytes form) (judge_form form bytes)
 option_put form bytes one fits h =
     let r = took_of (judge_form form bytes) h in
     ap (λ j. canonical_of (optional_bytes form) (j >>= λ x. took (first_item x.0) x.1)) r.2 ∙ option_bytes form bytes r.0 r.1 one fits r.2 ∙ sym (ap (λ j. canonical_of (form_bytes form) j) r.2)
@@ -239,10 +248,10 @@ map_from f [] k d h = absurd (omega arith)
 map_from f (x ∷ xs) zero d h = refl
 map_from f (x ∷ xs) (suc k) d h = let next : suc (k + 1) ≡ suc k + 1 = omega arith in map_from f xs k d (omega arith) ∙ ap (λ n. f (get_or xs k d) ∷ drop n (f x ∷ map f xs)) next
 
-pub property_from : (ps : List (ℕ × Shape)) (k : ℕ) (d : ℕ × Shape) → map property_of ps ≡ properties → k < length ps → drop k properties ≡ property_of (get_or ps k d) ∷ drop (k + 1) properties
+pub property_from : (ps : List (ℕ × Form)) (k : ℕ) (d : ℕ × Form) → map property_of ps ≡ properties → k < length ps → drop k properties ≡ property_of (get_or ps k d) ∷ drop (k + 1) properties
 property_from ps k d is h = ap (drop k) (sym is) ∙ map_from property_of ps k d h ∙ ap (λ xs. property_of (get_or ps k d) ∷ drop (k + 1) xs) is
 
-pub properties_all : (ps : List (ℕ × Shape)) (k : ℕ) → map property_of ps ≡ properties → length ps ≤ k → length properties ≤ k
+pub properties_all : (ps : List (ℕ × Form)) (k : ℕ) → map property_of ps ≡ properties → length ps ≤ k → length properties ≤ k
 properties_all ps k is h = omega (arith, h, length-map ps property_of, ap length is)
 
 one_at : (ps : List Property) (k : ℕ) (p : Property) (rest : List Property) → give_one ps ≡ true → drop k ps ≡ p ∷ rest → gives_one p.form ≡ true
@@ -350,11 +359,11 @@ properties_put bytes mask fits h decides =
 
 -- ---- content headers
 
-number_gives : (width : NumberWidth) (bytes : List ℕ) (xs : List Item) (n : ℕ) → judge_form (number_form width) bytes ≡ took xs n → (x : ℕ) × (xs ≡ number_item x ∷ []) × (n ≡ byte_count width)
+number_gives : (width : NumberWidth) (bytes : List ℕ) (xs : List Item) (n : ℕ) → judge_form (number_form width) bytes ≡ took xs n → (x : ℕ) × (xs ≡ number_item x ∷ []) × (n ≡ byte_count width) × (byte_count width ≤ length bytes)
 unfolding judge_form
 number_gives width bytes xs n h =
     let one = bind_took (judge_number width bytes) _ xs n h in
-    (one.0, sym (value_took (number_item one.0 ∷ []) xs one.1 n one.3), sym (count_took (number_item one.0 ∷ []) xs one.1 n one.3) ∙ number_count width bytes one.0 one.1 one.2)
+    (one.0, sym (value_took (number_item one.0 ∷ []) xs one.1 n one.3), sym (count_took (number_item one.0 ∷ []) xs one.1 n one.3) ∙ number_count width bytes one.0 one.1 one.2, number_long width bytes one.0 one.1 one.2)
 
 dropped_gives : (width : NumberWidth) (bytes : List ℕ) (xs : List Item) (n : ℕ) → judge_dropped (number_form width) bytes ≡ took xs n → (xs ≡ []) × (n ≡ byte_count width)
 unfolding judge_dropped
@@ -400,7 +409,7 @@ size_slots = kept_slot (number_form bytes8) ∷ []
 abbrev weight_slot : Slot
 weight_slot = reserved_slot (number_form bytes2) (number_item 0 ∷ [])
 
-header_gives : (bytes : List ℕ) (items : List Item) (n : ℕ) → judge_slots header_slots bytes ≡ took items n → (class : ℕ) × (size : ℕ) × (items ≡ number_item class ∷ number_item size ∷ []) × (n ≡ 12)
+header_gives : (bytes : List ℕ) (items : List Item) (n : ℕ) → judge_slots header_slots bytes ≡ took items n → (class : ℕ) × (size : ℕ) × (items ≡ number_item class ∷ number_item size ∷ []) × (n ≡ 12) × (12 ≤ length bytes)
 unfolding header_slots
 header_gives bytes items n h =
     let a = slot_taken (kept_slot (number_form bytes2)) (weight_slot ∷ size_slots) bytes items n h in
@@ -414,9 +423,11 @@ header_gives bytes items n h =
       size.0,
       sym a.joined ∙ ap₂ (λ x y. x ++ y) class.1 (sym b.joined ∙ ap₂ (λ x y. x ++ y) weight.0 (sym c.joined ∙ ap₂ (λ x y. x ++ y) size.1 d.0)),
       omega (arith, class.2, weight.1, size.2, d.1, a.total, b.total, c.total),
+      omega (arith, class.2, weight.1, size.3, length-drop a.k bytes, length-drop b.k (drop a.k bytes)),
     )
 
 pub record HeaderPut (bytes : List ℕ) : Type 0 where
+  pub long : 12 ≤ length bytes
   pub front : IsRead (judge_slots header_slots bytes)
   pub after : IsRead (judge_properties (drop 12 bytes))
   pub bytes_are : canonical_of content_header_bytes (judge_content_header bytes) ≡ canonical_of (slots_bytes header_slots) (judge_slots header_slots bytes) ++ canonical_of properties_bytes (judge_properties (drop 12 bytes))
@@ -435,6 +446,7 @@ header_put bytes h =
     let header : header_of_parts one.0 two.0 ≡ all.0 = value_took (header_of_parts one.0 two.0) all.0 _ all.1 two.3 in
     let behind : judge_properties (drop 12 bytes) ≡ took two.0 two.1 = ap (λ m. judge_properties (drop m bytes)) (sym gives.3) ∙ two.2 in
     record {
+      long = gives.4;
       front = is_read (judge_slots header_slots bytes) one.0 one.1 one.2;
       after = is_read (judge_properties (drop 12 bytes)) two.0 two.1 behind;
       bytes_are = ap (λ j. canonical_of content_header_bytes j) all.2 ∙ ap content_header_bytes (sym header) ∙ ap (λ items. content_header_bytes (header_of_parts items two.0)) gives.2 ∙ header_of gives.0 gives.1 two.0

@@ -11,9 +11,9 @@ use Rattle.amqp_types.specs.Sequences.{SpellsBoth, SpellsMapped}
 use Rattle.amqp_types.specs.Answers.{AnswersFully}
 use Rattle.amqp_types.specs.Numbers.{bytes2, number_bytes, judge_number, SpellsNumber}
 use Rattle.amqp_types.specs.Flags.{flag_at, FromTidy}
-use Rattle.amqp_types.specs.Slots.{Item, Form, Slot}
+use Rattle.amqp_types.specs.Slots.{Item, Slot}
+use Rattle.amqp_types.specs.Slots as meant
 use Rattle.amqp_types.specs.SlotJudging.{judge_form, judge_slots}
-use Rattle.amqp_types.specs.SlotBytes.{slots_bytes}
 use Rattle.amqp_types.specs.SlotSpelling.{SpellsForm, SpellsSlots}
 use Rattle.amqp_types.specs.Properties.{Property, properties}
 use Rattle.amqp_types.specs.PropertyJudging.{first_item, judge_optional, judge_set, judge_properties}
@@ -25,34 +25,34 @@ use Rattle.amqp_types.proofs.FormLaws.{numbers_lawful}
 use Rattle.amqp_types.proofs.Sequences.{map_taken}
 use Rattle.amqp_types.proofs.Took.{value_took}
 use Rattle.amqp_laws.proofs.SlotForms.{forms_lawful}
-use Rattle.amqp_laws.proofs.SlotLaws.{slots_lawful, form_is_plain}
+use Rattle.amqp_laws.proofs.SlotLaws.{form_is_plain}
 use Rattle.amqp_laws.proofs.PropertyLaws.{properties_lawful}
-use Rattle.amqp_laws.proofs.HeaderLaws.{least, content_headers_lawful}
-use Rattle.amqp_canonical.specs.declared.shapes.Shape.{Shape}
+use Rattle.amqp_laws.proofs.HeaderLaws.{content_headers_lawful}
+use Rattle.amqp_canonical.specs.declared.shapes.Form.{Form}
 use Rattle.amqp_canonical.specs.declared.slots.Judgement.{Judgement}
 use Rattle.amqp_canonical.specs.Shapes.{form_of, property_of}
-use Rattle.amqp_canonical.specs.SlotJudgements.{TakesTidily, JudgesTidily, JudgesLevels, after_others, AreCanonicalSlots, IsCanonicalContentHeader}
+use Rattle.amqp_canonical.specs.SlotJudgements.{TakesTidily, JudgesTidily, JudgesLevels, after_others, IsCanonicalContentHeader}
 use Rattle.amqp_canonical.proofs.Refusing.{Fails, fully, fails_next}
 use Rattle.amqp_canonical.proofs.Children.{decided_as, both_decided}
 use Rattle.amqp_canonical.proofs.Joining.{IsRead, law_read, both_read, both_judged, split_at, judgement, IsReached, reached_none, reached_more, reached_fails, reached_all}
-use Rattle.amqp_canonical.proofs.Forms.{slots_read, levels_of_canonical, canonical_of_levels}
+use Rattle.amqp_canonical.proofs.Forms.{slots_read, canonical_of_levels}
 
 -- ---- one property
 
-optional_read : (present : Bool) (form : Form) → IsRead (judge_optional present form) (λ level. SpellsOptional level present form)
+optional_read : (present : Bool) (form : meant.Form) → IsRead (judge_optional present form) (λ level. SpellsOptional level present form)
 unfolding judge_optional
 optional_read true form = record {
   read = λ level bytes rest option h. map_taken first_item (judge_form form) (SpellsForm plain form) (forms_lawful form).exact bytes rest h.thing (form_is_plain level form bytes h.thing h.spelled) ∙ ap (λ o. took o (length bytes)) (sym h.made);
 }
 optional_read false form = record { read = λ level bytes rest option h. ap₂ (λ o n. took o n) (sym h.1) (sym (ap length h.0)) }
 
-mapped_at : (level : Level) (form : Form) (bytes : List ℕ) (items : List Item) → SpellsForm plain form bytes items → SpellsForm level form bytes items ↔ SpellsMapped (SpellsForm level form) first_item bytes (first_item items)
+mapped_at : (level : Level) (form : meant.Form) (bytes : List ℕ) (items : List Item) → SpellsForm plain form bytes items → SpellsForm level form bytes items ↔ SpellsMapped (SpellsForm level form) first_item bytes (first_item items)
 mapped_at level form bytes items h = (
   λ s. record { thing = items; spelled = s; made = refl },
   λ s. subst (SpellsForm level form bytes) ((forms_lawful form).one_meaning plain bytes s.thing items (form_is_plain level form bytes s.thing s.spelled) h) s.spelled,
 )
 
-pub optional_there : (present : Bool) (form : Form) (bytes : List ℕ) (r : Result Judgement ParserError) → IsBytes bytes → present ≡ true → JudgesLevels (λ level. SpellsForm level form) bytes r (judge_form form bytes)
+pub optional_there : (present : Bool) (form : meant.Form) (bytes : List ℕ) (r : Result Judgement ParserError) → IsBytes bytes → present ≡ true → JudgesLevels (λ level. SpellsForm level form) bytes r (judge_form form bytes)
     → JudgesLevels (λ level. SpellsOptional level present form) bytes r (judge_optional present form bytes)
 unfolding judge_optional
 optional_there true form bytes (Ok j) fits there h =
@@ -69,7 +69,7 @@ optional_there true form bytes (Ok j) fits there h =
 optional_there true form bytes (Err e) fits there h = fails_next e (judge_form form bytes) _ h
 optional_there false form bytes r fits there h = absurd (true≢false (sym there))
 
-pub optional_none : (present : Bool) (form : Form) (bytes : List ℕ) → present ≡ false → JudgesLevels (λ level. SpellsOptional level present form) bytes (judgement 0 true true) (judge_optional present form bytes)
+pub optional_none : (present : Bool) (form : meant.Form) (bytes : List ℕ) → present ≡ false → JudgesLevels (λ level. SpellsOptional level present form) bytes (judgement 0 true true) (judge_optional present form bytes)
 unfolding judge_optional
 optional_none true form bytes none = absurd (true≢false none)
 optional_none false form bytes none = record { thing = None; is = refl; canonical = (λ t. (refl, refl), λ h. refl); tidy = (λ t. (refl, refl), λ h. refl) }
@@ -83,31 +83,31 @@ set_read mask (p ∷ ps) =
     both_read (judge_optional (flag_at mask p.bit) p.form) (judge_set mask ps) (λ option options. option ∷ options) (λ level. SpellsOptional level (flag_at mask p.bit) p.form) (λ level. SpellsSet level mask ps) (optional_read (flag_at mask p.bit) p.form) (set_read mask ps)
 
 module _ (mask : ℕ) where
-  abbrev one_property : ℕ × Shape → Judge (Option Item)
+  abbrev one_property : ℕ × Form → Judge (Option Item)
   one_property p = judge_optional (flag_at mask p.0) (form_of p.1)
 
-  abbrev OneProperty : ℕ × Shape → Level → List ℕ → Option Item → Type 0
+  abbrev OneProperty : ℕ × Form → Level → List ℕ → Option Item → Type 0
   OneProperty p level = SpellsOptional level (flag_at mask p.0) (form_of p.1)
 
-  abbrev all_properties : List (ℕ × Shape) → Judge (List (Option Item))
+  abbrev all_properties : List (ℕ × Form) → Judge (List (Option Item))
   all_properties ps = judge_set mask (map property_of ps)
 
-  abbrev AllProperties : List (ℕ × Shape) → Level → List ℕ → List (Option Item) → Type 0
+  abbrev AllProperties : List (ℕ × Form) → Level → List ℕ → List (Option Item) → Type 0
   AllProperties ps level = SpellsSet level mask (map property_of ps)
 
-  abbrev pub ArePropertiesReached : List (ℕ × Shape) → List ℕ → ℕ → ℕ → Bool → Bool → Type 0
+  abbrev pub ArePropertiesReached : List (ℕ × Form) → List ℕ → ℕ → ℕ → Bool → Bool → Type 0
   ArePropertiesReached = IsReached one_property OneProperty all_properties AllProperties
 
-  pub properties_none : (ps : List (ℕ × Shape)) (bytes : List ℕ) → ArePropertiesReached ps bytes 0 0 true true
+  pub properties_none : (ps : List (ℕ × Form)) (bytes : List ℕ) → ArePropertiesReached ps bytes 0 0 true true
   properties_none = reached_none one_property OneProperty all_properties AllProperties
 
-  properties_step : (p : ℕ × Shape) (ps : List (ℕ × Shape)) (bytes : List ℕ) (j : Judgement) (r : Result Judgement ParserError) → TakesTidily (OneProperty p strict) (OneProperty p tidy) j bytes (one_property p bytes)
+  properties_step : (p : ℕ × Form) (ps : List (ℕ × Form)) (bytes : List ℕ) (j : Judgement) (r : Result Judgement ParserError) → TakesTidily (OneProperty p strict) (OneProperty p tidy) j bytes (one_property p bytes)
       → JudgesLevels (AllProperties ps) (drop j.used bytes) r (all_properties ps (drop j.used bytes)) → JudgesLevels (AllProperties (p ∷ ps)) bytes (after_others j.used j.canonical j.tidy r) (all_properties (p ∷ ps) bytes)
   unfolding judge_set
   properties_step p ps bytes j r one others =
       both_judged (one_property p) (all_properties ps) (λ option options. option ∷ options) (OneProperty p) (AllProperties ps) (optional_read (flag_at mask p.0) (form_of p.1)) (set_read mask (map property_of ps)) bytes j r one others
 
-  properties_stop : (p : ℕ × Shape) (ps : List (ℕ × Shape)) (bytes : List ℕ) (e : ParserError) → Fails e (one_property p bytes) → Fails e (all_properties (p ∷ ps) bytes)
+  properties_stop : (p : ℕ × Form) (ps : List (ℕ × Form)) (bytes : List ℕ) (e : ParserError) → Fails e (one_property p bytes) → Fails e (all_properties (p ∷ ps) bytes)
   unfolding judge_set
   properties_stop p ps bytes e h = fails_next e (one_property p bytes) _ h
 
@@ -115,19 +115,19 @@ module _ (mask : ℕ) where
   unfolding judge_set
   no_properties bytes = record { thing = []; is = refl; canonical = (λ t. (refl, refl), λ h. refl); tidy = (λ t. (refl, refl), λ h. refl) }
 
-  pub properties_more : (ps : List (ℕ × Shape)) (bytes : List ℕ) (k at : ℕ) (canonical so_far : Bool) (j : Judgement) (other : ℕ × Shape) → k < length ps → ArePropertiesReached ps bytes k at canonical so_far
+  pub properties_more : (ps : List (ℕ × Form)) (bytes : List ℕ) (k at : ℕ) (canonical so_far : Bool) (j : Judgement) (other : ℕ × Form) → k < length ps → ArePropertiesReached ps bytes k at canonical so_far
       → (let p = get_or ps k other in TakesTidily (OneProperty p strict) (OneProperty p tidy) j (drop at bytes) (one_property p (drop at bytes))) → ArePropertiesReached ps bytes (k + 1) (at + j.used) (canonical && j.canonical) (so_far && j.tidy)
   properties_more = reached_more one_property OneProperty all_properties AllProperties properties_step
 
-  pub properties_fail : (ps : List (ℕ × Shape)) (bytes : List ℕ) (k at : ℕ) (canonical so_far : Bool) (e : ParserError) (other : ℕ × Shape) → k < length ps → ArePropertiesReached ps bytes k at canonical so_far
+  pub properties_fail : (ps : List (ℕ × Form)) (bytes : List ℕ) (k at : ℕ) (canonical so_far : Bool) (e : ParserError) (other : ℕ × Form) → k < length ps → ArePropertiesReached ps bytes k at canonical so_far
       → Fails e (one_property (get_or ps k other) (drop at bytes)) → Fails e (all_properties ps bytes)
   properties_fail = reached_fails one_property OneProperty all_properties AllProperties properties_stop
 
-  pub properties_all : (ps : List (ℕ × Shape)) (bytes : List ℕ) (k at : ℕ) (canonical so_far : Bool) → length ps ≤ k → ArePropertiesReached ps bytes k at canonical so_far → JudgesLevels (AllProperties ps) bytes (judgement at canonical so_far) (all_properties ps bytes)
+  pub properties_all : (ps : List (ℕ × Form)) (bytes : List ℕ) (k at : ℕ) (canonical so_far : Bool) → length ps ≤ k → ArePropertiesReached ps bytes k at canonical so_far → JudgesLevels (AllProperties ps) bytes (judgement at canonical so_far) (all_properties ps bytes)
   properties_all = reached_all one_property OneProperty all_properties AllProperties no_properties
 
 -- of the whole table
-pub set_judged : (mask : ℕ) (ps : List (ℕ × Shape)) (bytes : List ℕ) (r : Result Judgement ParserError) → map property_of ps ≡ properties → JudgesLevels (λ level. SpellsSet level mask (map property_of ps)) bytes r (judge_set mask (map property_of ps) bytes)
+pub set_judged : (mask : ℕ) (ps : List (ℕ × Form)) (bytes : List ℕ) (r : Result Judgement ParserError) → map property_of ps ≡ properties → JudgesLevels (λ level. SpellsSet level mask (map property_of ps)) bytes r (judge_set mask (map property_of ps) bytes)
     → JudgesLevels (λ level. SpellsSet level mask properties) bytes r (judge_set mask properties bytes)
 set_judged mask ps bytes r is h = let P : List Property → Type 0 = λ xs. JudgesLevels (λ level. SpellsSet level mask xs) bytes r (judge_set mask xs bytes) in subst P is h
 
@@ -198,17 +198,11 @@ properties_took bytes mask n unused j fits is none h =
 pub bit_beyond : (mask bit : ℕ) → mask < 2 ^ 16 → 16 ≤ bit → flag_at mask bit ≡ false
 bit_beyond mask bit fits far = let none = bit_at_above mask 16 bit fits far in ne_eqb (bit_at mask bit) 1 (omega (arith, none))
 
-pub as_present : (present flag : Bool) (form : Form) (bytes : List ℕ) (r : Result Judgement ParserError) → present ≡ flag → JudgesLevels (λ level. SpellsOptional level present form) bytes r (judge_optional present form bytes)
+pub as_present : (present flag : Bool) (form : meant.Form) (bytes : List ℕ) (r : Result Judgement ParserError) → present ≡ flag → JudgesLevels (λ level. SpellsOptional level present form) bytes r (judge_optional present form bytes)
     → JudgesLevels (λ level. SpellsOptional level flag form) bytes r (judge_optional flag form bytes)
 as_present present flag form bytes r same h = let P : Bool → Type 0 = λ b. JudgesLevels (λ level. SpellsOptional level b form) bytes r (judge_optional b form bytes) in subst P same h
 
 -- ---- content headers
-
-pub header_front : (slots : List Slot) (bytes : List ℕ) (r : Result Judgement ParserError) → IsBytes bytes → slots ≡ header_slots → JudgesTidily (AreCanonicalSlots slots) (SpellsSlots tidy slots) bytes r (judge_slots slots bytes)
-    → JudgesLevels (λ level. SpellsSlots level header_slots) bytes r (judge_slots header_slots bytes)
-header_front slots bytes r fits is h =
-    let P : List Slot → Type 0 = λ xs. JudgesTidily (AreCanonicalSlots xs) (SpellsSlots tidy xs) bytes r (judge_slots xs bytes) in
-    levels_of_canonical (judge_slots header_slots) (λ level. SpellsSlots level header_slots) (slots_bytes header_slots) (slots_lawful header_slots least) bytes r fits (subst P is h)
 
 pub header_unread : (bytes : List ℕ) (e : ParserError) → Fails e (judge_slots header_slots bytes) → Fails e (judge_content_header bytes)
 unfolding judge_content_header

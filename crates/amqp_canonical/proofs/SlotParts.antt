@@ -1,5 +1,5 @@
 -- What fields were read of, and the bytes in which they are put.
-use Rattle.std.proofs.Common.{◌≡◌, ◌⊎◌, inl, inr, ◌<◌, ◌≤◌, ◌^◌, ◌*◌, ◌/◌, ◌%◌, ◌-◌, ℕ, zero, suc, ◌+◌, nat_lt, eqb, cond, Bool, true, false, List, [], ◌∷◌, ◌++◌, length, get_or, take, drop, map, refl, sym, ap, ap₂, subst, ◌∙◌, arith}
+use Rattle.std.proofs.Common.{Bor, ◌≡◌, ◌<◌, ◌≤◌, ◌^◌, ◌*◌, ◌/◌, ◌%◌, ◌-◌, ℕ, zero, suc, ◌+◌, nat_lt, eqb, cond, Bool, true, false, List, [], ◌∷◌, ◌++◌, length, get_or, take, drop, map, refl, sym, ap, ap₂, subst, ◌∙◌, arith}
 use Rattle.std.proofs.lemmas.Bool.{le-ltb}
 use Rattle.std.proofs.lemmas.List.{take_at, drop_at}
 use Rattle.std.proofs.lemmas.Nat.{div-add-mod', pow_pos, pow_below}
@@ -7,12 +7,13 @@ use Rattle.std.proofs.lemmas.Nat.Bits.{bit_at_cat_low}
 use Rattle.std.specs.Int.{bit_at}
 use Rattle.amqp_types.specs.Levels.{plain}
 use Rattle.amqp_types.specs.Judging.{Judged, took, past, fault, ◌>>=◌, IsBytes}
-use Rattle.amqp_types.specs.Numbers.{NumberWidth, bytes1, bytes2, bytes4, bytes8, byte_count, number_bytes, judge_number}
+use Rattle.amqp_types.specs.Numbers.{NumberWidth, bytes1, byte_count, judge_number, bytes2, bytes4, bytes8}
 use Rattle.amqp_types.specs.Flags.{flags_from, flags_byte, judge_flags}
 use Rattle.amqp_types.specs.Strings.{judge_short_string, judge_long_string}
 use Rattle.amqp_types.specs.ValueBytes.{table_bytes}
 use Rattle.amqp_types.specs.ValueJudging.{judge_field_table, judge_value}
-use Rattle.amqp_types.specs.Slots.{Item, number_item, flag_item, text_item, bytes_item, entries_item, Form, number_form, flags_form, short_string_form, long_string_form, table_form, Slot, kept_slot, reserved_slot}
+use Rattle.amqp_types.specs.Slots.{Item, number_item, flag_item, text_item, bytes_item, entries_item, number_form, flags_form, short_string_form, long_string_form, table_form, kept_slot, reserved_slot}
+use Rattle.amqp_types.specs.Slots as meant
 use Rattle.amqp_types.specs.SlotJudging.{judge_form, judge_dropped, judge_slot, judge_slots}
 use Rattle.amqp_types.specs.SlotBytes.{item_count, form_bytes, slots_bytes}
 use Rattle.amqp_types.specs.SlotSpelling.{SpellsForm}
@@ -20,10 +21,13 @@ use Rattle.amqp_types.specs.Writing.{Puts}
 use Rattle.amqp_types.proofs.FormLaws.{flags_byte_back}
 use Rattle.amqp_types.proofs.Took.{bind_took, value_took, count_took}
 use Rattle.amqp_laws.proofs.SlotForms.{flags_of-map, forms_lawful, form_gives}
-use Rattle.amqp_canonical.specs.declared.shapes.Shape.{Shape}
-use Rattle.amqp_canonical.specs.declared.shapes.Shape.TheVariants as shapes
-use Rattle.amqp_canonical.specs.Shapes.{form_of, slot_of, slots_of}
+use Rattle.amqp_canonical.specs.declared.shapes.Form.{Form}
+use Rattle.amqp_canonical.specs.declared.shapes.Form.TheVariants as forms
+use Rattle.amqp_canonical.specs.declared.shapes.Slot.{Slot}
+use Rattle.amqp_canonical.specs.declared.shapes.Slot.TheVariants as slots
+use Rattle.amqp_canonical.specs.Shapes.{form_of, is_constant, constant_of, slot_of, has_constant, slots_of}
 use Rattle.amqp_canonical.specs.Writes.{IsRead, canonical_of, slot_bytes, key_in}
+use Rattle.amqp_canonical.proofs.Constants.{constant_put}
 use Rattle.amqp_canonical.proofs.ReadParts.{took_of, is_read, text_parts}
 use Rattle.amqp_canonical.proofs.InTurn.{FirstOf, PutInTurn, HereInTurn, turn_none, turn_here, turn_end}
 use Rattle.amqp_canonical.proofs.Sizes.{table_length}
@@ -89,43 +93,38 @@ table_used bytes n used h =
     used long.0 ∙ long.1 ∙ sym (map_used (λ es. entries_item es ∷ []) (judge_field_table bytes))
 
 -- by the arms of the code
-module _ (s : Shape) (bytes : List ℕ) where
+module _ (f : Form) (bytes : List ℕ) where
   abbrev pub UsedOf : ℕ → Type 0
-  UsedOf n = IsRead (judge_form (form_of s) bytes) → n ≡ used_by (judge_form (form_of s) bytes)
+  UsedOf n = IsRead (judge_form (form_of f) bytes) → n ≡ used_by (judge_form (form_of f) bytes)
 
-  abbrev FormUsed : ℕ → Form → Type 0
+  abbrev FormUsed : ℕ → meant.Form → Type 0
   FormUsed n form = IsRead (judge_form form bytes) → n ≡ used_by (judge_form form bytes)
 
-  as_form : (n : ℕ) (form : Form) → form_of s ≡ form → FormUsed n form → UsedOf n
-  as_form n form is = subst (λ f. FormUsed n f) (sym is)
+  as_form : (n : ℕ) (form : meant.Form) → form_of f ≡ form → FormUsed n form → UsedOf n
+  as_form n form is = subst (λ g. FormUsed n g) (sym is)
 
-  pub octet_size : s ≡ shapes.Octet → UsedOf 1
+  pub octet_size : f ≡ forms.Octet → UsedOf 1
   octet_size is = as_form 1 (number_form bytes1) (ap form_of is) (number_used bytes1 bytes)
 
-  pub flags_size : ((count : ℕ) × (s ≡ shapes.Flags count)) ⊎ (s ≡ shapes.ReservedFlag) → UsedOf 1
-  flags_size (inl is) = as_form 1 (flags_form is.0) (ap form_of is.1) (flags_used is.0 bytes)
-  flags_size (inr is) = as_form 1 (flags_form 1) (ap form_of is) (flags_used 1 bytes)
+  pub short_size : f ≡ forms.Short → UsedOf 2
+  short_size is = as_form 2 (number_form bytes2) (ap form_of is) (number_used bytes2 bytes)
 
-  pub short_size : (s ≡ shapes.Short) ⊎ ((n : ℕ) × (s ≡ shapes.ReservedShort n)) → UsedOf 2
-  short_size (inl is) = as_form 2 (number_form bytes2) (ap form_of is) (number_used bytes2 bytes)
-  short_size (inr is) = as_form 2 (number_form bytes2) (ap form_of is.1) (number_used bytes2 bytes)
+  pub long_size : f ≡ forms.Long → UsedOf 4
+  long_size is = as_form 4 (number_form bytes4) (ap form_of is) (number_used bytes4 bytes)
 
-  pub long_size : (s ≡ shapes.Long) ⊎ ((n : ℕ) × (s ≡ shapes.ReservedLong n)) → UsedOf 4
-  long_size (inl is) = as_form 4 (number_form bytes4) (ap form_of is) (number_used bytes4 bytes)
-  long_size (inr is) = as_form 4 (number_form bytes4) (ap form_of is.1) (number_used bytes4 bytes)
-
-  pub long_long_size : s ≡ shapes.LongLong → UsedOf 8
+  pub long_long_size : f ≡ forms.LongLong → UsedOf 8
   long_long_size is = as_form 8 (number_form bytes8) (ap form_of is) (number_used bytes8 bytes)
 
-  pub text_size : (k : ℕ) → k ≡ length (key_in bytes) → (s ≡ shapes.ShortString) ⊎ (s ≡ shapes.ReservedShortString) → UsedOf (1 + k)
-  text_size k count (inl is) = as_form (1 + k) short_string_form (ap form_of is) (text_used bytes k count)
-  text_size k count (inr is) = as_form (1 + k) short_string_form (ap form_of is) (text_used bytes k count)
+  pub flags_size : (count : ℕ) → f ≡ forms.Flags count → UsedOf 1
+  flags_size count is = as_form 1 (flags_form count) (ap form_of is) (flags_used count bytes)
 
-  pub counted_size : (n : ℕ) → LongUsed bytes n → (s ≡ shapes.LongString) ⊎ (s ≡ shapes.ReservedLongString) → UsedOf n
-  counted_size n used (inl is) = as_form n long_string_form (ap form_of is) (long_used bytes n used)
-  counted_size n used (inr is) = as_form n long_string_form (ap form_of is) (long_used bytes n used)
+  pub text_size : (k : ℕ) → k ≡ length (key_in bytes) → f ≡ forms.ShortString → UsedOf (1 + k)
+  text_size k count is = as_form (1 + k) short_string_form (ap form_of is) (text_used bytes k count)
 
-  pub table_size : (n : ℕ) → LongUsed bytes n → s ≡ shapes.Table → UsedOf n
+  pub counted_size : (n : ℕ) → LongUsed bytes n → f ≡ forms.LongString → UsedOf n
+  counted_size n used is = as_form n long_string_form (ap form_of is) (long_used bytes n used)
+
+  pub table_size : (n : ℕ) → LongUsed bytes n → f ≡ forms.Table → UsedOf n
   table_size n used is = as_form n table_form (ap form_of is) (table_used bytes n used)
 
 -- ---- flags
@@ -145,14 +144,14 @@ lowest_flags count byte =
 -- ---- what a field is put as
 
 -- a form whose bytes are copied
-abbrev is_copied : Form → Bool
+abbrev is_copied : meant.Form → Bool
 is_copied (number_form width) = true
 is_copied (flags_form count) = false
 is_copied short_string_form = true
 is_copied long_string_form = true
 is_copied table_form = false
 
-copied_spelled : (form : Form) (bytes : List ℕ) (items : List Item) → is_copied form ≡ true → SpellsForm plain form bytes items → bytes ≡ form_bytes form items
+copied_spelled : (form : meant.Form) (bytes : List ℕ) (items : List Item) → is_copied form ≡ true → SpellsForm plain form bytes items → bytes ≡ form_bytes form items
 unfolding form_bytes
 copied_spelled (number_form width) bytes items is h = h.spelled.bytes_are ∙ ap (λ xs. form_bytes (number_form width) xs) (sym h.made)
 copied_spelled (flags_form count) bytes items is h = absurd cc
@@ -161,11 +160,11 @@ copied_spelled long_string_form bytes items is h = h.spelled.bytes_are ∙ ap (�
 copied_spelled table_form bytes items is h = absurd cc
 
 -- so many bytes in front are the canonical bytes
-pub record CopiedForm (bytes : List ℕ) (n : ℕ) (form : Form) : Type 0 where
+pub record CopiedForm (bytes : List ℕ) (n : ℕ) (form : meant.Form) : Type 0 where
   pub within : n ≤ length bytes
   pub bytes_are : take n bytes ≡ canonical_of (form_bytes form) (judge_form form bytes)
 
-pub copied_form : (form : Form) (bytes : List ℕ) (n : ℕ) → is_copied form ≡ true → IsBytes bytes → IsRead (judge_form form bytes) → n ≡ used_by (judge_form form bytes) → CopiedForm bytes n form
+pub copied_form : (form : meant.Form) (bytes : List ℕ) (n : ℕ) → is_copied form ≡ true → IsBytes bytes → IsRead (judge_form form bytes) → n ≡ used_by (judge_form form bytes) → CopiedForm bytes n form
 copied_form form bytes n is fits read used =
     let one = took_of (judge_form form bytes) read in
     let laws = forms_lawful form in
@@ -176,46 +175,22 @@ copied_form form bytes n is fits read used =
       bytes_are = ap (λ k. take k bytes) count ∙ copied_spelled form (take one.1 bytes) one.0 is spelled.0 ∙ sym (ap (λ j. canonical_of (form_bytes form) j) one.2);
     }
 
--- shapes whose bytes are copied
-pub other_form : (s : Shape) → (s ≡ shapes.Table → ⊥) → ((n : ℕ) → s ≡ shapes.Flags n → ⊥) → (s ≡ shapes.ReservedFlag → ⊥) → is_copied (form_of s) ≡ true
-other_form shapes.Octet a b c = refl
-other_form shapes.Short a b c = refl
-other_form shapes.Long a b c = refl
-other_form shapes.LongLong a b c = refl
-other_form (shapes.Flags n) a b c = absurd (b n refl)
-other_form shapes.ShortString a b c = refl
-other_form shapes.LongString a b c = refl
-other_form shapes.Table a b c = absurd (a refl)
-other_form (shapes.ReservedShort n) a b c = refl
-other_form (shapes.ReservedLong n) a b c = refl
-other_form shapes.ReservedFlag a b c = absurd (c refl)
-other_form shapes.ReservedShortString a b c = refl
-other_form shapes.ReservedLongString a b c = refl
-
--- shapes of fields that are kept
-pub other_slot : (s : Shape) → ((n : ℕ) → s ≡ shapes.ReservedShort n → ⊥) → ((n : ℕ) → s ≡ shapes.ReservedLong n → ⊥) → (s ≡ shapes.ReservedFlag → ⊥) → (s ≡ shapes.ReservedShortString → ⊥) → (s ≡ shapes.ReservedLongString → ⊥) → slot_of s ≡ kept_slot (form_of s)
-other_slot shapes.Octet c d e f g = refl
-other_slot shapes.Short c d e f g = refl
-other_slot shapes.Long c d e f g = refl
-other_slot shapes.LongLong c d e f g = refl
-other_slot (shapes.Flags n) c d e f g = refl
-other_slot shapes.ShortString c d e f g = refl
-other_slot shapes.LongString c d e f g = refl
-other_slot shapes.Table c d e f g = refl
-other_slot (shapes.ReservedShort n) c d e f g = absurd (c n refl)
-other_slot (shapes.ReservedLong n) c d e f g = absurd (d n refl)
-other_slot shapes.ReservedFlag c d e f g = absurd (e refl)
-other_slot shapes.ReservedShortString c d e f g = absurd (f refl)
-other_slot shapes.ReservedLongString c d e f g = absurd (g refl)
+-- forms of the program whose bytes are copied
+pub other_form : (f : Form) → (f ≡ forms.Table → ⊥) → ((n : ℕ) → f ≡ forms.Flags n → ⊥) → is_copied (form_of f) ≡ true
+other_form forms.Octet a b = refl
+other_form forms.Short a b = refl
+other_form forms.Long a b = refl
+other_form forms.LongLong a b = refl
+other_form (forms.Flags n) a b = absurd (b n refl)
+other_form forms.ShortString a b = refl
+other_form forms.LongString a b = refl
+other_form forms.Table a b = absurd (a refl)
 
 -- ---- the other fields
 
--- this is put for the field, and for what is encoded as it is
-abbrev pub PutAs : Shape → List ℕ → List ℕ → Type 0
-PutAs s bytes put = canonical_of (slot_bytes (slot_of s)) (judge_slot (slot_of s) bytes) ≡ put
-
-abbrev pub FormPutAs : Shape → List ℕ → List ℕ → Type 0
-FormPutAs s bytes put = canonical_of (form_bytes (form_of s)) (judge_form (form_of s) bytes) ≡ put
+-- this is put for what is encoded so
+abbrev pub PutAs : Form → List ℕ → List ℕ → Type 0
+PutAs f bytes put = canonical_of (form_bytes (form_of f)) (judge_form (form_of f) bytes) ≡ put
 
 number_first : (b : ℕ) (bytes : List ℕ) → judge_number bytes1 (b ∷ bytes) ≡ took b 1
 number_first b bytes = let long : 1 ≤ length (b ∷ bytes) = omega arith in rw (le-ltb (length (b ∷ bytes)) 1 long) refl
@@ -233,59 +208,32 @@ unfolding form_bytes
 flags_slot count [] h = let P : Judged (List Item) → Type 0 = λ j. IsRead j in absurd (subst P (no_flags count) h)
 flags_slot count (b ∷ bytes) h = (omega arith, ap (λ j. canonical_of (form_bytes (flags_form count)) j) (flags_taken count b bytes) ∙ ap (λ fs. flags_byte fs ∷ []) (flags_of-map (flags_from count 0 b)))
 
-pub table_slot : (bytes : List ℕ) → IsRead (judge_form table_form bytes) → IsRead (judge_field_table bytes) × FormPutAs shapes.Table bytes (canonical_of table_bytes (judge_field_table bytes))
+pub table_slot : (bytes : List ℕ) → IsRead (judge_form table_form bytes) → IsRead (judge_field_table bytes) × PutAs forms.Table bytes (canonical_of table_bytes (judge_field_table bytes))
 unfolding judge_form form_bytes
 table_slot bytes h = (map_read (λ es. entries_item es ∷ []) (judge_field_table bytes) h, map_bytes (λ es. entries_item es ∷ []) (form_bytes table_form) (judge_field_table bytes))
 
-reserved_read : (form : Form) (bytes : List ℕ) → IsRead (judge_dropped form bytes) → IsRead (judge_form form bytes)
+reserved_read : (form : meant.Form) (bytes : List ℕ) → IsRead (judge_dropped form bytes) → IsRead (judge_form form bytes)
 unfolding judge_dropped
 reserved_read form bytes h = map_read (λ items. []) (judge_form form bytes) h
 
 -- a reserved field is put as its constant
-reserved_slot_put : (form : Form) (constant : List Item) (bytes : List ℕ) → IsRead (judge_dropped form bytes) → canonical_of (slot_bytes (reserved_slot form constant)) (judge_slot (reserved_slot form constant) bytes) ≡ form_bytes form constant
-reserved_slot_put form constant bytes h = constant_bytes (form_bytes form constant) (judge_dropped form bytes) h
+pub reserved_put : (form : meant.Form) (constant bytes : List ℕ) → is_constant form constant ≡ true → IsRead (judge_dropped form bytes) → canonical_of (λ items. form_bytes form (constant_of form constant)) (judge_dropped form bytes) ≡ constant
+reserved_put form constant bytes is h = constant_bytes (form_bytes form (constant_of form constant)) (judge_dropped form bytes) h ∙ constant_put form constant is
 
-pub reserved_short_put : (n : ℕ) (bytes : List ℕ) → IsRead (judge_dropped (number_form bytes2) bytes) → PutAs (shapes.ReservedShort n) bytes (number_bytes bytes2 n)
-unfolding form_bytes
-reserved_short_put n bytes h = reserved_slot_put (number_form bytes2) (number_item n ∷ []) bytes h
+pub constant_slot : (slot : Slot) (form : Form) (constant : Bor (List ℕ)) (bytes : List ℕ) → slot ≡ slots.Reserved form constant → has_constant slot ≡ true → IsRead (judge_slot (slot_of slot) bytes) → canonical_of (slot_bytes (slot_of slot)) (judge_slot (slot_of slot) bytes) ≡ constant.now
+constant_slot slot form constant bytes is =
+    let P : Slot → Type 0 = λ s. has_constant s ≡ true → IsRead (judge_slot (slot_of s) bytes) → canonical_of (slot_bytes (slot_of s)) (judge_slot (slot_of s) bytes) ≡ constant.now in
+    subst P (sym is) (λ there read. reserved_put (form_of form) constant.now bytes there read)
 
-pub reserved_long_put : (n : ℕ) (bytes : List ℕ) → IsRead (judge_dropped (number_form bytes4) bytes) → PutAs (shapes.ReservedLong n) bytes (number_bytes bytes4 n)
-unfolding form_bytes
-reserved_long_put n bytes h = reserved_slot_put (number_form bytes4) (number_item n ∷ []) bytes h
-
-pub reserved_flag_put : (bytes : List ℕ) → IsRead (judge_dropped (flags_form 1) bytes) → PutAs shapes.ReservedFlag bytes (0 ∷ [])
-unfolding form_bytes
-reserved_flag_put bytes h = reserved_slot_put (flags_form 1) (flag_item false ∷ []) bytes h
-
-pub reserved_text_put : (bytes : List ℕ) → IsRead (judge_dropped short_string_form bytes) → PutAs shapes.ReservedShortString bytes (0 ∷ [])
-unfolding form_bytes
-reserved_text_put bytes h = reserved_slot_put short_string_form (text_item [] ∷ []) bytes h
-
-pub reserved_bytes_put : (bytes : List ℕ) → IsRead (judge_dropped long_string_form bytes) → PutAs shapes.ReservedLongString bytes (0 ∷ 0 ∷ 0 ∷ 0 ∷ [])
-unfolding form_bytes
-reserved_bytes_put bytes h = reserved_slot_put long_string_form (bytes_item [] ∷ []) bytes h
-
--- a field is read as its form is
-pub slot_read : (s : Shape) (bytes : List ℕ) → IsRead (judge_slot (slot_of s) bytes) → IsRead (judge_form (form_of s) bytes) × (used_by (judge_form (form_of s) bytes) ≡ used_by (judge_slot (slot_of s) bytes))
+-- and used as its form is
+pub reserved_used : (form : meant.Form) (bytes : List ℕ) (n : ℕ) → (IsRead (judge_form form bytes) → n ≡ used_by (judge_form form bytes)) → IsRead (judge_dropped form bytes) → n ≡ used_by (judge_dropped form bytes)
 unfolding judge_dropped
-slot_read shapes.Octet bytes h = (h, refl)
-slot_read shapes.Short bytes h = (h, refl)
-slot_read shapes.Long bytes h = (h, refl)
-slot_read shapes.LongLong bytes h = (h, refl)
-slot_read (shapes.Flags n) bytes h = (h, refl)
-slot_read shapes.ShortString bytes h = (h, refl)
-slot_read shapes.LongString bytes h = (h, refl)
-slot_read shapes.Table bytes h = (h, refl)
-slot_read (shapes.ReservedShort n) bytes h = (reserved_read (number_form bytes2) bytes h, sym (map_used (λ items. []) (judge_form (number_form bytes2) bytes)))
-slot_read (shapes.ReservedLong n) bytes h = (reserved_read (number_form bytes4) bytes h, sym (map_used (λ items. []) (judge_form (number_form bytes4) bytes)))
-slot_read shapes.ReservedFlag bytes h = (reserved_read (flags_form 1) bytes h, sym (map_used (λ items. []) (judge_form (flags_form 1) bytes)))
-slot_read shapes.ReservedShortString bytes h = (reserved_read short_string_form bytes h, sym (map_used (λ items. []) (judge_form short_string_form bytes)))
-slot_read shapes.ReservedLongString bytes h = (reserved_read long_string_form bytes h, sym (map_used (λ items. []) (judge_form long_string_form bytes)))
+reserved_used form bytes n used h = used (reserved_read form bytes h) ∙ sym (map_used (λ items. []) (judge_form form bytes))
 
 -- ---- fields one after another
 
 -- the items of the first field are parted from the others by their number
-both_bytes : (slot : Slot) (slots : List Slot) (bytes : List ℕ) (xs ys : List Item) (n : ℕ) → IsBytes bytes → judge_slot slot bytes ≡ took xs n → slots_bytes (slot ∷ slots) (xs ++ ys) ≡ slot_bytes slot xs ++ slots_bytes slots ys
+both_bytes : (slot : meant.Slot) (slots : List meant.Slot) (bytes : List ℕ) (xs ys : List Item) (n : ℕ) → IsBytes bytes → judge_slot slot bytes ≡ took xs n → slots_bytes (slot ∷ slots) (xs ++ ys) ≡ slot_bytes slot xs ++ slots_bytes slots ys
 unfolding slots_bytes judge_dropped
 both_bytes (kept_slot form) slots bytes xs ys n fits is =
     let laws = forms_lawful form in
@@ -297,7 +245,7 @@ both_bytes (reserved_slot form constant) slots bytes xs ys n fits is =
     let none : xs ≡ [] = sym (value_took [] xs _ n one.3) in
     ap (λ items. form_bytes form constant ++ slots_bytes slots (items ++ ys)) none
 
-pub first_slot : (slot : Slot) (slots : List Slot) (bytes : List ℕ) (n : ℕ) → IsBytes bytes → IsRead (judge_slots (slot ∷ slots) bytes) → (IsRead (judge_slot slot bytes) → n ≡ used_by (judge_slot slot bytes)) → FirstOf judge_slot judge_slots slot_bytes slots_bytes slot slots bytes n
+pub first_slot : (slot : meant.Slot) (slots : List meant.Slot) (bytes : List ℕ) (n : ℕ) → IsBytes bytes → IsRead (judge_slots (slot ∷ slots) bytes) → (IsRead (judge_slot slot bytes) → n ≡ used_by (judge_slot slot bytes)) → FirstOf judge_slot judge_slots slot_bytes slots_bytes slot slots bytes n
 unfolding judge_slots
 first_slot slot slots bytes n fits h sized =
     let all = took_of (judge_slots (slot ∷ slots) bytes) h in
@@ -325,45 +273,30 @@ byte_below count byte up h = byte_by (count - 8) count byte (omega (arith, up)) 
 
 -- ---- by the arms of the code
 
-pub form_read_as : (s t : Shape) (bytes : List ℕ) → s ≡ t → IsRead (judge_form (form_of s) bytes) → IsRead (judge_form (form_of t) bytes)
-form_read_as s t bytes is h = let P : Shape → Type 0 = λ u. IsRead (judge_form (form_of u) bytes) in subst P is h
+pub read_as : (f g : Form) (bytes : List ℕ) → f ≡ g → IsRead (judge_form (form_of f) bytes) → IsRead (judge_form (form_of g) bytes)
+read_as f g bytes is h = let P : Form → Type 0 = λ x. IsRead (judge_form (form_of x) bytes) in subst P is h
 
-pub form_put_as : (s t : Shape) (bytes put : List ℕ) → s ≡ t → FormPutAs t bytes put → FormPutAs s bytes put
-form_put_as s t bytes put is h = let P : Shape → Type 0 = λ u. FormPutAs u bytes put in subst P (sym is) h
+pub put_as : (f g : Form) (bytes put : List ℕ) → f ≡ g → PutAs g bytes put → PutAs f bytes put
+put_as f g bytes put is h = let P : Form → Type 0 = λ x. PutAs x bytes put in subst P (sym is) h
 
--- a kept field is what its form is
-pub kept_read : (s : Shape) (bytes : List ℕ) → slot_of s ≡ kept_slot (form_of s) → IsRead (judge_slot (slot_of s) bytes) → IsRead (judge_form (form_of s) bytes) × PutAs s bytes (canonical_of (form_bytes (form_of s)) (judge_form (form_of s) bytes))
-kept_read s bytes is h =
-    let P : Slot → Type 0 = λ slot. IsRead (judge_slot slot bytes) in
-    (subst P is h, ap (λ slot. canonical_of (slot_bytes slot) (judge_slot slot bytes)) is)
-
-pub read_as : (s t : Shape) (bytes : List ℕ) → s ≡ t → IsRead (judge_slot (slot_of s) bytes) → IsRead (judge_slot (slot_of t) bytes)
-read_as s t bytes is h = let P : Shape → Type 0 = λ u. IsRead (judge_slot (slot_of u) bytes) in subst P is h
-
-pub put_as : (s t : Shape) (bytes put : List ℕ) → s ≡ t → PutAs t bytes put → PutAs s bytes put
-put_as s t bytes put is h = let P : Shape → Type 0 = λ u. PutAs u bytes put in subst P (sym is) h
-
-pub slots_from : (shapes : List Shape) (k : ℕ) (d : Shape) → k < length shapes → drop k (slots_of shapes) ≡ slot_of (get_or shapes k d) ∷ drop (k + 1) (slots_of shapes)
+pub slots_from : (shapes : List Slot) (k : ℕ) (d : Slot) → k < length shapes → drop k (slots_of shapes) ≡ slot_of (get_or shapes k d) ∷ drop (k + 1) (slots_of shapes)
 slots_from [] k d h = absurd (omega arith)
 slots_from (s ∷ shapes) zero d h = refl
 slots_from (s ∷ shapes) (suc k) d h = let next : suc (k + 1) ≡ suc k + 1 = omega arith in slots_from shapes k d (omega arith) ∙ ap (λ n. slot_of (get_or shapes k d) ∷ drop n (slot_of s ∷ slots_of shapes)) next
-
-pub slot_sized : (s : Shape) (bytes : List ℕ) (n : ℕ) → UsedOf s bytes n → IsRead (judge_slot (slot_of s) bytes) → n ≡ used_by (judge_slot (slot_of s) bytes)
-slot_sized s bytes n used read = let h = slot_read s bytes read in used h.0 ∙ h.1
 
 no_slots : (bytes : List ℕ) → canonical_of (slots_bytes []) (judge_slots [] bytes) ≡ []
 unfolding judge_slots slots_bytes
 no_slots bytes = refl
 
-abbrev pub SlotsPut : List Slot → List ℕ → List ℕ → ℕ → List ℕ → List ℕ → ℕ → ℕ → Type 0
+abbrev pub SlotsPut : List meant.Slot → List ℕ → List ℕ → ℕ → List ℕ → List ℕ → ℕ → ℕ → Type 0
 SlotsPut = PutInTurn judge_slot judge_slots slot_bytes slots_bytes
 
-pub slots_none : (slots : List Slot) (bytes buf : List ℕ) (at : ℕ) → IsBytes bytes → IsRead (judge_slots slots bytes) → SlotsPut slots bytes bytes 0 buf buf at at
+pub slots_none : (slots : List meant.Slot) (bytes buf : List ℕ) (at : ℕ) → IsBytes bytes → IsRead (judge_slots slots bytes) → SlotsPut slots bytes bytes 0 buf buf at at
 slots_none = turn_none judge_slot judge_slots slot_bytes slots_bytes
 
-pub slot_here : (slots : List Slot) (slot : Slot) (bytes left : List ℕ) (k n : ℕ) (old mid : List ℕ) (at end : ℕ) → drop k slots ≡ slot ∷ drop (k + 1) slots → (IsRead (judge_slot slot left) → n ≡ used_by (judge_slot slot left))
+pub slot_here : (slots : List meant.Slot) (slot : meant.Slot) (bytes left : List ℕ) (k n : ℕ) (old mid : List ℕ) (at end : ℕ) → drop k slots ≡ slot ∷ drop (k + 1) slots → (IsRead (judge_slot slot left) → n ≡ used_by (judge_slot slot left))
     → at + length (canonical_of (slots_bytes slots) (judge_slots slots bytes)) ≤ length old → SlotsPut slots bytes left k old mid at end → HereInTurn judge_slot judge_slots slot_bytes slots_bytes slots slot bytes left k n old mid at end
 slot_here = turn_here judge_slot judge_slots slot_bytes slots_bytes first_slot
 
-pub slots_end : (slots : List Slot) (bytes left : List ℕ) (k : ℕ) (old new : List ℕ) (at end : ℕ) → length slots ≤ k → SlotsPut slots bytes left k old new at end → Puts old new at (canonical_of (slots_bytes slots) (judge_slots slots bytes)) end
+pub slots_end : (slots : List meant.Slot) (bytes left : List ℕ) (k : ℕ) (old new : List ℕ) (at end : ℕ) → length slots ≤ k → SlotsPut slots bytes left k old new at end → Puts old new at (canonical_of (slots_bytes slots) (judge_slots slots bytes)) end
 slots_end = turn_end judge_slot judge_slots slot_bytes slots_bytes no_slots

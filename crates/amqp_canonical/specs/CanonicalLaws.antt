@@ -21,15 +21,15 @@ CanonicalIsStrict {A} judge Spells IsCanonical = (bytes : List ℕ) (x : A) (n :
 
 -- of values, for each number of levels that may nest
 abbrev pub CanonicalValuesAreStrict : Type 0
-CanonicalValuesAreStrict = (room : ℕ) → CanonicalIsStrict (judge_value room) (λ level. SpellsValue level room) IsCanonicalValue
+CanonicalValuesAreStrict = (depth_left : ℕ) → CanonicalIsStrict (judge_value depth_left) (λ level. SpellsValue level depth_left) IsCanonicalValue
 
 -- of arrays
 abbrev pub CanonicalArraysAreStrict : Type 0
-CanonicalArraysAreStrict = (room : ℕ) → CanonicalIsStrict (judge_array (judge_value room)) (λ level. SpellsArray (SpellsValue level room)) IsCanonicalArray
+CanonicalArraysAreStrict = (depth_left : ℕ) → CanonicalIsStrict (judge_array (judge_value depth_left)) (λ level. SpellsArray (SpellsValue level depth_left)) IsCanonicalArray
 
 -- of tables
 abbrev pub CanonicalTablesAreStrict : Type 0
-CanonicalTablesAreStrict = (room : ℕ) → CanonicalIsStrict (judge_table (judge_value room)) (λ level. SpellsTable level (SpellsValue level room)) IsCanonicalTable
+CanonicalTablesAreStrict = (depth_left : ℕ) → CanonicalIsStrict (judge_table (judge_value depth_left)) (λ level. SpellsTable level (SpellsValue level depth_left)) IsCanonicalTable
 
 -- of fields, where the constants of reserved ones are the least of their forms
 abbrev pub CanonicalSlotsAreStrict : Type 0

@@ -6,5 +6,6 @@ pub mod SlotJudgements
 pub mod Writes
 pub mod Leads
 pub mod Marks
+pub mod Payloads
 pub mod Places
 pub mod WritingLaws

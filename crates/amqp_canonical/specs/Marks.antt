@@ -16,7 +16,7 @@ use Rattle.amqp_canonical.specs.declared.marks.EntryMark.{EntryMark}
 
 -- the entry at a place of a table's content
 abbrev pub entry_at : ℕ → List ℕ → ℕ → Judged Entry
-entry_at room content place = judge_entry (judge_value room) (drop place content)
+entry_at depth_left content place = judge_entry (judge_value depth_left) (drop place content)
 
 -- the entry that was decoded
 abbrev pub judged_entry : Judged Entry → Entry
@@ -26,15 +26,15 @@ judged_entry (fault bad) = ([], void_value)
 
 -- the entry at a mark's place
 abbrev pub marked_entry : ℕ → List ℕ → EntryMark → Entry
-marked_entry room content mark = judged_entry (entry_at room content mark.place)
+marked_entry depth_left content mark = judged_entry (entry_at depth_left content mark.place)
 
 -- all entries of a table's content
 abbrev pub entries_in : ℕ → List ℕ → List Entry
-entries_in room content = items_of (filled (judge_entry (judge_value room)) 0 content)
+entries_in depth_left content = items_of (filled (judge_entry (judge_value depth_left)) 0 content)
 
 -- what fills a table, where values nest so deep
 abbrev pub AreEntries : ℕ → List ℕ → Type 0
-AreEntries room content = IsFilled (filled (judge_entry (judge_value room)) 0 content)
+AreEntries depth_left content = IsFilled (filled (judge_entry (judge_value depth_left)) 0 content)
 
 -- ---- marks
 
@@ -43,17 +43,17 @@ AreEntries room content = IsFilled (filled (judge_entry (judge_value room)) 0 co
 pub record IsMarkOf (content : List ℕ) (mark : EntryMark) : Type 0 where
   pub first : mark.lead ≡ leading 8 (key_at content mark)
   pub next : mark.more ≡ leading 2 (drop 8 (key_at content mark))
-  pub copied : mark.size ≢ 0 → (room : ℕ) → IsRead (entry_at room content mark.place) → IsCopied entry_bytes (drop mark.place content) mark.size (entry_at room content mark.place)
+  pub copied : mark.size ≢ 0 → (depth_left : ℕ) → IsRead (entry_at depth_left content mark.place) → IsCopied entry_bytes (drop mark.place content) mark.size (entry_at depth_left content mark.place)
 
 -- an entry was decoded at each mark's place
 abbrev pub AreRead : ℕ → List ℕ → List EntryMark → Type 0
-AreRead room content marks = All (λ mark. IsRead (entry_at room content mark.place)) marks
+AreRead depth_left content marks = All (λ mark. IsRead (entry_at depth_left content mark.place)) marks
 
 -- the marks are those of all entries, as they stand
-pub record AreMarks (room : ℕ) (content : List ℕ) (marks : List EntryMark) : Type 0 where
-  pub read : AreRead room content marks
-  pub entries : map (marked_entry room content) marks ≡ entries_in room content
-  pub placed : ArePlaced (λ mark. (marked_entry room content mark).0) (λ mark. mark.place) marks
+pub record AreMarks (depth_left : ℕ) (content : List ℕ) (marks : List EntryMark) : Type 0 where
+  pub read : AreRead depth_left content marks
+  pub entries : map (marked_entry depth_left content) marks ≡ entries_in depth_left content
+  pub placed : ArePlaced (λ mark. (marked_entry depth_left content mark).0) (λ mark. mark.place) marks
 
 -- ---- marks in order
 
@@ -80,9 +80,9 @@ last_of_ties [] = []
 last_of_ties (e ∷ es) = if ties e es then last_of_ties es else e ∷ last_of_ties es
 
 -- The marks stand at entries, and of neighbours with one key the last ones are the table that the content is.
-pub record AreOfTable (room : ℕ) (content : List ℕ) (marks : List EntryMark) : Type 0 where
-  pub read : AreRead room content marks
-  pub table : last_of_ties (map (marked_entry room content) marks) ≡ settled (entries_in room content)
+pub record AreOfTable (depth_left : ℕ) (content : List ℕ) (marks : List EntryMark) : Type 0 where
+  pub read : AreRead depth_left content marks
+  pub table : last_of_ties (map (marked_entry depth_left content) marks) ≡ settled (entries_in depth_left content)
 
 -- ---- the next key
 
@@ -107,12 +107,12 @@ abbrev pub HasNoNext : Option (List ℕ) → List Entry → Type 0
 HasNoNext last es = (other : List ℕ) (w : FieldValue) → IsAfter last other → last_at other es ≡ Some w → ⊥
 
 -- the place of the next entry, with its key
-pub record IsNextAt (room : ℕ) (content : List ℕ) (last : Option (List ℕ)) (es : List Entry) (place : ℕ) (key : List ℕ) : Type 0 where
-  pub read : IsRead (entry_at room content place)
-  pub key_is : (judged_entry (entry_at room content place)).0 ≡ key
-  pub next : IsNext last es key (judged_entry (entry_at room content place)).1
+pub record IsNextAt (depth_left : ℕ) (content : List ℕ) (last : Option (List ℕ)) (es : List Entry) (place : ℕ) (key : List ℕ) : Type 0 where
+  pub read : IsRead (entry_at depth_left content place)
+  pub key_is : (judged_entry (entry_at depth_left content place)).0 ≡ key
+  pub next : IsNext last es key (judged_entry (entry_at depth_left content place)).1
 
 -- the next entry is found, or there is none
 abbrev pub FindsNext : {K : Type 0} → (K → List ℕ) → ℕ → List ℕ → Option (List ℕ) → List Entry → Option (ℕ × K) → Type 0
-FindsNext view room content last es None = HasNoNext last es
-FindsNext view room content last es (Some found) = IsNextAt room content last es found.0 (view found.1)
+FindsNext view depth_left content last es None = HasNoNext last es
+FindsNext view depth_left content last es (Some found) = IsNextAt depth_left content last es found.0 (view found.1)

@@ -1,13 +1,12 @@
 -- What decoding fields, methods and content headers without memory returns.
-use Rattle.std.specs.Prelude.{◌≡◌, ◌↔◌, ◌+◌, ◌&&◌, ℕ, Bool, true, List, take, IsTrue, Result, Ok, Err}
+use Rattle.std.specs.Prelude.{◌≡◌, ◌↔◌, ◌+◌, ◌&&◌, ℕ, Bool, List, take, IsTrue, Result, Ok, Err}
 use Rattle.amqp_types.specs.Levels.{Level, tidy, strict}
 use Rattle.amqp_types.specs.Judging.{Judged, took}
 use Rattle.amqp_types.specs.Answers.{Refuses}
 use Rattle.amqp_types.specs.Slots.{Item, Form, Slot}
-use Rattle.amqp_types.specs.SlotBytes.{form_bytes, slots_bytes}
+use Rattle.amqp_types.specs.SlotBytes.{slots_bytes}
 use Rattle.amqp_types.specs.SlotJudging.{judge_form, judge_dropped, judge_slot, judge_slots}
 use Rattle.amqp_types.specs.SlotSpelling.{SpellsForm, SpellsReserved, SpellsSlot, SpellsSlots}
-use Rattle.amqp_types.specs.SlotLaws.{is_least}
 use Rattle.amqp_types.specs.Methods.{Method, judge_payload, payload_bytes}
 use Rattle.amqp_types.specs.MethodSpelling.{SpellsPayload}
 use Rattle.amqp_types.specs.Properties.{properties}
@@ -57,10 +56,6 @@ JudgesForm form bytes result = JudgesLevels (λ level. SpellsForm level form) by
 -- a reserved field, decoded
 abbrev pub JudgesReserved : Form → List Item → List ℕ → Result Judgement ParserError → Type 0
 JudgesReserved form constant bytes result = JudgesLevels (λ level. SpellsReserved level form constant) bytes result (judge_dropped form bytes)
-
--- a reserved field whose constant is written in these bytes
-abbrev pub JudgesConstant : Form → List ℕ → List ℕ → Result Judgement ParserError → Type 0
-JudgesConstant form written bytes result = (constant : List Item) → is_least form constant ≡ true → written ≡ form_bytes form constant → JudgesReserved form constant bytes result
 
 -- a field, decoded
 abbrev pub JudgesSlot : Slot → List ℕ → Result Judgement ParserError → Type 0

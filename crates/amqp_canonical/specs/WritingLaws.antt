@@ -18,15 +18,15 @@ WritesNoLonger judge canonical = (bytes : List ℕ) → IsBytes bytes → IsRead
 
 -- of values, for each number of levels that may nest
 abbrev pub ValuesAreNoLonger : Type 0
-ValuesAreNoLonger = (room : ℕ) → WritesNoLonger (judge_value room) tagged_bytes
+ValuesAreNoLonger = (depth_left : ℕ) → WritesNoLonger (judge_value depth_left) tagged_bytes
 
 -- of arrays
 abbrev pub ArraysAreNoLonger : Type 0
-ArraysAreNoLonger = (room : ℕ) → WritesNoLonger (judge_array (judge_value room)) array_bytes
+ArraysAreNoLonger = (depth_left : ℕ) → WritesNoLonger (judge_array (judge_value depth_left)) array_bytes
 
 -- of tables
 abbrev pub TablesAreNoLonger : Type 0
-TablesAreNoLonger = (room : ℕ) → WritesNoLonger (judge_table (judge_value room)) table_bytes
+TablesAreNoLonger = (depth_left : ℕ) → WritesNoLonger (judge_table (judge_value depth_left)) table_bytes
 
 -- of fields, where the constants of reserved ones are the least of their forms
 abbrev pub SlotsAreNoLonger : Type 0

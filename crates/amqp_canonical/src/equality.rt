@@ -1,15 +1,24 @@
-//! Laws of equality: two shapes, and two results of decoding, are equal exactly where contracts see the same.
+//! Laws of equality: two forms or fields, and two results of decoding, are equal exactly where contracts see the same.
 
 ghost use Rattle.std.specs.Prelude.{◌≡◌, ◌↔◌, IsTrue};
+ghost use Rattle.amqp_canonical.specs.Shapes.{AreSameSlots};
 
-use crate::shapes::Shape;
+use crate::shapes::{Form, Slot};
 use crate::slots::Judgement;
 use crate::values::ValueJudgement;
 
-/// Two shapes are equal exactly where they are the same, with the same constant or count.
-#[tactic(auto, using(crate::proofs::EqualJudgements::same_shape))]
-pub fn equal_shapes(a: &Shape, b: &Shape) -> bool
+/// Two forms are equal exactly where they are the same.
+#[tactic(auto, using(crate::proofs::EqualJudgements::same_form))]
+pub fn equal_forms(a: &Form, b: &Form) -> bool
     ensures { IsTrue result ↔ (a.now ≡ b.now) }
+{
+    a == b
+}
+
+/// Two fields are equal exactly where both are kept or both are reserved, by one form, with the same constant.
+#[tactic(auto, using(crate::proofs::EqualJudgements::same_slot))]
+pub fn equal_slots(a: &Slot, b: &Slot) -> bool
+    ensures { IsTrue result ↔ AreSameSlots a.now b.now }
 {
     a == b
 }

@@ -2,13 +2,16 @@
 
 ghost use Rattle.std.specs.Prelude.{◌≡◌, ◌≤◌, ◌↔◌, false, length, IfOk, IsTrue};
 ghost use Rattle.amqp_types.specs.Flags.{flag_at};
+ghost use Rattle.amqp_types.specs.ContentHeaders.{header_slots};
+ghost use Rattle.amqp_types.specs.SlotJudging.{judge_slots};
+ghost use Rattle.amqp_types.specs.SlotSpelling.{SpellsSlots};
 ghost use Rattle.amqp_types.specs.PropertyJudging.{judge_properties};
 ghost use Rattle.amqp_types.specs.PropertySpelling.{SpellsProperties};
 ghost use Rattle.amqp_canonical.specs.Shapes.{form_of};
 ghost use Rattle.amqp_canonical.specs.SlotJudgements.{JudgesOptional, JudgesSet, JudgesLevels, JudgesContentHeader};
 
-use crate::shapes::{Shape, header_shapes, property_shapes};
-use crate::slots::{Judgement, judge_form, judge_slots};
+use crate::shapes::{Form, property_shapes};
+use crate::slots::{Judgement, judge_form, judge_reserved_short};
 use amqp_types::{ParserError, parse_short_uint};
 
 /// Whether a mask has this bit, counted from 0.
@@ -26,12 +29,12 @@ fn has_no_unused_bit(mask: u16) -> bool
 }
 
 /// Decodes a property, where it is present.
-fn judge_property(present: bool, shape: Shape, i: &[u8]) -> Result<Judgement, ParserError>
-    ensures judged { JudgesOptional present (form_of shape) i.now result }
+fn judge_property(present: bool, form: Form, i: &[u8]) -> Result<Judgement, ParserError>
+    ensures judged { JudgesOptional present (form_of form) i.now result }
     ensures used { IfOk result (λ j. j.used ≤ length i.now) }
 {
     if present {
-        judge_form(shape, i)
+        judge_form(form, i)
     } else {
         Ok(Judgement {
             used: 0,
@@ -82,13 +85,31 @@ fn judge_properties(i: &[u8]) -> Result<Judgement, ParserError>
     })
 }
 
+/// Decodes what stands in front of the properties: a class id, the weight and the size of the body. Each message has one, so the
+/// fields are decoded one by one, and not by their shapes.
+#[inline(always)]
+fn judge_front(i: &[u8]) -> Result<Judgement, ParserError>
+    ensures judged { JudgesLevels (λ level. SpellsSlots level header_slots) i.now result (judge_slots header_slots i.now) }
+    ensures used { IfOk result (λ j. j.used ≤ length i.now) }
+{
+    let class = judge_form(Form::Short, i)?;
+    let behind = &i[class.used..];
+    let weight = judge_reserved_short(&[0, 0], behind)?;
+    let size = judge_form(Form::LongLong, &behind[weight.used..])?;
+    Ok(Judgement {
+        used: class.used + (weight.used + size.used),
+        canonical: class.canonical & (weight.canonical & size.canonical),
+        tidy: class.tidy & (weight.tidy & size.tidy),
+    })
+}
+
 /// Decodes a content header: a class id, the weight, the size of the body in bytes, and the properties (AMQP 0-9-1,
 /// section 4.2.6.1).
 pub fn judge_content_header(payload: &[u8]) -> Result<Judgement, ParserError>
     ensures judged { JudgesContentHeader payload.now result }
     ensures used { IfOk result (λ j. j.used ≤ length payload.now) }
 {
-    let front = judge_slots(header_shapes(), payload)?;
+    let front = judge_front(payload)?;
     let properties = judge_properties(&payload[front.used..])?;
     Ok(Judgement {
         used: front.used + properties.used,

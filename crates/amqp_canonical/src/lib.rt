@@ -7,6 +7,7 @@ mod headers;
 mod laws;
 mod leads;
 mod marks;
+mod payload_parts;
 mod payload_writing;
 mod payloads;
 mod selection;
@@ -19,18 +20,21 @@ mod values;
 mod writing;
 mod writing_laws;
 
-pub use equality::{equal_judgements, equal_shapes, equal_value_judgements};
+pub use equality::{equal_forms, equal_judgements, equal_slots, equal_value_judgements};
 pub use headers::{has_bit, judge_content_header};
 pub use laws::{
     canonical_content_headers_are_strict, canonical_payloads_are_strict,
     canonical_slots_are_strict, canonical_values_are_strict,
 };
 pub use marks::EntryMark;
-pub use payload_writing::{put_content_header, put_payload, put_properties};
+pub use payload_parts::{header_parts, method_parts};
+pub use payload_writing::{
+    put_content_header, put_header, put_method, put_payload, put_properties,
+};
 pub use payloads::judge_payload;
 pub use selection::next_entry;
-pub use shapes::{Shape, header_shapes, property_shapes, shapes_of};
-pub use slot_writing::{put_slots, slot_size};
+pub use shapes::{Form, Slot, header_shapes, property_shapes, shapes_of};
+pub use slot_writing::{form_size, put_slots, slot_size};
 pub use slots::{Judgement, judge_slots};
 pub use spans::{bytes_from, content_of, entry_size, split_key, value_size};
 pub use values::{ValueJudgement, judge_array, judge_table, judge_value};

@@ -68,7 +68,7 @@ fn mark_entries(marks: &mut [EntryMark], content: &[u8]) -> Option<usize>
     ensures len { length marks.new ≡ length marks.old }
     ensures within { IfSome result (λ count. count ≤ length marks.new) }
     ensures each { IfSome result (λ count. All (IsMarkOf content.now) (take count marks.new)) }
-    ensures marked { IfSome result (λ count. (room : ℕ) → AreEntries room content.now → AreMarks room content.now (take count marks.new)) }
+    ensures marked { IfSome result (λ count. (depth_left : ℕ) → AreEntries depth_left content.now → AreMarks depth_left content.now (take count marks.new)) }
 {
     if content.len() > u32::MAX as usize {
         return None;
@@ -183,7 +183,7 @@ fn put_in_order(marks: &mut [EntryMark], content: &[u8]) -> bool
 pub(crate) fn mark_in_order(marks: &mut [EntryMark], content: &[u8]) -> Option<usize>
     ensures within { IfSome result (λ count. count ≤ length marks.new) }
     ensures each { IfSome result (λ count. All (IsMarkOf content.now) (take count marks.new)) }
-    ensures table { IfSome result (λ count. (room : ℕ) → AreEntries room content.now → AreOfTable room content.now (take count marks.new)) }
+    ensures table { IfSome result (λ count. (depth_left : ℕ) → AreEntries depth_left content.now → AreOfTable depth_left content.now (take count marks.new)) }
 {
     let count = mark_entries(marks, content)?;
     if put_in_order(&mut marks[..count], content) {
@@ -208,8 +208,8 @@ fn is_same_key(content: &[u8], mark: EntryMark, next: EntryMark) -> bool
 pub(crate) fn is_tied(marks: &[EntryMark], content: &[u8], k: usize) -> bool
     requires here { k < length marks.now }
     requires each { All (IsMarkOf content.now) marks.now }
-    ensures { (room : ℕ) → AreRead room content.now marks.now
-        → result ≡ ties (marked_entry room content.now (slice_index_or marks.now k blank)) (map (marked_entry room content.now) (drop (k + 1) marks.now)) }
+    ensures { (depth_left : ℕ) → AreRead depth_left content.now marks.now
+        → result ≡ ties (marked_entry depth_left content.now (slice_index_or marks.now k blank)) (map (marked_entry depth_left content.now) (drop (k + 1) marks.now)) }
 {
     if k + 1 == marks.len() {
         return false;

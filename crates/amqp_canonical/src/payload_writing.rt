@@ -1,30 +1,43 @@
 //! Writing the canonical bytes of methods and content headers that were decoded, without memory.
 
-ghost use Rattle.std.specs.Prelude.{◌≡◌, ◌≤◌, ◌+◌, ◌%◌, ◌-◌, length};
-ghost use Rattle.amqp_types.specs.Judging.{took};
-ghost use Rattle.amqp_types.specs.Numbers.{bytes2, judge_number};
+ghost use Rattle.std.specs.Prelude.{◌≤◌, ◌+◌, ◌%◌, ◌-◌, length};
 ghost use Rattle.amqp_types.specs.Methods.{judge_payload, payload_bytes};
 ghost use Rattle.amqp_types.specs.Properties.{properties};
 ghost use Rattle.amqp_types.specs.PropertyJudging.{judge_properties, judge_set};
 ghost use Rattle.amqp_types.specs.PropertyBytes.{properties_bytes, set_bytes};
 ghost use Rattle.amqp_types.specs.ContentHeaders.{judge_content_header, content_header_bytes};
 ghost use Rattle.amqp_types.specs.Writing.{Puts};
+ghost use Rattle.amqp_canonical.specs.Payloads.{header_payload, method_payload};
 ghost use Rattle.amqp_canonical.specs.Writes.{IsRead, canonical_of};
 
 use crate::headers::has_bit;
 use crate::marks::EntryMark;
-use crate::shapes::{header_shapes, property_shapes, shapes_of};
-use crate::slot_writing::{put_form, put_slots, slot_size};
+use crate::payload_parts::{header_parts, method_parts, short_at};
+use crate::shapes::{property_shapes, shapes_of};
+use crate::slot_writing::{form_size, put_form, put_slots};
 use crate::spans::bytes_from;
-use amqp_types::{parse_short_uint, put_short_uint};
+use amqp_types::{Identifier, PayloadSize, put_bytes, put_long_long_uint, put_short_uint};
 
-/// The number in the first 2 bytes, where there are 2.
-fn short_at(i: &[u8]) -> u16
-    ensures { IsRead (judge_number bytes2 i.now) → judge_number bytes2 i.now ≡ took result 2 }
+/// Puts the canonical bytes of the method with these ids, whose fields were decoded from these bytes, at a place of a
+/// slice, and returns the place after them (AMQP 0-9-1, section 4.2.4).
+#[inline(always)]
+pub fn put_method(
+    buf: &mut [u8],
+    at: usize,
+    scratch: &mut [EntryMark],
+    class: Identifier,
+    id: Identifier,
+    slots: &[u8],
+) -> usize
+    requires read { IsRead (judge_payload (method_payload class id slots.now)) }
+    requires room { at + length (canonical_of payload_bytes (judge_payload (method_payload class id slots.now))) ≤ length buf.old }
+    ensures { Puts buf.old buf.new at (canonical_of payload_bytes (judge_payload (method_payload class id slots.now))) result }
 {
-    match parse_short_uint(i) {
-        Ok((_, number)) => number,
-        Err(_) => 0,
+    let id_place = put_short_uint(buf, at, &class);
+    let place = put_short_uint(buf, id_place, &id);
+    match shapes_of(class, id) {
+        Some(shapes) => put_slots(buf, place, scratch, shapes, slots),
+        None => place,
     }
 }
 
@@ -35,14 +48,8 @@ pub fn put_payload(buf: &mut [u8], at: usize, scratch: &mut [EntryMark], i: &[u8
     requires room { at + length (canonical_of payload_bytes (judge_payload i.now)) ≤ length buf.old }
     ensures { Puts buf.old buf.new at (canonical_of payload_bytes (judge_payload i.now)) result }
 {
-    let class = short_at(i);
-    let id = short_at(bytes_from(i, 2));
-    let id_place = put_short_uint(buf, at, &class);
-    let place = put_short_uint(buf, id_place, &id);
-    match shapes_of(class, id) {
-        Some(shapes) => put_slots(buf, place, scratch, shapes, bytes_from(i, 4)),
-        None => place,
-    }
+    let (class, id, slots) = method_parts(i);
+    put_method(buf, at, scratch, class, id, slots)
 }
 
 /// Puts the canonical bytes of the properties whose bits are set in the mask, one after another.
@@ -57,7 +64,7 @@ fn put_set(buf: &mut [u8], at: usize, scratch: &mut [EntryMark], mask: u16, i: &
     for shape in shapes {
         if has_bit(mask, shape.0) {
             end = put_form(buf, end, scratch, shape.1, rest);
-            rest = bytes_from(rest, slot_size(shape.1, rest));
+            rest = bytes_from(rest, form_size(shape.1, rest));
         }
     }
     end
@@ -75,6 +82,27 @@ pub fn put_properties(buf: &mut [u8], at: usize, scratch: &mut [EntryMark], i: &
     put_set(buf, place, scratch, mask, bytes_from(i, 2))
 }
 
+/// Puts the canonical bytes of a content header with a weight of 0, whose properties were decoded from these bytes, at
+/// a place of a slice, and returns the place after them (AMQP 0-9-1, section 4.2.6.1).
+#[inline(always)]
+pub fn put_header(
+    buf: &mut [u8],
+    at: usize,
+    scratch: &mut [EntryMark],
+    class: Identifier,
+    body_size: PayloadSize,
+    properties: &[u8],
+) -> usize
+    requires read { IsRead (judge_content_header (header_payload class body_size properties.now)) }
+    requires room { at + length (canonical_of content_header_bytes (judge_content_header (header_payload class body_size properties.now))) ≤ length buf.old }
+    ensures { Puts buf.old buf.new at (canonical_of content_header_bytes (judge_content_header (header_payload class body_size properties.now))) result }
+{
+    let weight_place = put_short_uint(buf, at, &class);
+    let size_place = put_bytes(buf, weight_place, &[0, 0]);
+    let place = put_long_long_uint(buf, size_place, &body_size);
+    put_properties(buf, place, scratch, properties)
+}
+
 /// Puts the canonical bytes of a content header at a place of a slice, and returns the place after them: a class id, a
 /// weight of 0, the size of the body, and the properties (AMQP 0-9-1, section 4.2.6.1).
 pub fn put_content_header(buf: &mut [u8], at: usize, scratch: &mut [EntryMark], i: &[u8]) -> usize
@@ -82,6 +110,6 @@ pub fn put_content_header(buf: &mut [u8], at: usize, scratch: &mut [EntryMark], 
     requires room { at + length (canonical_of content_header_bytes (judge_content_header i.now)) ≤ length buf.old }
     ensures { Puts buf.old buf.new at (canonical_of content_header_bytes (judge_content_header i.now)) result }
 {
-    let place = put_slots(buf, at, scratch, header_shapes(), i);
-    put_properties(buf, place, scratch, bytes_from(i, 12))
+    let (class, body_size, properties) = header_parts(i);
+    put_header(buf, at, scratch, class, body_size, properties)
 }

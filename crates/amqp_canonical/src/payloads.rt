@@ -26,13 +26,22 @@ pub fn judge_payload(payload: &[u8]) -> Result<Judgement, ParserError>
     ensures used { IfOk result (λ j. j.used ≤ length payload.now) }
 {
     let (n, class) = parse_short_uint(payload)?;
-    if !is_class(class) {
-        return Err(ParserError::UnknownClass);
-    }
     let behind = &payload[n..];
-    let (m, id) = parse_short_uint(behind)?;
+    // Whether there is such a class is asked only where there is no such method, since the table of methods tells both.
+    let (m, id) = match parse_short_uint(behind) {
+        Ok(found) => found,
+        Err(error) => {
+            if is_class(class) {
+                return Err(error);
+            }
+            return Err(ParserError::UnknownClass);
+        }
+    };
     let Some(shapes) = shapes_of(class, id) else {
-        return Err(ParserError::UnknownMethod);
+        if is_class(class) {
+            return Err(ParserError::UnknownMethod);
+        }
+        return Err(ParserError::UnknownClass);
     };
     let slots = judge_slots(shapes, &behind[m..])?;
     Ok(Judgement {

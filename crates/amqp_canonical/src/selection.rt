@@ -29,8 +29,8 @@ fn comes_first(key: &[u8], found: Option<(usize, &[u8])>) -> bool
 /// The place and the key of the entry with the least key after `last`, or `None` where no key comes after it. Of
 /// duplicate keys the last one wins.
 pub fn next_entry<'a>(content: &'a [u8], last: Option<&[u8]>) -> Option<(usize, &'a [u8])>
-    ensures { (room : ℕ) → AreEntries room content.now
-        → FindsNext (λ k. k.now) room content.now (option_map (λ k. k.now) last.entry) (entries_in room content.now) result }
+    ensures { (depth_left : ℕ) → AreEntries depth_left content.now
+        → FindsNext (λ k. k.now) depth_left content.now (option_map (λ k. k.now) last.entry) (entries_in depth_left content.now) result }
 {
     let mut found: Option<(usize, &[u8])> = None;
     let mut at = 0;

@@ -1,21 +1,17 @@
 //! The fields of each method, and the 14 properties of a message, as data.
-#![tactic(auto, unfolding(amqp_types::specs::Rows::slots_at, amqp_types::specs::Rows::rows_of))]
+#![tactic(auto, unfolding(amqp_types::specs::Rows::slots_at, amqp_types::specs::Rows::rows_of, amqp_types::specs::SlotBytes::form_bytes))]
 
-ghost use Rattle.std.specs.Prelude.{◌≡◌, map, option_copied, option_map};
+ghost use Rattle.std.specs.Prelude.{◌≡◌, map, option_copied, option_map, true, IfSome};
 ghost use Rattle.amqp_types.specs.Rows.{slots_at};
 ghost use Rattle.amqp_types.specs.Properties.{properties};
 ghost use Rattle.amqp_types.specs.ContentHeaders.{header_slots};
-ghost use Rattle.amqp_canonical.specs.Shapes.{property_of, slots_of};
+ghost use Rattle.amqp_canonical.specs.Shapes.{property_of, slots_of, have_constants};
 
-use Shape::{
-    Flags, Long, LongLong, LongString, Octet, ReservedFlag, ReservedLong, ReservedLongString,
-    ReservedShort, ReservedShortString, Short, ShortString, Table,
-};
 use amqp_types::Identifier;
 
-/// How a field is encoded. A reserved field is written as its constant.
+/// How a field is encoded (AMQP 0-9-1, section 4.2.5).
 #[derive(Clone, Copy, Debug, PartialEq, Eq)]
-pub enum Shape {
+pub enum Form {
     /// A number of 1 byte.
     Octet,
 
@@ -39,45 +35,76 @@ pub enum Shape {
 
     /// A table.
     Table,
-
-    /// A reserved number of 2 bytes.
-    ReservedShort(u16),
-
-    /// A reserved number of 4 bytes.
-    ReservedLong(u32),
-
-    /// A reserved byte of one flag, which is false.
-    ReservedFlag,
-
-    /// A reserved short string, which is empty.
-    ReservedShortString,
-
-    /// A reserved long string, which is empty.
-    ReservedLongString,
 }
 
+/// A field of a method or of a content header.
+#[derive(Clone, Copy, Debug, PartialEq, Eq)]
+pub enum Slot {
+    /// A field that is kept.
+    Kept(Form),
+
+    /// A reserved field, which is written as these bytes: a number, flags, or an empty string.
+    Reserved(Form, &'static [u8]),
+}
+
+const OCTET: Slot = Slot::Kept(Form::Octet);
+
+const SHORT: Slot = Slot::Kept(Form::Short);
+
+const LONG: Slot = Slot::Kept(Form::Long);
+
+const LONG_LONG: Slot = Slot::Kept(Form::LongLong);
+
+const FLAG: Slot = Slot::Kept(Form::Flags(1));
+
+const TWO_FLAGS: Slot = Slot::Kept(Form::Flags(2));
+
+const THREE_FLAGS: Slot = Slot::Kept(Form::Flags(3));
+
+const FOUR_FLAGS: Slot = Slot::Kept(Form::Flags(4));
+
+const FIVE_FLAGS: Slot = Slot::Kept(Form::Flags(5));
+
+const SHORT_STRING: Slot = Slot::Kept(Form::ShortString);
+
+const LONG_STRING: Slot = Slot::Kept(Form::LongString);
+
+const TABLE: Slot = Slot::Kept(Form::Table);
+
+const RESERVED_SHORT: Slot = Slot::Reserved(Form::Short, &[0, 0]);
+
+const RESERVED_TICKET: Slot = Slot::Reserved(Form::Short, &[0, 1]);
+
+const RESERVED_LONG: Slot = Slot::Reserved(Form::Long, &[0, 0, 0, 0]);
+
+const RESERVED_FLAG: Slot = Slot::Reserved(Form::Flags(1), &[0]);
+
+const RESERVED_SHORT_STRING: Slot = Slot::Reserved(Form::ShortString, &[0]);
+
+const RESERVED_LONG_STRING: Slot = Slot::Reserved(Form::LongString, &[0, 0, 0, 0]);
+
 /// The 14 properties in the order in which they stand. None has bit 1 or 0.
-const PROPERTIES: [(u16, Shape); 14] = [
-    (15, ShortString),
-    (14, ShortString),
-    (13, Table),
-    (12, Octet),
-    (11, Octet),
-    (10, ShortString),
-    (9, ShortString),
-    (8, ShortString),
-    (7, ShortString),
-    (6, LongLong),
-    (5, ShortString),
-    (4, ShortString),
-    (3, ShortString),
-    (2, ShortString),
+const PROPERTIES: [(u16, Form); 14] = [
+    (15, Form::ShortString),
+    (14, Form::ShortString),
+    (13, Form::Table),
+    (12, Form::Octet),
+    (11, Form::Octet),
+    (10, Form::ShortString),
+    (9, Form::ShortString),
+    (8, Form::ShortString),
+    (7, Form::ShortString),
+    (6, Form::LongLong),
+    (5, Form::ShortString),
+    (4, Form::ShortString),
+    (3, Form::ShortString),
+    (2, Form::ShortString),
 ];
 
-/// The bit of each of the 14 properties in the mask, counted from 0, and its shape, in the order in which they stand
+/// The bit of each of the 14 properties in the mask, counted from 0, and its form, in the order in which they stand
 /// (AMQP 0-9-1, section 4.2.6.1).
 #[tactic(auto, unfolding(amqp_types::specs::Properties::properties, amqp_types::specs::Properties::later_properties))]
-pub fn property_shapes() -> &'static [(u16, Shape)]
+pub fn property_shapes() -> &'static [(u16, Form)]
     ensures { map property_of result.now ≡ properties }
 {
     &PROPERTIES
@@ -85,30 +112,32 @@ pub fn property_shapes() -> &'static [(u16, Shape)]
 
 /// What stands in front of the properties in a content header: a class id, the weight and the size of the body, in
 /// bytes.
-const HEADER: [Shape; 3] = [Short, ReservedShort(0), LongLong];
+const HEADER: [Slot; 3] = [SHORT, RESERVED_SHORT, LONG_LONG];
 
 /// The shapes of what stands in front of the properties in a content header (AMQP 0-9-1, section 4.2.6.1).
-#[tactic(auto, unfolding(amqp_types::specs::ContentHeaders::header_slots))]
-pub fn header_shapes() -> &'static [Shape]
-    ensures { slots_of result.now ≡ header_slots }
+#[tactic(auto, unfolding(amqp_types::specs::ContentHeaders::header_slots, amqp_types::specs::SlotBytes::form_bytes))]
+pub fn header_shapes() -> &'static [Slot]
+    ensures slots { slots_of result.now ≡ header_slots }
+    ensures constants { have_constants result.now ≡ true }
 {
     &HEADER
 }
 
 /// What a method that binds has: both ends, a routing key, a flag and arguments.
-const BINDING: [Shape; 6] = [
-    ReservedShort(0),
-    ShortString,
-    ShortString,
-    ShortString,
-    Flags(1),
-    Table,
+const BINDING: [Slot; 6] = [
+    RESERVED_SHORT,
+    SHORT_STRING,
+    SHORT_STRING,
+    SHORT_STRING,
+    FLAG,
+    TABLE,
 ];
 
 /// The shapes of the fields of a method (AMQP 0-9-1, section 4.2.4), or `None` where the class has no such method.
 #[inline(always)]
-pub fn shapes_of(class: Identifier, id: Identifier) -> Option<&'static [Shape]>
-    ensures { option_map slots_of (option_copied result) ≡ slots_at class id }
+pub fn shapes_of(class: Identifier, id: Identifier) -> Option<&'static [Slot]>
+    ensures slots { option_map slots_of (option_copied result) ≡ slots_at class id }
+    ensures constants { IfSome result (λ slots. have_constants slots.now ≡ true) }
 {
     match class {
         10 => connection_shapes(id),
@@ -124,62 +153,72 @@ pub fn shapes_of(class: Identifier, id: Identifier) -> Option<&'static [Shape]>
 }
 
 /// Opening and closing a connection, and what both peers agree on.
-fn connection_shapes(id: Identifier) -> Option<&'static [Shape]>
-    ensures { option_map slots_of (option_copied result) ≡ slots_at 10 id }
+fn connection_shapes(id: Identifier) -> Option<&'static [Slot]>
+    ensures slots { option_map slots_of (option_copied result) ≡ slots_at 10 id }
+    ensures constants { IfSome result (λ slots. have_constants slots.now ≡ true) }
 {
     Some(match id {
-        10 => &[Octet, Octet, Table, LongString, LongString],
-        11 => &[Table, ShortString, LongString, ShortString],
-        20 => &[LongString],
-        21 => &[LongString],
-        30 => &[Short, Long, Short],
-        31 => &[Short, Long, Short],
-        40 => &[ShortString, ReservedShortString, ReservedFlag],
-        41 => &[ReservedShortString],
-        50 => &[Short, ShortString, Short, Short],
+        10 => &[OCTET, OCTET, TABLE, LONG_STRING, LONG_STRING],
+        11 => &[TABLE, SHORT_STRING, LONG_STRING, SHORT_STRING],
+        20 => &[LONG_STRING],
+        21 => &[LONG_STRING],
+        30 => &[SHORT, LONG, SHORT],
+        31 => &[SHORT, LONG, SHORT],
+        40 => &[SHORT_STRING, RESERVED_SHORT_STRING, RESERVED_FLAG],
+        41 => &[RESERVED_SHORT_STRING],
+        50 => &[SHORT, SHORT_STRING, SHORT, SHORT],
         51 => &[],
-        60 => &[ShortString],
+        60 => &[SHORT_STRING],
         61 => &[],
-        70 => &[LongString, ShortString],
+        70 => &[LONG_STRING, SHORT_STRING],
         71 => &[],
         _ => return None,
     })
 }
 
 /// Opening and closing a channel, and its flow of content.
-fn channel_shapes(id: Identifier) -> Option<&'static [Shape]>
-    ensures { option_map slots_of (option_copied result) ≡ slots_at 20 id }
+fn channel_shapes(id: Identifier) -> Option<&'static [Slot]>
+    ensures slots { option_map slots_of (option_copied result) ≡ slots_at 20 id }
+    ensures constants { IfSome result (λ slots. have_constants slots.now ≡ true) }
 {
     Some(match id {
-        10 => &[ReservedShortString],
-        11 => &[ReservedLongString],
-        20 => &[Flags(1)],
-        21 => &[Flags(1)],
-        40 => &[Short, ShortString, Short, Short],
+        10 => &[RESERVED_SHORT_STRING],
+        11 => &[RESERVED_LONG_STRING],
+        20 => &[FLAG],
+        21 => &[FLAG],
+        40 => &[SHORT, SHORT_STRING, SHORT, SHORT],
         41 => &[],
         _ => return None,
     })
 }
 
 /// Access to a realm, as earlier versions of the standard had it.
-fn access_shapes(id: Identifier) -> Option<&'static [Shape]>
-    ensures { option_map slots_of (option_copied result) ≡ slots_at 30 id }
+fn access_shapes(id: Identifier) -> Option<&'static [Slot]>
+    ensures slots { option_map slots_of (option_copied result) ≡ slots_at 30 id }
+    ensures constants { IfSome result (λ slots. have_constants slots.now ≡ true) }
 {
     Some(match id {
-        10 => &[ShortString, Flags(5)],
-        11 => &[ReservedShort(1)],
+        10 => &[SHORT_STRING, FIVE_FLAGS],
+        11 => &[RESERVED_TICKET],
         _ => return None,
     })
 }
 
 /// Exchanges, and how they are bound to one another.
-fn exchange_shapes(id: Identifier) -> Option<&'static [Shape]>
-    ensures { option_map slots_of (option_copied result) ≡ slots_at 40 id }
+fn exchange_shapes(id: Identifier) -> Option<&'static [Slot]>
+    ensures slots { option_map slots_of (option_copied result) ≡ slots_at 40 id }
+    ensures constants { IfSome result (λ slots. have_constants slots.now ≡ true) }
 {
     Some(match id {
-        10 => &[ReservedShort(0), ShortString, ShortString, Flags(5), Table],
+        10 => &[
+            RESERVED_SHORT,
+            SHORT_STRING,
+            SHORT_STRING,
+            FIVE_FLAGS,
+            TABLE,
+        ],
         11 => &[],
-        20 => &[ReservedShort(0), ShortString, Flags(2)],
+        20 => &[RESERVED_SHORT, SHORT_STRING, TWO_FLAGS],
         21 => &[],
         30 => &BINDING,
         31 => &[],
@@ -190,24 +229,25 @@ fn exchange_shapes(id: Identifier) -> Option<&'static [Shape]>
 }
 
 /// Queues, and how they are bound to exchanges.
-fn queue_shapes(id: Identifier) -> Option<&'static [Shape]>
-    ensures { option_map slots_of (option_copied result) ≡ slots_at 50 id }
+fn queue_shapes(id: Identifier) -> Option<&'static [Slot]>
+    ensures slots { option_map slots_of (option_copied result) ≡ slots_at 50 id }
+    ensures constants { IfSome result (λ slots. have_constants slots.now ≡ true) }
 {
     Some(match id {
-        10 => &[ReservedShort(0), ShortString, Flags(5), Table],
-        11 => &[ShortString, Long, Long],
+        10 => &[RESERVED_SHORT, SHORT_STRING, FIVE_FLAGS, TABLE],
+        11 => &[SHORT_STRING, LONG, LONG],
         20 => &BINDING,
         21 => &[],
-        30 => &[ReservedShort(0), ShortString, Flags(1)],
-        31 => &[Long],
-        40 => &[ReservedShort(0), ShortString, Flags(3)],
-        41 => &[Long],
+        30 => &[RESERVED_SHORT, SHORT_STRING, FLAG],
+        31 => &[LONG],
+        40 => &[RESERVED_SHORT, SHORT_STRING, THREE_FLAGS],
+        41 => &[LONG],
         50 => &[
-            ReservedShort(0),
-            ShortString,
-            ShortString,
-            ShortString,
-            Table,
+            RESERVED_SHORT,
+            SHORT_STRING,
+            SHORT_STRING,
+            SHORT_STRING,
+            TABLE,
         ],
         51 => &[],
         _ => return None,
@@ -216,46 +256,55 @@ fn queue_shapes(id: Identifier) -> Option<&'static [Shape]>
 
 /// Sending messages, and receiving and acknowledging them.
 #[inline(always)]
-fn basic_shapes(id: Identifier) -> Option<&'static [Shape]>
-    ensures { option_map slots_of (option_copied result) ≡ slots_at 60 id }
+fn basic_shapes(id: Identifier) -> Option<&'static [Slot]>
+    ensures slots { option_map slots_of (option_copied result) ≡ slots_at 60 id }
+    ensures constants { IfSome result (λ slots. have_constants slots.now ≡ true) }
 {
     Some(match id {
-        10 => &[ReservedLong(0), Short, Flags(1)],
+        10 => &[RESERVED_LONG, SHORT, FLAG],
         11 => &[],
-        20 => &[ReservedShort(0), ShortString, ShortString, Flags(4), Table],
-        21 => &[ShortString],
-        30 => &[ShortString, Flags(1)],
-        31 => &[ShortString],
-        40 => &[ReservedShort(0), ShortString, ShortString, Flags(2)],
-        50 => &[Short, ShortString, ShortString, ShortString],
-        60 => &[ShortString, LongLong, Flags(1), ShortString, ShortString],
-        70 => &[ReservedShort(0), ShortString, Flags(1)],
-        71 => &[LongLong, Flags(1), ShortString, ShortString, Long],
-        72 => &[ReservedShortString],
-        80 => &[LongLong, Flags(1)],
-        90 => &[LongLong, Flags(1)],
-        100 => &[Flags(1)],
-        110 => &[Flags(1)],
+        20 => &[
+            RESERVED_SHORT,
+            SHORT_STRING,
+            SHORT_STRING,
+            FOUR_FLAGS,
+            TABLE,
+        ],
+        21 => &[SHORT_STRING],
+        30 => &[SHORT_STRING, FLAG],
+        31 => &[SHORT_STRING],
+        40 => &[RESERVED_SHORT, SHORT_STRING, SHORT_STRING, TWO_FLAGS],
+        50 => &[SHORT, SHORT_STRING, SHORT_STRING, SHORT_STRING],
+        60 => &[SHORT_STRING, LONG_LONG, FLAG, SHORT_STRING, SHORT_STRING],
+        70 => &[RESERVED_SHORT, SHORT_STRING, FLAG],
+        71 => &[LONG_LONG, FLAG, SHORT_STRING, SHORT_STRING, LONG],
+        72 => &[RESERVED_SHORT_STRING],
+        80 => &[LONG_LONG, FLAG],
+        90 => &[LONG_LONG, FLAG],
+        100 => &[FLAG],
+        110 => &[FLAG],
         111 => &[],
-        120 => &[LongLong, Flags(2)],
+        120 => &[LONG_LONG, TWO_FLAGS],
         _ => return None,
     })
 }
 
 /// Confirms of what was published.
-fn confirm_shapes(id: Identifier) -> Option<&'static [Shape]>
-    ensures { option_map slots_of (option_copied result) ≡ slots_at 85 id }
+fn confirm_shapes(id: Identifier) -> Option<&'static [Slot]>
+    ensures slots { option_map slots_of (option_copied result) ≡ slots_at 85 id }
+    ensures constants { IfSome result (λ slots. have_constants slots.now ≡ true) }
 {
     Some(match id {
-        10 => &[Flags(1)],
+        10 => &[FLAG],
         11 => &[],
         _ => return None,
     })
 }
 
 /// Transactions.
-fn tx_shapes(id: Identifier) -> Option<&'static [Shape]>
-    ensures { option_map slots_of (option_copied result) ≡ slots_at 90 id }
+fn tx_shapes(id: Identifier) -> Option<&'static [Slot]>
+    ensures slots { option_map slots_of (option_copied result) ≡ slots_at 90 id }
+    ensures constants { IfSome result (λ slots. have_constants slots.now ≡ true) }
 {
     Some(match id {
         10 => &[],

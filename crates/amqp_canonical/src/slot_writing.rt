@@ -1,34 +1,46 @@
 //! Writing the canonical bytes of fields that were decoded, without memory.
 
-ghost use Rattle.std.specs.Prelude.{◌≡◌, ◌≤◌, ◌+◌, ◌∷◌, [], length};
+ghost use Rattle.std.specs.Prelude.{◌≡◌, ◌≤◌, ◌+◌, true, length};
 ghost use Rattle.amqp_types.specs.Flags.{flags_byte, flags_from};
 ghost use Rattle.amqp_types.specs.SlotBytes.{form_bytes, slots_bytes};
 ghost use Rattle.amqp_types.specs.SlotJudging.{judge_form, judge_slot, judge_slots};
 ghost use Rattle.amqp_types.specs.Writing.{Puts};
-ghost use Rattle.amqp_canonical.specs.Shapes.{form_of, slot_of, slots_of};
+ghost use Rattle.amqp_canonical.specs.Shapes.{form_of, slot_of, has_constant, slots_of, have_constants};
 ghost use Rattle.amqp_canonical.specs.Writes.{IsRead, canonical_of, slot_bytes};
 ghost use Rattle.amqp_types.specs.Tidiness.{used_by};
 
 use crate::marks::EntryMark;
-use crate::shapes::Shape;
+use crate::shapes::{Form, Slot};
 use crate::spans::{bytes_from, long_size, split_key};
 use crate::writing::put_table;
-use amqp_types::{INNER_DEPTH, put_bytes, put_long_uint, put_short_uint};
+use amqp_types::{INNER_DEPTH, put_bytes};
 
-/// How many bytes a field of this shape takes at the front, where one was decoded there.
-pub fn slot_size(shape: Shape, i: &[u8]) -> usize
-    ensures used { IsRead (judge_form (form_of shape) i.now) → result ≡ used_by (judge_form (form_of shape) i.now) }
+/// How many bytes what is encoded so takes at the front, where it was decoded there.
+pub fn form_size(form: Form, i: &[u8]) -> usize
+    ensures used { IsRead (judge_form (form_of form) i.now) → result ≡ used_by (judge_form (form_of form) i.now) }
     ensures bound { result ≤ length i.now + 8 }
 {
-    match shape {
-        Shape::Octet => 1,
-        Shape::Flags(_) | Shape::ReservedFlag => 1,
-        Shape::Short | Shape::ReservedShort(_) => 2,
-        Shape::Long | Shape::ReservedLong(_) => 4,
-        Shape::LongLong => 8,
-        Shape::ShortString | Shape::ReservedShortString => 1 + split_key(i).0.len(),
-        Shape::LongString | Shape::ReservedLongString => long_size(i),
-        Shape::Table => long_size(i),
+    match form {
+        Form::Octet => 1,
+        Form::Short => 2,
+        Form::Long => 4,
+        Form::LongLong => 8,
+        Form::Flags(_) => 1,
+        Form::ShortString => 1 + split_key(i).0.len(),
+        Form::LongString => long_size(i),
+        Form::Table => long_size(i),
+    }
+}
+
+/// How many bytes a field takes at the front, where one was decoded there.
+#[inline(always)]
+pub fn slot_size(slot: Slot, i: &[u8]) -> usize
+    ensures used { IsRead (judge_slot (slot_of slot) i.now) → result ≡ used_by (judge_slot (slot_of slot) i.now) }
+    ensures bound { result ≤ length i.now + 8 }
+{
+    match slot {
+        Slot::Kept(form) => form_size(form, i),
+        Slot::Reserved(form, _) => form_size(form, i),
     }
 }
 
@@ -39,39 +51,35 @@ fn lowest_bits(count: u8, byte: u8) -> u8
     if count < 8 { byte % (1 << count) } else { byte }
 }
 
-/// Puts the canonical bytes of what is encoded as a field of this shape, reserved or not.
+/// Puts the canonical bytes of what is encoded so.
 pub(crate) fn put_form(
     buf: &mut [u8],
     at: usize,
     scratch: &mut [EntryMark],
-    shape: Shape,
+    form: Form,
     i: &[u8],
 ) -> usize
-    requires read { IsRead (judge_form (form_of shape) i.now) }
-    requires room { at + length (canonical_of (form_bytes (form_of shape)) (judge_form (form_of shape) i.now)) ≤ length buf.old }
-    ensures { Puts buf.old buf.new at (canonical_of (form_bytes (form_of shape)) (judge_form (form_of shape) i.now)) result }
+    requires read { IsRead (judge_form (form_of form) i.now) }
+    requires room { at + length (canonical_of (form_bytes (form_of form)) (judge_form (form_of form) i.now)) ≤ length buf.old }
+    ensures { Puts buf.old buf.new at (canonical_of (form_bytes (form_of form)) (judge_form (form_of form) i.now)) result }
 {
-    match shape {
-        Shape::Table => put_table(buf, at, scratch, i, INNER_DEPTH),
-        Shape::Flags(count) => put_bytes(buf, at, &[lowest_bits(count, i[0])]),
-        Shape::ReservedFlag => put_bytes(buf, at, &[lowest_bits(1, i[0])]),
-        copied => put_bytes(buf, at, &i[..slot_size(copied, i)]),
+    match form {
+        Form::Table => put_table(buf, at, scratch, i, INNER_DEPTH),
+        Form::Flags(count) => put_bytes(buf, at, &[lowest_bits(count, i[0])]),
+        copied => put_bytes(buf, at, &i[..form_size(copied, i)]),
     }
 }
 
 /// Puts the canonical bytes of a field at a place of a slice, and returns the place after them.
-fn put_slot(buf: &mut [u8], at: usize, scratch: &mut [EntryMark], shape: Shape, i: &[u8]) -> usize
-    requires read { IsRead (judge_slot (slot_of shape) i.now) }
-    requires room { at + length (canonical_of (slot_bytes (slot_of shape)) (judge_slot (slot_of shape) i.now)) ≤ length buf.old }
-    ensures { Puts buf.old buf.new at (canonical_of (slot_bytes (slot_of shape)) (judge_slot (slot_of shape) i.now)) result }
+fn put_slot(buf: &mut [u8], at: usize, scratch: &mut [EntryMark], slot: Slot, i: &[u8]) -> usize
+    requires constant { has_constant slot ≡ true }
+    requires read { IsRead (judge_slot (slot_of slot) i.now) }
+    requires room { at + length (canonical_of (slot_bytes (slot_of slot)) (judge_slot (slot_of slot) i.now)) ≤ length buf.old }
+    ensures { Puts buf.old buf.new at (canonical_of (slot_bytes (slot_of slot)) (judge_slot (slot_of slot) i.now)) result }
 {
-    match shape {
-        Shape::ReservedShort(constant) => put_short_uint(buf, at, &constant),
-        Shape::ReservedLong(constant) => put_long_uint(buf, at, &constant),
-        Shape::ReservedFlag => put_bytes(buf, at, &[0]),
-        Shape::ReservedShortString => put_bytes(buf, at, &[0]),
-        Shape::ReservedLongString => put_bytes(buf, at, &[0, 0, 0, 0]),
-        kept => put_form(buf, at, scratch, kept, i),
+    match slot {
+        Slot::Kept(form) => put_form(buf, at, scratch, form, i),
+        Slot::Reserved(_, constant) => put_bytes(buf, at, constant),
     }
 }
 
@@ -80,9 +88,10 @@ pub fn put_slots(
     buf: &mut [u8],
     at: usize,
     scratch: &mut [EntryMark],
-    shapes: &[Shape],
+    shapes: &[Slot],
     i: &[u8],
 ) -> usize
+    requires constants { have_constants shapes.now ≡ true }
     requires read { IsRead (judge_slots (slots_of shapes.now) i.now) }
     requires room { at + length (canonical_of (slots_bytes (slots_of shapes.now)) (judge_slots (slots_of shapes.now) i.now)) ≤ length buf.old }
     ensures { Puts buf.old buf.new at (canonical_of (slots_bytes (slots_of shapes.now)) (judge_slots (slots_of shapes.now) i.now)) result }

@@ -1,16 +1,15 @@
 //! Decoding fields by their shapes.
 
-ghost use Rattle.std.specs.Prelude.{◌≡◌, ◌≤◌, ◌<◌, ◌^◌, ◌↔◌, [], ◌∷◌, true, length, IfOk, IsTrue};
-ghost use Rattle.amqp_types.specs.Numbers.{NumberWidth, bytes2, bytes4, byte_count};
-ghost use Rattle.amqp_types.specs.Slots.{number_item, number_form, flags_form, short_string_form, long_string_form, table_form};
-ghost use Rattle.amqp_types.specs.SlotLaws.{are_least};
-ghost use Rattle.amqp_canonical.specs.Shapes.{form_of, slot_of, slots_of};
-ghost use Rattle.amqp_canonical.specs.SlotJudgements.{JudgesForm, JudgesReserved, JudgesConstant, JudgesSlot, JudgesSlots};
+ghost use Rattle.std.specs.Prelude.{◌≡◌, ◌≤◌, ◌<◌, ◌^◌, ◌↔◌, true, length, IfOk, IsTrue};
+ghost use Rattle.amqp_types.specs.Numbers.{NumberWidth, bytes2, byte_count};
+ghost use Rattle.amqp_types.specs.Slots.{number_form, flags_form, short_string_form, long_string_form, table_form};
+ghost use Rattle.amqp_canonical.specs.Shapes.{form_of, is_constant, constant_of, slot_of, has_constant, slots_of, have_constants};
+ghost use Rattle.amqp_canonical.specs.SlotJudgements.{JudgesForm, JudgesReserved, JudgesSlot, JudgesSlots};
 
-use crate::shapes::Shape;
+use crate::shapes::{Form, Slot};
 use crate::texts::short_text;
 use crate::values::judge_table;
-use amqp_types::{INNER_DEPTH, ParserError, parse_long_bytes, parse_long_uint, parse_short_uint};
+use amqp_types::{INNER_DEPTH, ParserError, parse_long_bytes, parse_short_uint};
 
 /// What was decoded at the front of a slice: fields, a method or a content header.
 #[derive(Clone, Copy, Debug, PartialEq, Eq)]
@@ -109,62 +108,32 @@ fn judge_field_table(i: &[u8]) -> Result<Judgement, ParserError>
     })
 }
 
-/// Decodes what a field of this shape holds, whether it is reserved or not.
+/// Decodes what a field holds, whether it is reserved or not.
 #[inline(always)]
-pub(crate) fn judge_form(shape: Shape, i: &[u8]) -> Result<Judgement, ParserError>
-    ensures judged { JudgesForm (form_of shape) i.now result }
+pub(crate) fn judge_form(form: Form, i: &[u8]) -> Result<Judgement, ParserError>
+    ensures judged { JudgesForm (form_of form) i.now result }
     ensures used { IfOk result (λ j. j.used ≤ length i.now) }
 {
-    match shape {
-        Shape::Octet => judge_number(1, i),
-        Shape::Short | Shape::ReservedShort(_) => judge_number(2, i),
-        Shape::Long | Shape::ReservedLong(_) => judge_number(4, i),
-        Shape::LongLong => judge_number(8, i),
-        Shape::Flags(count) => judge_flags(count, i),
-        Shape::ReservedFlag => judge_flags(1, i),
-        Shape::ShortString | Shape::ReservedShortString => judge_short_string(i),
-        Shape::LongString | Shape::ReservedLongString => judge_long_string(i),
-        Shape::Table => judge_field_table(i),
+    match form {
+        Form::Octet => judge_number(1, i),
+        Form::Short => judge_number(2, i),
+        Form::Long => judge_number(4, i),
+        Form::LongLong => judge_number(8, i),
+        Form::Flags(count) => judge_flags(count, i),
+        Form::ShortString => judge_short_string(i),
+        Form::LongString => judge_long_string(i),
+        Form::Table => judge_field_table(i),
     }
-}
-
-/// Decodes a reserved number of 2 bytes.
-#[inline(always)]
-fn judge_reserved_short(constant: u16, i: &[u8]) -> Result<Judgement, ParserError>
-    ensures judged { JudgesReserved (number_form bytes2) (number_item constant ∷ []) i.now result }
-    ensures used { IfOk result (λ j. j.used ≤ length i.now) }
-{
-    let (used, number) = parse_short_uint(i)?;
-    let as_written = number == constant;
-    Ok(Judgement {
-        used,
-        canonical: as_written,
-        tidy: as_written,
-    })
-}
-
-/// Decodes a reserved number of 4 bytes.
-#[inline(always)]
-fn judge_reserved_long(constant: u32, i: &[u8]) -> Result<Judgement, ParserError>
-    ensures judged { JudgesReserved (number_form bytes4) (number_item constant ∷ []) i.now result }
-    ensures used { IfOk result (λ j. j.used ≤ length i.now) }
-{
-    let (used, number) = parse_long_uint(i)?;
-    let as_written = number == constant;
-    Ok(Judgement {
-        used,
-        canonical: as_written,
-        tidy: as_written,
-    })
 }
 
 /// Decodes a reserved field, whose constant is written in these bytes.
 #[inline(always)]
-fn judge_reserved(shape: Shape, constant: &[u8], i: &[u8]) -> Result<Judgement, ParserError>
-    ensures judged { JudgesConstant (form_of shape) constant.now i.now result }
+fn judge_reserved(form: Form, constant: &[u8], i: &[u8]) -> Result<Judgement, ParserError>
+    requires constant { is_constant (form_of form) constant.now ≡ true }
+    ensures judged { JudgesReserved (form_of form) (constant_of (form_of form) constant.now) i.now result }
     ensures used { IfOk result (λ j. j.used ≤ length i.now) }
 {
-    let found = judge_form(shape, i)?;
+    let found = judge_form(form, i)?;
     let as_written = &i[..found.used] == constant;
     Ok(Judgement {
         used: found.used,
@@ -173,25 +142,39 @@ fn judge_reserved(shape: Shape, constant: &[u8], i: &[u8]) -> Result<Judgement, 
     })
 }
 
-/// Decodes a field of this shape.
+/// Decodes a reserved number of 2 bytes. Each message has two such fields, and numbers compare faster than slices.
 #[inline(always)]
-fn judge_slot(shape: Shape, i: &[u8]) -> Result<Judgement, ParserError>
-    ensures judged { JudgesSlot (slot_of shape) i.now result }
-    ensures least { are_least (slot_of shape ∷ []) ≡ true }
+pub(crate) fn judge_reserved_short(constant: &[u8], i: &[u8]) -> Result<Judgement, ParserError>
+    requires two { length constant.now ≡ 2 }
+    ensures judged { JudgesReserved (number_form bytes2) (constant_of (number_form bytes2) constant.now) i.now result }
     ensures used { IfOk result (λ j. j.used ≤ length i.now) }
 {
-    match shape {
-        Shape::ReservedShort(constant) => judge_reserved_short(constant, i),
-        Shape::ReservedLong(constant) => judge_reserved_long(constant, i),
-        Shape::ReservedFlag => judge_reserved(shape, &[0], i),
-        Shape::ReservedShortString => judge_reserved(shape, &[0], i),
-        Shape::ReservedLongString => judge_reserved(shape, &[0, 0, 0, 0], i),
-        kept => judge_form(kept, i),
+    let (used, number) = parse_short_uint(i)?;
+    let as_written = number == u16::from_be_bytes([constant[0], constant[1]]);
+    Ok(Judgement {
+        used,
+        canonical: as_written,
+        tidy: as_written,
+    })
+}
+
+/// Decodes a field.
+#[inline(always)]
+fn judge_slot(slot: Slot, i: &[u8]) -> Result<Judgement, ParserError>
+    requires constant { has_constant slot ≡ true }
+    ensures judged { JudgesSlot (slot_of slot) i.now result }
+    ensures used { IfOk result (λ j. j.used ≤ length i.now) }
+{
+    match slot {
+        Slot::Kept(form) => judge_form(form, i),
+        Slot::Reserved(Form::Short, constant) => judge_reserved_short(constant, i),
+        Slot::Reserved(form, constant) => judge_reserved(form, constant, i),
     }
 }
 
 /// Decodes fields of these shapes, one after another (AMQP 0-9-1, section 4.2.4).
-pub fn judge_slots(shapes: &[Shape], i: &[u8]) -> Result<Judgement, ParserError>
+pub fn judge_slots(shapes: &[Slot], i: &[u8]) -> Result<Judgement, ParserError>
+    requires constants { have_constants shapes.now ≡ true }
     ensures judged { JudgesSlots (slots_of shapes.now) i.now result }
     ensures used { IfOk result (λ j. j.used ≤ length i.now) }
 {

@@ -39,8 +39,8 @@ pub(crate) fn long_size(i: &[u8]) -> usize
 #[inline(always)]
 pub(crate) fn size_in(layout: Layout, i: &[u8]) -> usize
     requires { IsShort layout }
-    ensures used { (room : ℕ) (tag : FieldTag) → layout_at tag ≡ layout
-        → IsRead (judge_behind (nested room) tag i.now) → result ≡ used_by (judge_behind (nested room) tag i.now) }
+    ensures used { (depth_left : ℕ) (tag : FieldTag) → layout_at tag ≡ layout
+        → IsRead (judge_behind (nested depth_left) tag i.now) → result ≡ used_by (judge_behind (nested depth_left) tag i.now) }
     ensures bound { result ≤ length i.now + 8 }
 {
     match layout {
@@ -54,11 +54,11 @@ pub(crate) fn size_in(layout: Layout, i: &[u8]) -> usize
 #[inline(always)]
 fn span_after(tag: TagByte, i: &[u8]) -> Span
     requires { IsShort tag.layout }
-    ensures used { (room : ℕ) (t : FieldTag) → layout_at t ≡ tag.layout
-        → IsRead (judge_behind (nested room) t i.now) → result.size ≡ used_by (judge_behind (nested room) t i.now) }
+    ensures used { (depth_left : ℕ) (t : FieldTag) → layout_at t ≡ tag.layout
+        → IsRead (judge_behind (nested depth_left) t i.now) → result.size ≡ used_by (judge_behind (nested depth_left) t i.now) }
     ensures written { IsTrue result.copied → IsTrue tag.written }
-    ensures copied { IsTrue result.copied → (room : ℕ) (t : FieldTag) → layout_at t ≡ tag.layout
-        → IsRead (judge_behind (nested room) t i.now) → IsCopied value_bytes i.now result.size (judge_behind (nested room) t i.now) }
+    ensures copied { IsTrue result.copied → (depth_left : ℕ) (t : FieldTag) → layout_at t ≡ tag.layout
+        → IsRead (judge_behind (nested depth_left) t i.now) → IsCopied value_bytes i.now result.size (judge_behind (nested depth_left) t i.now) }
     ensures bound { result.size ≤ length i.now + 8 }
 {
     match tag.layout {
@@ -84,8 +84,8 @@ fn span_after(tag: TagByte, i: &[u8]) -> Span
 /// What a value takes at the front, with its tag, where one was decoded there.
 #[inline(always)]
 pub(crate) fn value_span(i: &[u8]) -> Span
-    ensures used { (room : ℕ) → IsRead (judge_value room i.now) → result.size ≡ used_by (judge_value room i.now) }
-    ensures copied { IsTrue result.copied → (room : ℕ) → IsRead (judge_value room i.now) → IsCopied tagged_bytes i.now result.size (judge_value room i.now) }
+    ensures used { (depth_left : ℕ) → IsRead (judge_value depth_left i.now) → result.size ≡ used_by (judge_value depth_left i.now) }
+    ensures copied { IsTrue result.copied → (depth_left : ℕ) → IsRead (judge_value depth_left i.now) → IsCopied tagged_bytes i.now result.size (judge_value depth_left i.now) }
     ensures bound { result.size ≤ length i.now + 8 }
 {
     match i {
@@ -112,7 +112,7 @@ pub(crate) fn value_span(i: &[u8]) -> Span
 /// How many bytes a value takes at the front, with its tag, where one was decoded there.
 #[inline(always)]
 pub fn value_size(i: &[u8]) -> usize
-    ensures used { (room : ℕ) → IsRead (judge_value room i.now) → result ≡ used_by (judge_value room i.now) }
+    ensures used { (depth_left : ℕ) → IsRead (judge_value depth_left i.now) → result ≡ used_by (judge_value depth_left i.now) }
     ensures bound { result ≤ length i.now + 8 }
 {
     value_span(i).size
@@ -154,9 +154,9 @@ pub fn split_key(i: &[u8]) -> (&[u8], &[u8])
 /// What an entry takes at the front, where one was decoded there.
 #[inline(always)]
 pub(crate) fn entry_span(i: &[u8]) -> Span
-    ensures used { (room : ℕ) → IsRead (judge_entry (judge_value room) i.now) → result.size ≡ used_by (judge_entry (judge_value room) i.now) }
-    ensures copied { IsTrue result.copied → (room : ℕ) → IsRead (judge_entry (judge_value room) i.now)
-        → IsCopied entry_bytes i.now result.size (judge_entry (judge_value room) i.now) }
+    ensures used { (depth_left : ℕ) → IsRead (judge_entry (judge_value depth_left) i.now) → result.size ≡ used_by (judge_entry (judge_value depth_left) i.now) }
+    ensures copied { IsTrue result.copied → (depth_left : ℕ) → IsRead (judge_entry (judge_value depth_left) i.now)
+        → IsCopied entry_bytes i.now result.size (judge_entry (judge_value depth_left) i.now) }
     ensures some { 0 < result.size }
     ensures bound { result.size ≤ length i.now + 9 }
 {
@@ -171,7 +171,7 @@ pub(crate) fn entry_span(i: &[u8]) -> Span
 /// How many bytes an entry takes at the front, where one was decoded there.
 #[inline(always)]
 pub fn entry_size(i: &[u8]) -> usize
-    ensures used { (room : ℕ) → IsRead (judge_entry (judge_value room) i.now) → result ≡ used_by (judge_entry (judge_value room) i.now) }
+    ensures used { (depth_left : ℕ) → IsRead (judge_entry (judge_value depth_left) i.now) → result ≡ used_by (judge_entry (judge_value depth_left) i.now) }
     ensures some { 0 < result }
     ensures bound { result ≤ length i.now + 9 }
 {

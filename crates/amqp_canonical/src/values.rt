@@ -152,11 +152,11 @@ fn judge_boolean(i: &[u8]) -> Result<ValueJudgement, ParserError>
     }
 }
 
-/// Decodes a tag and its value, in which tables and arrays may nest `room` deep (AMQP 0-9-1, section 4.2.5.5).
+/// Decodes a tag and its value, in which tables and arrays may nest `depth_left` deep (AMQP 0-9-1, section 4.2.5.5).
 #[inline(always)]
 #[cycle(judge)]
-pub fn judge_value(i: &[u8], room: usize) -> Result<ValueJudgement, ParserError>
-    ensures judged { Judges IsCanonicalValue i.now result (judge_value room i.now) }
+pub fn judge_value(i: &[u8], depth_left: usize) -> Result<ValueJudgement, ParserError>
+    ensures judged { Judges IsCanonicalValue i.now result (judge_value depth_left i.now) }
     ensures used { IfOk result (λ w. (0 < w.used) × (w.used ≤ length i.now)) }
 {
     match i {
@@ -164,7 +164,7 @@ pub fn judge_value(i: &[u8], room: usize) -> Result<ValueJudgement, ParserError>
         [byte, rest @ ..] => match layout_after(*byte) {
             None => Err(ParserError::UnknownTag),
             Some(tag) => {
-                let value = judge_after_tag(tag.layout, rest, room)?;
+                let value = judge_after_tag(tag.layout, rest, depth_left)?;
                 Ok(ValueJudgement {
                     used: 1 + value.used,
                     canonical: value.canonical & tag.written,
@@ -177,8 +177,12 @@ pub fn judge_value(i: &[u8], room: usize) -> Result<ValueJudgement, ParserError>
 /// Decodes the value after a tag that is laid out so.
 #[inline(always)]
 #[cycle(judge)]
-fn judge_after_tag(layout: Layout, i: &[u8], room: usize) -> Result<ValueJudgement, ParserError>
-    ensures judged { (tag : FieldTag) → layout_at tag ≡ layout → Judges IsCanonicalAfterTag i.now result (judge_behind (nested room) tag i.now) }
+fn judge_after_tag(
+    layout: Layout,
+    i: &[u8],
+    depth_left: usize,
+) -> Result<ValueJudgement, ParserError>
+    ensures judged { (tag : FieldTag) → layout_at tag ≡ layout → Judges IsCanonicalAfterTag i.now result (judge_behind (nested depth_left) tag i.now) }
     ensures used { IfOk result (λ w. w.used ≤ length i.now) }
 {
     match layout {
@@ -200,54 +204,54 @@ fn judge_after_tag(layout: Layout, i: &[u8], room: usize) -> Result<ValueJudgeme
             })
         }
         Layout::Values => {
-            if room == 0 {
+            if depth_left == 0 {
                 return Err(ParserError::TooDeep);
             }
-            judge_array(i, room - 1)
+            judge_array(i, depth_left - 1)
         }
         Layout::Entries => {
-            if room == 0 {
+            if depth_left == 0 {
                 return Err(ParserError::TooDeep);
             }
-            judge_table(i, room - 1)
+            judge_table(i, depth_left - 1)
         }
     }
 }
 
-/// Decodes an array, in whose values tables and arrays may nest `room` deep.
+/// Decodes an array, in whose values tables and arrays may nest `depth_left` deep.
 #[inline(always)]
 #[cycle(judge)]
-pub fn judge_array(i: &[u8], room: usize) -> Result<ValueJudgement, ParserError>
-    ensures judged { Judges IsCanonicalArray i.now result (judge_array (judge_value room) i.now) }
+pub fn judge_array(i: &[u8], depth_left: usize) -> Result<ValueJudgement, ParserError>
+    ensures judged { Judges IsCanonicalArray i.now result (judge_array (judge_value depth_left) i.now) }
     ensures used { IfOk result (λ w. w.used ≤ length i.now) }
 {
     let (n, content) = parse_long_bytes(i)?;
-    let canonical = judge_values(content, room)?;
+    let canonical = judge_values(content, depth_left)?;
     Ok(ValueJudgement { used: n, canonical })
 }
 
-/// Decodes a table, in whose values tables and arrays may nest `room` deep (AMQP 0-9-1, section 4.2.5.5).
+/// Decodes a table, in whose values tables and arrays may nest `depth_left` deep (AMQP 0-9-1, section 4.2.5.5).
 #[inline(always)]
 #[cycle(judge)]
-pub fn judge_table(i: &[u8], room: usize) -> Result<ValueJudgement, ParserError>
-    ensures judged { Judges IsCanonicalTable i.now result (judge_table (judge_value room) i.now) }
+pub fn judge_table(i: &[u8], depth_left: usize) -> Result<ValueJudgement, ParserError>
+    ensures judged { Judges IsCanonicalTable i.now result (judge_table (judge_value depth_left) i.now) }
     ensures used { IfOk result (λ w. w.used ≤ length i.now) }
 {
     let (n, content) = parse_long_bytes(i)?;
-    let canonical = judge_entries(content, room)?;
+    let canonical = judge_entries(content, depth_left)?;
     Ok(ValueJudgement { used: n, canonical })
 }
 
 /// Decodes the values that fill an array, and returns whether these are their canonical bytes.
 #[inline(never)]
 #[cycle(judge)]
-fn judge_values(content: &[u8], room: usize) -> Result<bool, ParserError>
-    ensures { JudgesWhole AreCanonicalValues content.now result (filled (judge_value room) 0 content.now) }
+fn judge_values(content: &[u8], depth_left: usize) -> Result<bool, ParserError>
+    ensures { JudgesWhole AreCanonicalValues content.now result (filled (judge_value depth_left) 0 content.now) }
 {
     let mut canonical = true;
     let mut at = 0;
     while at < content.len() {
-        let item = match judge_value(&content[at..], room) {
+        let item = match judge_value(&content[at..], depth_left) {
             Ok(item) => item,
             Err(error) => return Err(error.inside()),
         };
@@ -261,14 +265,14 @@ fn judge_values(content: &[u8], room: usize) -> Result<bool, ParserError>
 /// order.
 #[inline(never)]
 #[cycle(judge)]
-fn judge_entries(content: &[u8], room: usize) -> Result<bool, ParserError>
-    ensures { JudgesWhole AreCanonicalEntries content.now result (filled (judge_entry (judge_value room)) 0 content.now) }
+fn judge_entries(content: &[u8], depth_left: usize) -> Result<bool, ParserError>
+    ensures { JudgesWhole AreCanonicalEntries content.now result (filled (judge_entry (judge_value depth_left)) 0 content.now) }
 {
     let mut previous: &[u8] = &[];
     let mut canonical = true;
     let mut at = 0;
     while canonical && at < content.len() {
-        let (item, key) = match judge_entry(&content[at..], room) {
+        let (item, key) = match judge_entry(&content[at..], depth_left) {
             Ok(found) => found,
             Err(error) => return Err(error.inside()),
         };
@@ -278,7 +282,7 @@ fn judge_entries(content: &[u8], room: usize) -> Result<bool, ParserError>
     }
     // Where one is not canonical, the others are decoded alone, and their keys are not compared.
     while at < content.len() {
-        at += match judge_entry(&content[at..], room) {
+        at += match judge_entry(&content[at..], depth_left) {
             Ok((item, _)) => item.used,
             Err(error) => return Err(error.inside()),
         };
@@ -289,12 +293,12 @@ fn judge_entries(content: &[u8], room: usize) -> Result<bool, ParserError>
 /// Decodes a key and its value, and borrows the key.
 #[inline(always)]
 #[cycle(judge)]
-fn judge_entry(i: &[u8], room: usize) -> Result<(ValueJudgement, &[u8]), ParserError>
-    ensures judged { JudgesEntry (λ key. key.now) i.now result (judge_entry (judge_value room) i.now) }
+fn judge_entry(i: &[u8], depth_left: usize) -> Result<(ValueJudgement, &[u8]), ParserError>
+    ensures judged { JudgesEntry (λ key. key.now) i.now result (judge_entry (judge_value depth_left) i.now) }
     ensures used { IfOk result (λ found. (0 < found.0.used) × (found.0.used ≤ length i.now)) }
 {
     let (n, key) = short_text(i)?;
-    let value = judge_value(&i[n..], room)?;
+    let value = judge_value(&i[n..], depth_left)?;
     Ok((
         ValueJudgement {
             used: n + value.used,

@@ -15,25 +15,25 @@ use crate::values::{Layout, layout_of};
 use amqp_types::{FieldTag, put_boolean, put_bytes, put_long_uint};
 
 /// Puts the canonical bytes of a value at a place of a slice, and returns the place after them. Tables and arrays may
-/// nest `room` deep in it. Its tag stands in front of it, in the bytes that were decoded and in those that are put.
+/// nest `depth_left` deep in it. Its tag stands in front of it, in the bytes that were decoded and in those that are put.
 #[cycle(write)]
 pub fn put_value(
     buf: &mut [u8],
     at: usize,
     scratch: &mut [EntryMark],
     i: &[u8],
-    room: usize,
+    depth_left: usize,
 ) -> usize
-    requires read { IsRead (judge_value room i.now) }
-    requires room { at + length (canonical_of tagged_bytes (judge_value room i.now)) ≤ length buf.old }
-    ensures { Puts buf.old buf.new at (canonical_of tagged_bytes (judge_value room i.now)) result }
+    requires read { IsRead (judge_value depth_left i.now) }
+    requires room { at + length (canonical_of tagged_bytes (judge_value depth_left i.now)) ≤ length buf.old }
+    ensures { Puts buf.old buf.new at (canonical_of tagged_bytes (judge_value depth_left i.now)) result }
 {
     match i {
         [] => at,
         [byte, rest @ ..] => match FieldTag::from_byte(*byte) {
             Some(tag) => {
                 let place = put_bytes(buf, at, &[tag.to_byte()]);
-                put_after_tag(buf, place, scratch, tag, rest, room)
+                put_after_tag(buf, place, scratch, tag, rest, depth_left)
             }
             None => at,
         },
@@ -48,11 +48,11 @@ fn put_after_tag(
     scratch: &mut [EntryMark],
     tag: FieldTag,
     i: &[u8],
-    room: usize,
+    depth_left: usize,
 ) -> usize
-    requires read { IsRead (judge_behind (nested room) tag i.now) }
-    requires room { at + length (canonical_of value_bytes (judge_behind (nested room) tag i.now)) ≤ length buf.old }
-    ensures { Puts buf.old buf.new at (canonical_of value_bytes (judge_behind (nested room) tag i.now)) result }
+    requires read { IsRead (judge_behind (nested depth_left) tag i.now) }
+    requires room { at + length (canonical_of value_bytes (judge_behind (nested depth_left) tag i.now)) ≤ length buf.old }
+    ensures { Puts buf.old buf.new at (canonical_of value_bytes (judge_behind (nested depth_left) tag i.now)) result }
 {
     match layout_of(tag) {
         layout @ (Layout::Fixed(_) | Layout::Counted) => put_bytes(
@@ -61,45 +61,45 @@ fn put_after_tag(
             &i[..size_in(layout, i)],
         ),
         Layout::OneBoolean => put_boolean(buf, at, &(i[0] != 0)),
-        Layout::Values => put_array(buf, at, scratch, i, room - 1),
-        Layout::Entries => put_table(buf, at, scratch, i, room - 1),
+        Layout::Values => put_array(buf, at, scratch, i, depth_left - 1),
+        Layout::Entries => put_table(buf, at, scratch, i, depth_left - 1),
     }
 }
 
 /// Puts the canonical bytes of an array at a place of a slice, and returns the place after them. Tables and arrays may
-/// nest `room` deep in its values.
+/// nest `depth_left` deep in its values.
 #[cycle(write)]
 pub fn put_array(
     buf: &mut [u8],
     at: usize,
     scratch: &mut [EntryMark],
     i: &[u8],
-    room: usize,
+    depth_left: usize,
 ) -> usize
-    requires read { IsRead (judge_array (judge_value room) i.now) }
-    requires room { at + length (canonical_of array_bytes (judge_array (judge_value room) i.now)) ≤ length buf.old }
-    ensures { Puts buf.old buf.new at (canonical_of array_bytes (judge_array (judge_value room) i.now)) result }
+    requires read { IsRead (judge_array (judge_value depth_left) i.now) }
+    requires room { at + length (canonical_of array_bytes (judge_array (judge_value depth_left) i.now)) ≤ length buf.old }
+    ensures { Puts buf.old buf.new at (canonical_of array_bytes (judge_array (judge_value depth_left) i.now)) result }
 {
-    let end = put_values(buf, at + 4, scratch, content_of(i), room);
+    let end = put_values(buf, at + 4, scratch, content_of(i), depth_left);
     put_long_uint(buf, at, &((end - at - 4) as u32));
     end
 }
 
 /// Puts the canonical bytes of a table at a place of a slice, and returns the place after them. Tables and arrays may
-/// nest `room` deep in its values.
+/// nest `depth_left` deep in its values.
 #[cycle(write)]
 pub fn put_table(
     buf: &mut [u8],
     at: usize,
     scratch: &mut [EntryMark],
     i: &[u8],
-    room: usize,
+    depth_left: usize,
 ) -> usize
-    requires read { IsRead (judge_table (judge_value room) i.now) }
-    requires room { at + length (canonical_of table_bytes (judge_table (judge_value room) i.now)) ≤ length buf.old }
-    ensures { Puts buf.old buf.new at (canonical_of table_bytes (judge_table (judge_value room) i.now)) result }
+    requires read { IsRead (judge_table (judge_value depth_left) i.now) }
+    requires room { at + length (canonical_of table_bytes (judge_table (judge_value depth_left) i.now)) ≤ length buf.old }
+    ensures { Puts buf.old buf.new at (canonical_of table_bytes (judge_table (judge_value depth_left) i.now)) result }
 {
-    let end = put_entries(buf, at + 4, scratch, content_of(i), room);
+    let end = put_entries(buf, at + 4, scratch, content_of(i), depth_left);
     put_long_uint(buf, at, &((end - at - 4) as u32));
     end
 }
@@ -111,17 +111,17 @@ fn put_values(
     at: usize,
     scratch: &mut [EntryMark],
     content: &[u8],
-    room: usize,
+    depth_left: usize,
 ) -> usize
-    requires read { IsFilled (filled (judge_value room) 0 content.now) }
-    requires room { at + length (array_content (items_of (filled (judge_value room) 0 content.now))) ≤ length buf.old }
-    ensures { Puts buf.old buf.new at (array_content (items_of (filled (judge_value room) 0 content.now))) result }
+    requires read { IsFilled (filled (judge_value depth_left) 0 content.now) }
+    requires room { at + length (array_content (items_of (filled (judge_value depth_left) 0 content.now))) ≤ length buf.old }
+    ensures { Puts buf.old buf.new at (array_content (items_of (filled (judge_value depth_left) 0 content.now))) result }
 {
     let mut end = at;
     let mut start = 0;
     while start < content.len() {
         let item = &content[start..];
-        end = put_value(buf, end, scratch, item, room);
+        end = put_value(buf, end, scratch, item, depth_left);
         start += value_size(item);
     }
     end
@@ -134,18 +134,18 @@ fn put_entries(
     at: usize,
     scratch: &mut [EntryMark],
     content: &[u8],
-    room: usize,
+    depth_left: usize,
 ) -> usize
-    requires read { AreEntries room content.now }
-    requires room { at + length (table_content (settled (entries_in room content.now))) ≤ length buf.old }
-    ensures { Puts buf.old buf.new at (table_content (settled (entries_in room content.now))) result }
+    requires read { AreEntries depth_left content.now }
+    requires room { at + length (table_content (settled (entries_in depth_left content.now))) ≤ length buf.old }
+    ensures { Puts buf.old buf.new at (table_content (settled (entries_in depth_left content.now))) result }
 {
     match mark_in_order(scratch, content) {
         Some(count) => {
             let (marks, rest) = scratch.split_at_mut(count);
-            put_marked(buf, at, rest, content, marks, room)
+            put_marked(buf, at, rest, content, marks, depth_left)
         }
-        None => put_selected(buf, at, scratch, content, room),
+        None => put_selected(buf, at, scratch, content, depth_left),
     }
 }
 
@@ -157,18 +157,18 @@ fn put_marked(
     scratch: &mut [EntryMark],
     content: &[u8],
     marks: &[EntryMark],
-    room: usize,
+    depth_left: usize,
 ) -> usize
-    requires read { All (λ mark. IsRead (entry_at room content.now mark.place)) marks.now }
+    requires read { All (λ mark. IsRead (entry_at depth_left content.now mark.place)) marks.now }
     requires each { All (IsMarkOf content.now) marks.now }
-    requires room { at + length (table_content (last_of_ties (map (marked_entry room content.now) marks.now))) ≤ length buf.old }
-    ensures { Puts buf.old buf.new at (table_content (last_of_ties (map (marked_entry room content.now) marks.now))) result }
+    requires room { at + length (table_content (last_of_ties (map (marked_entry depth_left content.now) marks.now))) ≤ length buf.old }
+    ensures { Puts buf.old buf.new at (table_content (last_of_ties (map (marked_entry depth_left content.now) marks.now))) result }
 {
     let mut end = at;
     let mut k = 0;
     while k < marks.len() {
         if !is_tied(marks, content, k) {
-            end = put_mark(buf, end, scratch, content, &marks[k], room);
+            end = put_mark(buf, end, scratch, content, &marks[k], depth_left);
         }
         k += 1;
     }
@@ -184,19 +184,19 @@ fn put_mark(
     scratch: &mut [EntryMark],
     content: &[u8],
     mark: &EntryMark,
-    room: usize,
+    depth_left: usize,
 ) -> usize
-    requires read { IsRead (entry_at room content.now mark.now.place) }
+    requires read { IsRead (entry_at depth_left content.now mark.now.place) }
     requires is { IsMarkOf content.now mark.now }
-    requires room { at + length (canonical_of entry_bytes (entry_at room content.now mark.now.place)) ≤ length buf.old }
-    ensures { Puts buf.old buf.new at (canonical_of entry_bytes (entry_at room content.now mark.now.place)) result }
+    requires room { at + length (canonical_of entry_bytes (entry_at depth_left content.now mark.now.place)) ≤ length buf.old }
+    ensures { Puts buf.old buf.new at (canonical_of entry_bytes (entry_at depth_left content.now mark.now.place)) result }
 {
     let place = mark.place as usize;
     let size = mark.size as usize;
     if size != 0 {
         return put_bytes(buf, at, &content[place..place + size]);
     }
-    put_entry(buf, at, scratch, bytes_from(content, place), room)
+    put_entry(buf, at, scratch, bytes_from(content, place), depth_left)
 }
 
 /// Puts the canonical bytes of the entries that fill a table, each found by its key. This takes quadratic time, and no
@@ -207,16 +207,16 @@ fn put_selected(
     at: usize,
     scratch: &mut [EntryMark],
     content: &[u8],
-    room: usize,
+    depth_left: usize,
 ) -> usize
-    requires read { AreEntries room content.now }
-    requires room { at + length (table_content (settled (entries_in room content.now))) ≤ length buf.old }
-    ensures { Puts buf.old buf.new at (table_content (settled (entries_in room content.now))) result }
+    requires read { AreEntries depth_left content.now }
+    requires room { at + length (table_content (settled (entries_in depth_left content.now))) ≤ length buf.old }
+    ensures { Puts buf.old buf.new at (table_content (settled (entries_in depth_left content.now))) result }
 {
     let mut end = at;
     let mut next = next_entry(content, None);
     while let Some((place, key)) = next {
-        end = put_entry(buf, end, scratch, bytes_from(content, place), room);
+        end = put_entry(buf, end, scratch, bytes_from(content, place), depth_left);
         next = next_entry(content, Some(key));
     }
     end
@@ -224,12 +224,18 @@ fn put_selected(
 
 /// Puts the canonical bytes of an entry, its key and then its value.
 #[cycle(write)]
-fn put_entry(buf: &mut [u8], at: usize, scratch: &mut [EntryMark], i: &[u8], room: usize) -> usize
-    requires read { IsRead (judge_entry (judge_value room) i.now) }
-    requires room { at + length (canonical_of entry_bytes (judge_entry (judge_value room) i.now)) ≤ length buf.old }
-    ensures { Puts buf.old buf.new at (canonical_of entry_bytes (judge_entry (judge_value room) i.now)) result }
+fn put_entry(
+    buf: &mut [u8],
+    at: usize,
+    scratch: &mut [EntryMark],
+    i: &[u8],
+    depth_left: usize,
+) -> usize
+    requires read { IsRead (judge_entry (judge_value depth_left) i.now) }
+    requires room { at + length (canonical_of entry_bytes (judge_entry (judge_value depth_left) i.now)) ≤ length buf.old }
+    ensures { Puts buf.old buf.new at (canonical_of entry_bytes (judge_entry (judge_value depth_left) i.now)) result }
 {
     let (key, value) = split_key(i);
     let place = put_bytes(buf, at, &i[..1 + key.len()]);
-    put_value(buf, place, scratch, value, room)
+    put_value(buf, place, scratch, value, depth_left)
 }

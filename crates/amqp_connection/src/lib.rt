@@ -3,8 +3,6 @@
 
 mod laws;
 pub mod method_equality;
-// Each method is proved from its row of the table, by opening these definitions.
-#[tactic(auto, using(amqp_types::proofs::Judged::refuses_next), unfolding(amqp_values::proofs::OneMethod::one_method))]
 mod methods;
 
 pub use laws::{

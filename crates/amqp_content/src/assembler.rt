@@ -56,6 +56,15 @@ impl Assembler {
         }
     }
 
+    /// Forgets what has come on a channel, its fault too: it was closed, and where it is opened again its content begins anew.
+    pub fn forget(&mut self, channel_id: ChannelId)
+        ensures stands { AssemblerStands self.old.max_body [] (kept_at self.new.channels channel_id) }
+        ensures others { OthersStay channel_id self.old.channels self.new.channels }
+        ensures max_body { self.new.max_body ≡ self.old.max_body }
+    {
+        self.channels.forget(channel_id);
+    }
+
     /// How far the message of a channel has come.
     fn progress(&self, channel_id: ChannelId) -> Option<Progress>
         ensures { result ≡ kept_progress (kept_at self.now.channels channel_id) }

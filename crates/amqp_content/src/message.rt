@@ -92,8 +92,8 @@ impl Message {
         })
     }
 
-    /// The four parts.
-    pub(crate) fn into_parts(self) -> (ChannelId, Opening, AMQPProperties, ByteArray)
+    /// The four parts: the channel, the opening, the properties and the body.
+    pub fn into_parts(self) -> (ChannelId, Opening, AMQPProperties, ByteArray)
         ensures channel { result.0 ≡ self.channel }
         ensures opening { result.1 ≡ self.opening }
         ensures properties { result.2 ≡ self.properties }

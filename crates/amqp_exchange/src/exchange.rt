@@ -1,4 +1,5 @@
 //! The methods of the class exchange, 40.
+//! Its `parse_` calls return Incomplete, NotUtf8, UnknownTag, TooDeep and ShortPayload (inside a table), and NoMemory; `parse_exchange` also UnknownMethod.
 
 mod binding;
 mod declaring;
@@ -162,7 +163,6 @@ macro_rules! with_fields {
 }
 
 /// The size in bytes of the class id, the method id and the fields.
-#[tactic(auto)]
 pub fn size_exchange(method: &AMQPMethod) -> Result<u64, GenError>
     ensures { Measures result (payload_size (method_of method.now)) }
 {
@@ -170,7 +170,6 @@ pub fn size_exchange(method: &AMQPMethod) -> Result<u64, GenError>
 }
 
 /// Puts the class id, the method id and the fields at a place of a slice, and returns the place after.
-#[tactic(auto)]
 pub fn put_exchange(buf: &mut [u8], at: usize, method: &AMQPMethod) -> usize
     requires { HasRoom buf.old at (payload_size (method_of method.now)) (payload_bytes (method_of method.now)) }
     ensures { Puts buf.old buf.new at (payload_bytes (method_of method.now)) result }
@@ -179,7 +178,6 @@ pub fn put_exchange(buf: &mut [u8], at: usize, method: &AMQPMethod) -> usize
 }
 
 /// Appends the class id, the method id and the fields to a vector.
-#[tactic(auto)]
 pub fn gen_exchange(_alloc: Global, out: &mut Vec<u8>, method: &AMQPMethod) -> Result<(), GenError>
     ensures { Appends out.old.items out.new.items (payload_size (method_of method.now)) (payload_bytes (method_of method.now)) result }
 {

@@ -2,8 +2,6 @@
 //! takes long to prove; users reach them by `amqp_topology`.
 #![tactic(auto)]
 
-// Each method is proved from its row of the table, by opening these definitions.
-#[tactic(auto, using(amqp_types::proofs::Judged::refuses_next), unfolding(amqp_values::proofs::OneMethod::one_method))]
 pub mod exchange;
 mod laws;
 pub mod method_equality;

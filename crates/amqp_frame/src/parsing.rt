@@ -70,14 +70,9 @@ fn read_as(
     ensures memory { result ≡ Err ParserError.NoMemory → OwnsMemory frame_type }
 {
     match frame_type {
-        AMQPFrameType::ProtocolHeader => match payload {
-            [major, minor, revision] => Ok(AMQPFrame::ProtocolHeader(ProtocolVersion {
-                major: *major,
-                minor: *minor,
-                revision: *revision,
-            })),
-            [_, _, _, _, ..] => Err(ParserError::TrailingBytes),
-            _ => Err(ParserError::ShortPayload),
+        AMQPFrameType::ProtocolHeader => match ProtocolVersion::from_payload(payload) {
+            Ok(version) => Ok(AMQPFrame::ProtocolHeader(version)),
+            Err(error) => Err(error),
         },
         AMQPFrameType::Method => {
             let class = parse_method(alloc, payload)?;

@@ -3,6 +3,6 @@ pub mod Rereading
 pub mod Finding
 pub mod Sized
 pub mod SlotsSized
-pub mod Parts
 pub mod Standing
+pub mod Same
 pub mod EqualFrames

@@ -1,5 +1,5 @@
 -- How many canonical bytes there are for fields and properties that were decoded.
-use Rattle.std.proofs.Common.{◌≡◌, ◌≤◌, ℕ, ◌+◌, true, false, List, ◌∷◌, length, drop, inl, inr, refl, sym, ap, ◌∙◌, arith}
+use Rattle.std.proofs.Common.{◌≡◌, ◌≤◌, ℕ, ◌+◌, true, false, List, ◌∷◌, length, drop, refl, sym, ap, ◌∙◌, arith}
 use Rattle.std.proofs.lemmas.List.{length-take-le}
 use Rattle.amqp_types.specs.Judging.{IsBytes}
 use Rattle.amqp_types.specs.Flags.{flag_at}
@@ -8,11 +8,12 @@ use Rattle.amqp_types.specs.PropertyBytes.{set_bytes}
 use Rattle.amqp_types.specs.PropertyJudging.{judge_set}
 use Rattle.amqp_types.specs.SlotBytes.{form_bytes, slots_bytes}
 use Rattle.amqp_types.specs.SlotJudging.{judge_form, judge_slot, judge_slots}
-use Rattle.amqp_types.specs.Slots.{Form, Slot}
+use Rattle.amqp_types.specs.Slots.{Slot}
+use Rattle.amqp_types.specs.Slots as meant
 use Rattle.amqp_types.specs.Writing.{written, Puts}
 use Rattle.amqp_types.proofs.Puts.{puts-length}
-use Rattle.amqp_canonical.specs.declared.shapes.Shape.{Shape}
-use Rattle.amqp_canonical.specs.declared.shapes.Shape.TheVariants as shapes
+use Rattle.amqp_canonical.specs.declared.shapes.Form.{Form}
+use Rattle.amqp_canonical.specs.declared.shapes.Form.TheVariants as forms
 use Rattle.amqp_canonical.specs.Shapes.{form_of}
 use Rattle.amqp_canonical.specs.Writes.{IsRead, canonical_of, slot_bytes}
 use Rattle.amqp_canonical.proofs.PayloadParts.{SetPut, gives_one_at, property_here, property_past, set_end, set_none}
@@ -21,24 +22,19 @@ use Rattle.amqp_types.specs.Tidiness.{used_by}
 
 -- ---- one field
 
-copied_size : (s : Shape) (bytes : List ℕ) (n : ℕ) → CopiedForm bytes n (form_of s) → n ≡ length (canonical_of (form_bytes (form_of s)) (judge_form (form_of s) bytes))
-copied_size s bytes n h = sym (length-take-le n bytes h.within) ∙ ap length h.bytes_are
+copied_size : (f : Form) (bytes : List ℕ) (n : ℕ) → CopiedForm bytes n (form_of f) → n ≡ length (canonical_of (form_bytes (form_of f)) (judge_form (form_of f) bytes))
+copied_size f bytes n h = sym (length-take-le n bytes h.within) ∙ ap length h.bytes_are
 
 -- what is no table has as many canonical bytes as it used
-pub form_length : (s : Shape) (bytes : List ℕ) (n : ℕ) → (s ≡ shapes.Table → ⊥) → IsBytes bytes → IsRead (judge_form (form_of s) bytes) → n ≡ used_by (judge_form (form_of s) bytes) → n ≡ length (canonical_of (form_bytes (form_of s)) (judge_form (form_of s) bytes))
-form_length shapes.Octet bytes n t fits h used = copied_size shapes.Octet bytes n (copied_form (form_of shapes.Octet) bytes n refl fits h used)
-form_length shapes.Short bytes n t fits h used = copied_size shapes.Short bytes n (copied_form (form_of shapes.Short) bytes n refl fits h used)
-form_length shapes.Long bytes n t fits h used = copied_size shapes.Long bytes n (copied_form (form_of shapes.Long) bytes n refl fits h used)
-form_length shapes.LongLong bytes n t fits h used = copied_size shapes.LongLong bytes n (copied_form (form_of shapes.LongLong) bytes n refl fits h used)
-form_length (shapes.Flags count) bytes n t fits h used = let put = flags_slot count bytes h in used ∙ sym (flags_size (shapes.Flags count) bytes (inl (count, refl)) h) ∙ sym (ap length put.1)
-form_length shapes.ShortString bytes n t fits h used = copied_size shapes.ShortString bytes n (copied_form (form_of shapes.ShortString) bytes n refl fits h used)
-form_length shapes.LongString bytes n t fits h used = copied_size shapes.LongString bytes n (copied_form (form_of shapes.LongString) bytes n refl fits h used)
-form_length shapes.Table bytes n t fits h used = absurd (t refl)
-form_length (shapes.ReservedShort k) bytes n t fits h used = copied_size (shapes.ReservedShort k) bytes n (copied_form (form_of (shapes.ReservedShort k)) bytes n refl fits h used)
-form_length (shapes.ReservedLong k) bytes n t fits h used = copied_size (shapes.ReservedLong k) bytes n (copied_form (form_of (shapes.ReservedLong k)) bytes n refl fits h used)
-form_length shapes.ReservedFlag bytes n t fits h used = let put = flags_slot 1 bytes h in used ∙ sym (flags_size shapes.ReservedFlag bytes (inr refl) h) ∙ sym (ap length put.1)
-form_length shapes.ReservedShortString bytes n t fits h used = copied_size shapes.ReservedShortString bytes n (copied_form (form_of shapes.ReservedShortString) bytes n refl fits h used)
-form_length shapes.ReservedLongString bytes n t fits h used = copied_size shapes.ReservedLongString bytes n (copied_form (form_of shapes.ReservedLongString) bytes n refl fits h used)
+pub form_length : (f : Form) (bytes : List ℕ) (n : ℕ) → (f ≡ forms.Table → ⊥) → IsBytes bytes → IsRead (judge_form (form_of f) bytes) → n ≡ used_by (judge_form (form_of f) bytes) → n ≡ length (canonical_of (form_bytes (form_of f)) (judge_form (form_of f) bytes))
+form_length forms.Octet bytes n t fits h used = copied_size forms.Octet bytes n (copied_form (form_of forms.Octet) bytes n refl fits h used)
+form_length forms.Short bytes n t fits h used = copied_size forms.Short bytes n (copied_form (form_of forms.Short) bytes n refl fits h used)
+form_length forms.Long bytes n t fits h used = copied_size forms.Long bytes n (copied_form (form_of forms.Long) bytes n refl fits h used)
+form_length forms.LongLong bytes n t fits h used = copied_size forms.LongLong bytes n (copied_form (form_of forms.LongLong) bytes n refl fits h used)
+form_length (forms.Flags count) bytes n t fits h used = let put = flags_slot count bytes h in used ∙ sym (flags_size (forms.Flags count) bytes count refl h) ∙ sym (ap length put.1)
+form_length forms.ShortString bytes n t fits h used = copied_size forms.ShortString bytes n (copied_form (form_of forms.ShortString) bytes n refl fits h used)
+form_length forms.LongString bytes n t fits h used = copied_size forms.LongString bytes n (copied_form (form_of forms.LongString) bytes n refl fits h used)
+form_length forms.Table bytes n t fits h used = absurd (t refl)
 
 -- ---- fields one after another
 
@@ -93,7 +89,7 @@ pub set_sized_none : (mask : ℕ) (bytes : List ℕ) → IsBytes bytes → IsRea
 set_sized_none mask bytes fits read = record { mid = all_set mask bytes; same = refl; put = set_none mask properties bytes (all_set mask bytes) 0 fits read }
 
 -- the next one that is there
-pub record PropertySized (mask : ℕ) (form : Form) (bytes left : List ℕ) (k n total : ℕ) : Type 0 where
+pub record PropertySized (mask : ℕ) (form : meant.Form) (bytes left : List ℕ) (k n total : ℕ) : Type 0 where
   pub read : IsRead (judge_form form left)
   pub within : total + length (canonical_of (form_bytes form) (judge_form form left)) ≤ length (all_set mask bytes)
   pub next : (size : ℕ) → size ≡ length (canonical_of (form_bytes form) (judge_form form left)) → SetSized mask bytes (drop n left) (k + 1) (total + size)

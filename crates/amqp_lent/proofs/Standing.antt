@@ -1,21 +1,20 @@
 -- The canonical bytes of the frames that borrowed frames stand for.
-use Rattle.std.proofs.Common.{◌≡◌, ◌≤◌, ℕ, List, [], ◌∷◌, ◌++◌, length, Result, Ok, Err, refl, sym, ap, subst, ◌∙◌, arith}
+use Rattle.std.proofs.Common.{◌≡◌, ◌≤◌, ℕ, List, [], ◌∷◌, length, Result, Ok, Err, refl, sym, ap, subst, ◌∙◌}
 use Rattle.std.specs.Prelude.{IsOk}
-use Rattle.amqp_types.specs.Judging.{Fault, IsBytes}
+use Rattle.amqp_types.specs.Judging.{Fault}
 use Rattle.amqp_types.specs.ValueJudging.{read_map}
-use Rattle.amqp_types.specs.Methods.{judge_payload, method_bytes, payload_bytes}
+use Rattle.amqp_types.specs.Methods.{judge_payload, payload_bytes}
 use Rattle.amqp_types.specs.ContentHeaders.{judge_content_header, content_header_bytes}
-use Rattle.amqp_types.specs.PropertyBytes.{properties_bytes}
 use Rattle.amqp_canonical.specs.Writes.{IsRead, canonical_of}
-use Rattle.amqp_canonical.proofs.ReadParts.{is_read, took_of}
+use Rattle.amqp_canonical.proofs.PayloadParts.{header_put, payload_long}
+use Rattle.amqp_canonical.proofs.ReadParts.{is_read}
 use Rattle.amqp_wire.specs.declared.frame_type.AMQPFrameType.TheVariants as kinds
 use Rattle.amqp_wire.specs.Frames.{Frame, Proto, Meth, Head, Body, beat_on}
 use Rattle.amqp_wire.specs.Canonical.{canon}
 use Rattle.amqp_wire.specs.Spelling.{framed, proto}
 use Rattle.amqp_wire.specs.Verdicts.{all_of, filling, whole_as}
 use Rattle.amqp_wire.proofs.Payloads.{filled_took}
-use Rattle.amqp_wire.proofs.Rewritten.{canon_beat, header_shorter, method_shorter, mapped}
-use Rattle.amqp_lent.proofs.Parts.{front_bytes}
+use Rattle.amqp_wire.proofs.Rewritten.{canon_beat, mapped}
 
 pub method_canon : (channel : ℕ) (payload : List ℕ) (frame : Frame) → whole_as kinds.Method channel payload ≡ Ok frame → IsRead (judge_payload payload) × (framed 1 channel (canonical_of payload_bytes (judge_payload payload)) ≡ canon frame)
 unfolding whole_as canon
@@ -76,21 +75,12 @@ unfolding whole_as
 beat_any channel one other = refl
 
 -- a method has its two ids
-pub method_long : (channel : ℕ) (payload : List ℕ) (frame : Frame) → IsBytes payload → whole_as kinds.Method channel payload ≡ Ok frame → 4 ≤ length payload
-unfolding payload_bytes method_bytes
-method_long channel payload frame fits h =
-    let read = (method_canon channel payload frame h).0 in
-    let one = took_of (judge_payload payload) read in
-    omega (arith, method_shorter payload fits read, ap (λ j. length (canonical_of payload_bytes j)) one.2)
+pub method_long : (channel : ℕ) (payload : List ℕ) (frame : Frame) → whole_as kinds.Method channel payload ≡ Ok frame → 4 ≤ length payload
+method_long channel payload frame h = payload_long payload (method_canon channel payload frame h).0
 
 -- a content header has its front
-pub header_long : (channel : ℕ) (payload : List ℕ) (frame : Frame) → IsBytes payload → whole_as kinds.Header channel payload ≡ Ok frame → 12 ≤ length payload
-unfolding content_header_bytes
-header_long channel payload frame fits h =
-    let read = (header_canon channel payload frame h).0 in
-    let one = took_of (judge_content_header payload) read in
-    let front = ap (λ bs. length (bs ++ properties_bytes one.0.options)) (front_bytes one.0.class_id one.0.body_size) in
-    omega (arith, header_shorter payload fits read, ap (λ j. length (canonical_of content_header_bytes j)) one.2, front)
+pub header_long : (channel : ℕ) (payload : List ℕ) (frame : Frame) → whole_as kinds.Header channel payload ≡ Ok frame → 12 ≤ length payload
+header_long channel payload frame h = let put = header_put payload (header_canon channel payload frame h).0 in put.long
 
 -- payloads of one length of which the same header is read are the same frame
 pub header_whole : (channel : ℕ) (one other : List ℕ) → judge_content_header one ≡ judge_content_header other → length one ≡ length other → whole_as kinds.Header channel one ≡ whole_as kinds.Header channel other

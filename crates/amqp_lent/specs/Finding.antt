@@ -23,20 +23,20 @@ FindsAfter last table None = HasNoneAfter last table
 FindsAfter last table (Some e) = IsLeastAfter last table e
 
 -- the last of these entries with this key stands at the place
-pub record IsLastAt (room : ℕ) (content key : List ℕ) (es : List Entry) (place : ℕ) : Type 0 where
-  pub read : IsRead (entry_at room content place)
-  pub value : last_at key es ≡ Some (judged_entry (entry_at room content place)).1
+pub record IsLastAt (depth_left : ℕ) (content key : List ℕ) (es : List Entry) (place : ℕ) : Type 0 where
+  pub read : IsRead (entry_at depth_left content place)
+  pub value : last_at key es ≡ Some (judged_entry (entry_at depth_left content place)).1
 
 -- the place of the last of these entries with this key, or none
 abbrev pub FindsLast : ℕ → List ℕ → List ℕ → List Entry → Option ℕ → Type 0
-FindsLast room content key es None = last_at key es ≡ None
-FindsLast room content key es (Some place) = IsLastAt room content key es place
+FindsLast depth_left content key es None = last_at key es ≡ None
+FindsLast depth_left content key es (Some place) = IsLastAt depth_left content key es place
 
 -- the values that fill some bytes
 abbrev pub values_in : ℕ → List ℕ → List FieldValue
-values_in room content = items_of (filled (judge_value room) 0 content)
+values_in depth_left content = items_of (filled (judge_value depth_left) 0 content)
 
 -- the first of the values that fill an array, and the bytes of the others
 abbrev pub StartsWith : ℕ → List ℕ → Option (FieldValue × List ℕ) → Type 0
-StartsWith room content None = values_in room content ≡ []
-StartsWith room content (Some found) = values_in room content ≡ found.0 ∷ values_in room found.1
+StartsWith depth_left content None = values_in depth_left content ≡ []
+StartsWith depth_left content (Some found) = values_in depth_left content ≡ found.0 ∷ values_in depth_left found.1

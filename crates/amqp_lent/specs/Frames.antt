@@ -8,7 +8,7 @@ use Rattle.amqp_wire.specs.declared.frame_type.AMQPFrameType.TheVariants as kind
 use Rattle.amqp_wire.specs.declared.version.ProtocolVersion.{ProtocolVersion}
 use Rattle.amqp_wire.specs.Frames.{Frame, Raw, raw_as}
 use Rattle.amqp_wire.specs.Verdicts.{whole}
-use Rattle.amqp_lent.specs.Payloads.{header_payload, method_payload}
+use Rattle.amqp_canonical.specs.Payloads.{header_payload, method_payload}
 use Rattle.amqp_lent.specs.declared.frame.LentFrame.{LentFrame}
 use Rattle.amqp_lent.specs.declared.frame.LentFrame.TheVariants as frames
 

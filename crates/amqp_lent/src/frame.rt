@@ -6,7 +6,7 @@ ghost use Rattle.amqp_wire.specs.Frames.{raw_of, raw_as};
 ghost use Rattle.amqp_wire.specs.Verdicts.{whole, whole_as};
 ghost use Rattle.amqp_lent.specs.Frames.{Lends, payload_of, raw_of as raw_of_lent};
 
-use crate::payload_parts::{header_parts, method_parts};
+use amqp_canonical::{header_parts, method_parts};
 use amqp_types::{ChannelId, Identifier, ParserError, PayloadSize};
 use amqp_wire::{AMQPFrameType, AMQPRawFrame, ProtocolVersion, judge_frame};
 

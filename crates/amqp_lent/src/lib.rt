@@ -8,16 +8,17 @@ mod errors;
 mod frame;
 mod measuring;
 mod payload_measuring;
-mod payload_parts;
-mod payload_writing;
 mod reading;
+mod sameness;
 mod slot_measuring;
 mod table;
 mod value;
 mod writing;
 
 pub use codec::{LentCodec, canonicalize_lent};
-pub use equality::{equal_lent_errors, equal_lent_frames};
+pub use equality::{
+    equal_lent_arrays, equal_lent_errors, equal_lent_frames, equal_lent_tables, equal_lent_values,
+};
 pub use errors::LentError;
 pub use frame::{LentFrame, lent_frame};
 pub use table::lent_table;

@@ -4,7 +4,7 @@ ghost use Rattle.std.specs.Prelude.{◌≡◌, ◌<◌, ◌^◌, length};
 ghost use Rattle.amqp_types.specs.Methods.{judge_payload, payload_bytes};
 ghost use Rattle.amqp_types.specs.ContentHeaders.{judge_content_header, content_header_bytes};
 ghost use Rattle.amqp_canonical.specs.Writes.{IsRead, canonical_of};
-ghost use Rattle.amqp_lent.specs.Payloads.{header_payload, method_payload};
+ghost use Rattle.amqp_canonical.specs.Payloads.{header_payload, method_payload};
 
 use crate::slot_measuring::{size_properties, size_slots};
 use amqp_canonical::shapes_of;

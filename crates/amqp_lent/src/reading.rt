@@ -16,29 +16,41 @@ use amqp_types::{
     parse_timestamp,
 };
 
-/// Borrows an array, in whose values tables and arrays may nest `room` deep.
+/// Borrows an array, in whose values tables and arrays may nest `depth_left` deep.
 #[tactic(auto, using(crate::proofs::Rereading::fully_next), unfolding(amqp_types::specs::ValueJudging::judge_array))]
-fn read_array<'a>(i: &'a [u8], room: usize) -> Result<(usize, LentArray<'a>), ParserError>
-    requires read { IsRead (judge_array (judge_value room) i.now) }
-    ensures judged { AnswersFully (λ array. array) result (judge_array (judge_value room) i.now) }
+fn read_array<'a>(i: &'a [u8], depth_left: usize) -> Result<(usize, LentArray<'a>), ParserError>
+    requires read { IsRead (judge_array (judge_value depth_left) i.now) }
+    ensures judged { AnswersFully (λ array. array) result (judge_array (judge_value depth_left) i.now) }
     ensures used { IfOk result (λ found. found.0 ≤ length i.now) }
 {
     let (n, content) = parse_long_bytes(i)?;
-    Ok((n, LentArray { content, room }))
+    Ok((
+        n,
+        LentArray {
+            content,
+            depth_left,
+        },
+    ))
 }
 
-/// Borrows a table, in whose values tables and arrays may nest `room` deep.
+/// Borrows a table, in whose values tables and arrays may nest `depth_left` deep.
 #[tactic(auto, using(crate::proofs::Rereading::fully_next), unfolding(amqp_types::specs::ValueJudging::judge_table))]
 pub(crate) fn read_table<'a>(
     i: &'a [u8],
-    room: usize,
+    depth_left: usize,
 ) -> Result<(usize, LentTable<'a>), ParserError>
-    requires read { IsRead (judge_table (judge_value room) i.now) }
-    ensures judged { AnswersFully (λ table. table) result (judge_table (judge_value room) i.now) }
+    requires read { IsRead (judge_table (judge_value depth_left) i.now) }
+    ensures judged { AnswersFully (λ table. table) result (judge_table (judge_value depth_left) i.now) }
     ensures used { IfOk result (λ found. found.0 ≤ length i.now) }
 {
     let (n, content) = parse_long_bytes(i)?;
-    Ok((n, LentTable { content, room }))
+    Ok((
+        n,
+        LentTable {
+            content,
+            depth_left,
+        },
+    ))
 }
 
 /// Reads the value after a tag.
@@ -46,10 +58,10 @@ pub(crate) fn read_table<'a>(
 fn read_after<'a>(
     tag: FieldTag,
     i: &'a [u8],
-    room: usize,
+    depth_left: usize,
 ) -> Result<(usize, LentValue<'a>), ParserError>
-    requires read { IsRead (judge_behind (nested room) tag i.now) }
-    ensures judged { AnswersFully value_of result (judge_behind (nested room) tag i.now) }
+    requires read { IsRead (judge_behind (nested depth_left) tag i.now) }
+    ensures judged { AnswersFully value_of result (judge_behind (nested depth_left) tag i.now) }
     ensures used { IfOk result (λ found. found.0 ≤ length i.now) }
 {
     match tag {
@@ -102,10 +114,10 @@ fn read_after<'a>(
             Ok((n, LentValue::LongString(value)))
         }
         FieldTag::FieldArray => {
-            if room == 0 {
+            if depth_left == 0 {
                 return Err(ParserError::TooDeep);
             }
-            let (n, array) = read_array(i, room - 1)?;
+            let (n, array) = read_array(i, depth_left - 1)?;
             Ok((n, LentValue::FieldArray(array)))
         }
         FieldTag::Timestamp => {
@@ -113,10 +125,10 @@ fn read_after<'a>(
             Ok((n, LentValue::Timestamp(value)))
         }
         FieldTag::FieldTable => {
-            if room == 0 {
+            if depth_left == 0 {
                 return Err(ParserError::TooDeep);
             }
-            let (n, table) = read_table(i, room - 1)?;
+            let (n, table) = read_table(i, depth_left - 1)?;
             Ok((n, LentValue::FieldTable(table)))
         }
         FieldTag::ByteArray => {
@@ -127,10 +139,10 @@ fn read_after<'a>(
     }
 }
 
-/// Reads a tag and its value, in which tables and arrays may nest `room` deep.
-fn read_value<'a>(i: &'a [u8], room: usize) -> Result<(usize, LentValue<'a>), ParserError>
-    requires read { IsRead (judge_value room i.now) }
-    ensures judged { AnswersFully value_of result (judge_value room i.now) }
+/// Reads a tag and its value, in which tables and arrays may nest `depth_left` deep.
+fn read_value<'a>(i: &'a [u8], depth_left: usize) -> Result<(usize, LentValue<'a>), ParserError>
+    requires read { IsRead (judge_value depth_left i.now) }
+    ensures judged { AnswersFully value_of result (judge_value depth_left i.now) }
     ensures used { IfOk result (λ found. found.0 ≤ length i.now) }
 {
     match i {
@@ -138,7 +150,7 @@ fn read_value<'a>(i: &'a [u8], room: usize) -> Result<(usize, LentValue<'a>), Pa
         [byte, ..] => match FieldTag::from_byte(*byte) {
             None => Err(ParserError::UnknownTag),
             Some(tag) => {
-                let (n, value) = read_after(tag, bytes_from(i, 1), room)?;
+                let (n, value) = read_after(tag, bytes_from(i, 1), depth_left)?;
                 Ok((1 + n, value))
             }
         },
@@ -149,36 +161,39 @@ fn read_value<'a>(i: &'a [u8], room: usize) -> Result<(usize, LentValue<'a>), Pa
 #[tactic(auto, using(crate::proofs::Rereading::fully_next), unfolding(amqp_types::specs::ValueJudging::judge_entry))]
 fn read_entry<'a>(
     i: &'a [u8],
-    room: usize,
+    depth_left: usize,
 ) -> Result<(usize, (&'a str, LentValue<'a>)), ParserError>
-    requires read { IsRead (judge_entry (judge_value room) i.now) }
-    ensures { AnswersFully entry_of result (judge_entry (judge_value room) i.now) }
+    requires read { IsRead (judge_entry (judge_value depth_left) i.now) }
+    ensures { AnswersFully entry_of result (judge_entry (judge_value depth_left) i.now) }
 {
     let (n, key) = parse_short_str(i)?;
-    let (m, value) = read_value(bytes_from(i, n), room)?;
+    let (m, value) = read_value(bytes_from(i, n), depth_left)?;
     Ok((n + m, (key, value)))
 }
 
 /// The value that was decoded at the front.
-fn value_in<'a>(i: &'a [u8], room: usize) -> Option<LentValue<'a>>
-    requires read { IsRead (judge_value room i.now) }
-    ensures { option_map value_of result ≡ taken (judge_value room i.now) }
+fn value_in<'a>(i: &'a [u8], depth_left: usize) -> Option<LentValue<'a>>
+    requires read { IsRead (judge_value depth_left i.now) }
+    ensures { option_map value_of result ≡ taken (judge_value depth_left i.now) }
 {
-    match read_value(i, room) {
+    match read_value(i, depth_left) {
         Ok((_, value)) => Some(value),
         Err(_) => None,
     }
 }
 
 /// The first of the values that fill an array, and the bytes of the others.
-pub(crate) fn first_item<'a>(content: &'a [u8], room: usize) -> Option<(LentValue<'a>, &'a [u8])>
-    requires read { IsFilled (filled (judge_value room) 0 content.now) }
-    ensures left { IfSome result (λ found. IsFilled (filled (judge_value room) 0 found.1.now)) }
-    ensures first { StartsWith room content.now (option_map (λ found. (value_of found.0, found.1.now)) result) }
+pub(crate) fn first_item<'a>(
+    content: &'a [u8],
+    depth_left: usize,
+) -> Option<(LentValue<'a>, &'a [u8])>
+    requires read { IsFilled (filled (judge_value depth_left) 0 content.now) }
+    ensures left { IfSome result (λ found. IsFilled (filled (judge_value depth_left) 0 found.1.now)) }
+    ensures first { StartsWith depth_left content.now (option_map (λ found. (value_of found.0, found.1.now)) result) }
 {
     match content {
         [] => None,
-        [_, ..] => match value_in(content, room) {
+        [_, ..] => match value_in(content, depth_left) {
             Some(item) => Some((item, bytes_from(content, value_size(content)))),
             None => None,
         },
@@ -186,11 +201,11 @@ pub(crate) fn first_item<'a>(content: &'a [u8], room: usize) -> Option<(LentValu
 }
 
 /// The key and the value that were decoded at the front.
-pub(crate) fn entry_in<'a>(i: &'a [u8], room: usize) -> Option<(&'a str, LentValue<'a>)>
-    requires read { IsRead (judge_entry (judge_value room) i.now) }
-    ensures { option_map entry_of result ≡ taken (judge_entry (judge_value room) i.now) }
+pub(crate) fn entry_in<'a>(i: &'a [u8], depth_left: usize) -> Option<(&'a str, LentValue<'a>)>
+    requires read { IsRead (judge_entry (judge_value depth_left) i.now) }
+    ensures { option_map entry_of result ≡ taken (judge_entry (judge_value depth_left) i.now) }
 {
-    match read_entry(i, room) {
+    match read_entry(i, depth_left) {
         Ok((_, entry)) => Some(entry),
         Err(_) => None,
     }

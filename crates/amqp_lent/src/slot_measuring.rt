@@ -1,46 +1,44 @@
 //! How many canonical bytes there are for fields and properties that were decoded before.
 
-ghost use Rattle.std.specs.Prelude.{◌≡◌, ◌<◌, ◌^◌, length};
+ghost use Rattle.std.specs.Prelude.{◌≡◌, ◌<◌, ◌^◌, true, length};
 ghost use Rattle.amqp_types.specs.Properties.{properties};
 ghost use Rattle.amqp_types.specs.PropertyJudging.{judge_properties, judge_set};
 ghost use Rattle.amqp_types.specs.PropertyBytes.{properties_bytes, set_bytes};
 ghost use Rattle.amqp_types.specs.SlotBytes.{form_bytes, slots_bytes};
 ghost use Rattle.amqp_types.specs.SlotJudging.{judge_form, judge_slot, judge_slots};
-ghost use Rattle.amqp_canonical.specs.Shapes.{form_of, slot_of, slots_of};
+ghost use Rattle.amqp_canonical.specs.Shapes.{form_of, slot_of, has_constant, slots_of, have_constants};
 ghost use Rattle.amqp_canonical.specs.Writes.{IsRead, canonical_of, slot_bytes};
 
 use crate::measuring::size_table;
-use amqp_canonical::{Shape, bytes_from, has_bit, property_shapes, slot_size};
+use amqp_canonical::{Form, Slot, bytes_from, form_size, has_bit, property_shapes, slot_size};
 use amqp_types::{INNER_DEPTH, parse_short_uint};
 
-/// The size in canonical bytes of what is encoded as a field of this shape, reserved or not.
-fn size_form(shape: Shape, i: &[u8]) -> usize
-    requires read { IsRead (judge_form (form_of shape) i.now) }
-    ensures { result ≡ length (canonical_of (form_bytes (form_of shape)) (judge_form (form_of shape) i.now)) }
+/// The size in canonical bytes of what is encoded so.
+fn size_form(form: Form, i: &[u8]) -> usize
+    requires read { IsRead (judge_form (form_of form) i.now) }
+    ensures { result ≡ length (canonical_of (form_bytes (form_of form)) (judge_form (form_of form) i.now)) }
 {
-    match shape {
-        Shape::Table => size_table(i, INNER_DEPTH),
-        other => slot_size(other, i),
+    match form {
+        Form::Table => size_table(i, INNER_DEPTH),
+        other => form_size(other, i),
     }
 }
 
 /// The size of a field in canonical bytes.
-fn size_slot(shape: Shape, i: &[u8]) -> usize
-    requires read { IsRead (judge_slot (slot_of shape) i.now) }
-    ensures { result ≡ length (canonical_of (slot_bytes (slot_of shape)) (judge_slot (slot_of shape) i.now)) }
+fn size_slot(slot: Slot, i: &[u8]) -> usize
+    requires constant { has_constant slot ≡ true }
+    requires read { IsRead (judge_slot (slot_of slot) i.now) }
+    ensures { result ≡ length (canonical_of (slot_bytes (slot_of slot)) (judge_slot (slot_of slot) i.now)) }
 {
-    match shape {
-        Shape::ReservedShort(_) => 2,
-        Shape::ReservedLong(_) => 4,
-        Shape::ReservedFlag => 1,
-        Shape::ReservedShortString => 1,
-        Shape::ReservedLongString => 4,
-        kept => size_form(kept, i),
+    match slot {
+        Slot::Kept(form) => size_form(form, i),
+        Slot::Reserved(_, constant) => constant.len(),
     }
 }
 
 /// The size in canonical bytes of fields of these shapes.
-pub(crate) fn size_slots(shapes: &[Shape], i: &[u8]) -> usize
+pub(crate) fn size_slots(shapes: &[Slot], i: &[u8]) -> usize
+    requires constants { have_constants shapes.now ≡ true }
     requires read { IsRead (judge_slots (slots_of shapes.now) i.now) }
     requires few { length (canonical_of (slots_bytes (slots_of shapes.now)) (judge_slots (slots_of shapes.now) i.now)) < 2 ^ 32 }
     ensures { result ≡ length (canonical_of (slots_bytes (slots_of shapes.now)) (judge_slots (slots_of shapes.now) i.now)) }
@@ -66,7 +64,7 @@ fn size_set(mask: u16, i: &[u8]) -> usize
     for shape in shapes {
         if has_bit(mask, shape.0) {
             total += size_form(shape.1, rest);
-            rest = bytes_from(rest, slot_size(shape.1, rest));
+            rest = bytes_from(rest, form_size(shape.1, rest));
         }
     }
     total

@@ -35,7 +35,7 @@ fn has_key(entry: &[u8], key: &[u8]) -> bool
 
 /// The place of the last of the entries that fill a table with this key.
 fn last_entry(content: &[u8], key: &[u8]) -> Option<usize>
-    ensures { (room : ℕ) → AreEntries room content.now → FindsLast room content.now key.now (entries_in room content.now) result }
+    ensures { (depth_left : ℕ) → AreEntries depth_left content.now → FindsLast depth_left content.now key.now (entries_in depth_left content.now) result }
 {
     let mut found = None;
     let mut at = 0;
@@ -50,12 +50,16 @@ fn last_entry(content: &[u8], key: &[u8]) -> Option<usize>
 }
 
 /// The value of the last of the entries that fill a table with this key.
-pub(crate) fn value_of_key<'a>(content: &'a [u8], room: usize, key: &[u8]) -> Option<LentValue<'a>>
-    requires read { AreEntries room content.now }
-    ensures { option_map value_of result ≡ last_at key.now (entries_in room content.now) }
+pub(crate) fn value_of_key<'a>(
+    content: &'a [u8],
+    depth_left: usize,
+    key: &[u8],
+) -> Option<LentValue<'a>>
+    requires read { AreEntries depth_left content.now }
+    ensures { option_map value_of result ≡ last_at key.now (entries_in depth_left content.now) }
 {
     match last_entry(content, key) {
-        Some(place) => match entry_in(bytes_from(content, place), room) {
+        Some(place) => match entry_in(bytes_from(content, place), depth_left) {
             Some((_, value)) => Some(value),
             None => None,
         },
@@ -66,14 +70,14 @@ pub(crate) fn value_of_key<'a>(content: &'a [u8], room: usize, key: &[u8]) -> Op
 /// The entry with the least key after the last one, where there is a last one, among those that fill a table.
 pub(crate) fn entry_after<'a>(
     content: &'a [u8],
-    room: usize,
+    depth_left: usize,
     last: Option<&[u8]>,
 ) -> Option<(&'a str, LentValue<'a>)>
-    requires read { AreEntries room content.now }
-    ensures { FindsAfter (option_map (λ key. key.now) last.entry) (settled (entries_in room content.now)) (option_map entry_of result) }
+    requires read { AreEntries depth_left content.now }
+    ensures { FindsAfter (option_map (λ key. key.now) last.entry) (settled (entries_in depth_left content.now)) (option_map entry_of result) }
 {
     match next_entry(content, last) {
-        Some((place, _)) => entry_in(bytes_from(content, place), room),
+        Some((place, _)) => entry_in(bytes_from(content, place), depth_left),
         None => None,
     }
 }

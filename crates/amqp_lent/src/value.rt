@@ -1,6 +1,6 @@
 //! Values, arrays and tables that are borrowed from bytes that were decoded before.
 
-ghost use Rattle.std.specs.Prelude.{◌≡◌, option_map};
+ghost use Rattle.std.specs.Prelude.{◌≡◌, option_map, ⊤};
 ghost use Rattle.amqp_types.specs.Settling.{value_at};
 ghost use Rattle.amqp_lent.specs.Finding.{FindsAfter};
 
@@ -10,6 +10,7 @@ use amqp_types::{
     Boolean, DecimalValue, Double, Float, LongInt, LongLongInt, LongUInt, ShortInt, ShortShortInt,
     ShortShortUInt, ShortUInt, Timestamp,
 };
+use std::alloc::AllocError;
 use std::marker::Model;
 
 /// A value in a table or an array (AMQP 0-9-1, section 4.2.5.5). Strings, arrays and tables are borrowed.
@@ -73,7 +74,7 @@ pub struct LentArray<'a> {
     pub(crate) content: &'a [u8],
 
     /// How deep tables and arrays may nest in the values.
-    pub(crate) room: usize,
+    pub(crate) depth_left: usize,
 }
 
 /// Keys and their values, which stand one after another in borrowed bytes in any order. In contracts it is the table:
@@ -83,7 +84,7 @@ pub struct LentTable<'a> {
     pub(crate) content: &'a [u8],
 
     /// How deep tables and arrays may nest in the values.
-    pub(crate) room: usize,
+    pub(crate) depth_left: usize,
 }
 
 /// The values of an array that are still to come.
@@ -92,7 +93,7 @@ pub struct LentItems<'a> {
     content: &'a [u8],
 
     /// How deep tables and arrays may nest in the values.
-    room: usize,
+    depth_left: usize,
 }
 
 impl<'a> Model for LentArray<'a> {
@@ -107,9 +108,9 @@ impl<'a> Model for LentArray<'a> {
 
     ghost coded = { coded_list value_code };
 
-    ghost view = { λ array. items_of (filled (judge_value array.room) 0 array.content.now) };
+    ghost view = { λ array. items_of (filled (judge_value array.depth_left) 0 array.content.now) };
 
-    ghost invariant = { λ array. IsFilled (filled (judge_value array.room) 0 array.content.now) };
+    ghost invariant = { λ array. IsFilled (filled (judge_value array.depth_left) 0 array.content.now) };
 }
 
 impl<'a> Model for LentTable<'a> {
@@ -124,9 +125,9 @@ impl<'a> Model for LentTable<'a> {
 
     ghost coded = { coded_list (coded× (coded_list coded_ℕ) value_code) };
 
-    ghost view = { λ table. settled (entries_in table.room table.content.now) };
+    ghost view = { λ table. settled (entries_in table.depth_left table.content.now) };
 
-    ghost invariant = { λ table. AreEntries table.room table.content.now };
+    ghost invariant = { λ table. AreEntries table.depth_left table.content.now };
 }
 
 impl<'a> Model for LentItems<'a> {
@@ -141,9 +142,63 @@ impl<'a> Model for LentItems<'a> {
 
     ghost coded = { coded_list value_code };
 
-    ghost view = { λ items. items_of (filled (judge_value items.room) 0 items.content.now) };
+    ghost view = { λ items. items_of (filled (judge_value items.depth_left) 0 items.content.now) };
 
-    ghost invariant = { λ items. IsFilled (filled (judge_value items.room) 0 items.content.now) };
+    ghost invariant = { λ items. IsFilled (filled (judge_value items.depth_left) 0 items.content.now) };
+}
+
+impl<'a> Clone for LentArray<'a> {
+    ghost is_clone = { λ array copied. copied ≡ array };
+
+    ghost is_infallible = { λ _. ⊤ };
+
+    fn clone(&self) -> Result<LentArray<'a>, AllocError> {
+        Ok(LentArray {
+            content: self.content,
+            depth_left: self.depth_left,
+        })
+    }
+}
+
+impl<'a> Clone for LentTable<'a> {
+    ghost is_clone = { λ table copied. copied ≡ table };
+
+    ghost is_infallible = { λ _. ⊤ };
+
+    fn clone(&self) -> Result<LentTable<'a>, AllocError> {
+        Ok(LentTable {
+            content: self.content,
+            depth_left: self.depth_left,
+        })
+    }
+}
+
+impl<'a> Clone for LentValue<'a> {
+    ghost is_clone = { λ value copied. copied ≡ value };
+
+    ghost is_infallible = { λ _. ⊤ };
+
+    fn clone(&self) -> Result<LentValue<'a>, AllocError> {
+        Ok(match self {
+            LentValue::Boolean(value) => LentValue::Boolean(*value),
+            LentValue::ShortShortInt(value) => LentValue::ShortShortInt(*value),
+            LentValue::ShortShortUInt(value) => LentValue::ShortShortUInt(*value),
+            LentValue::ShortInt(value) => LentValue::ShortInt(*value),
+            LentValue::ShortUInt(value) => LentValue::ShortUInt(*value),
+            LentValue::LongInt(value) => LentValue::LongInt(*value),
+            LentValue::LongUInt(value) => LentValue::LongUInt(*value),
+            LentValue::LongLongInt(value) => LentValue::LongLongInt(*value),
+            LentValue::Float(value) => LentValue::Float(*value),
+            LentValue::Double(value) => LentValue::Double(*value),
+            LentValue::DecimalValue(value) => LentValue::DecimalValue(*value),
+            LentValue::LongString(value) => LentValue::LongString(value),
+            LentValue::FieldArray(array) => LentValue::FieldArray(array.clone()?),
+            LentValue::Timestamp(value) => LentValue::Timestamp(*value),
+            LentValue::FieldTable(table) => LentValue::FieldTable(table.clone()?),
+            LentValue::ByteArray(value) => LentValue::ByteArray(value),
+            LentValue::Void => LentValue::Void,
+        })
+    }
 }
 
 impl<'a> LentTable<'a> {
@@ -153,7 +208,7 @@ impl<'a> LentTable<'a> {
     pub fn get(&self, key: &str) -> Option<LentValue<'a>>
         ensures { option_map value_of result ≡ value_at key.now self.now }
     {
-        value_of_key(self.content, self.room, key.as_bytes())
+        value_of_key(self.content, self.depth_left, key.as_bytes())
     }
 
     /// The entry with the least key above a given one, or with the least of all, if there is one. The entries are
@@ -165,7 +220,7 @@ impl<'a> LentTable<'a> {
             Some(text) => Some(text.as_bytes()),
             None => None,
         };
-        entry_after(self.content, self.room, last)
+        entry_after(self.content, self.depth_left, last)
     }
 }
 
@@ -176,7 +231,7 @@ impl<'a> LentArray<'a> {
     {
         LentItems {
             content: self.content,
-            room: self.room,
+            depth_left: self.depth_left,
         }
     }
 }
@@ -192,7 +247,7 @@ impl<'a> Iterator for LentItems<'a> {
     ghost remaining = { item_count (λ rest. rest) };
 
     fn next(&mut self) -> Option<LentValue<'a>> {
-        let (item, rest) = first_item(self.content, self.room)?;
+        let (item, rest) = first_item(self.content, self.depth_left)?;
         self.content = rest;
         Some(item)
     }

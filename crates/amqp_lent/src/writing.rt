@@ -9,12 +9,12 @@ ghost use Rattle.amqp_wire.specs.Canonical.{SliceAnswers, canon};
 ghost use Rattle.amqp_wire.specs.Frames.{Frame};
 ghost use Rattle.amqp_wire.specs.Spelling.{framed};
 ghost use Rattle.amqp_lent.specs.Frames.{IsFrame, StandsFor, payload_of};
-ghost use Rattle.amqp_lent.specs.Payloads.{header_payload, method_payload};
+ghost use Rattle.amqp_canonical.specs.Payloads.{header_payload, method_payload};
 ghost use Rattle.amqp_types.specs.Constants.{header_byte, method_byte};
 
 use crate::frame::LentFrame;
 use crate::payload_measuring::{size_header, size_method};
-use crate::payload_writing::{put_header, put_method};
+use amqp_canonical::{put_header, put_method};
 use amqp_types::{
     ChannelId, FRAME_BODY, FRAME_HEADER, FRAME_METHOD, GenError, Identifier, PayloadSize, put_bytes,
 };
@@ -59,7 +59,7 @@ fn put_method_frame(
     requires room { length (framed method_byte channel (canonical_of payload_bytes (judge_payload (method_payload class id slots.now)))) ≤ length buf.old }
     ensures { Puts buf.old buf.new 0 (framed method_byte channel (canonical_of payload_bytes (judge_payload (method_payload class id slots.now)))) result }
 {
-    let end = put_method(buf, 7, class, id, slots);
+    let end = put_method(buf, 7, &mut [], class, id, slots);
     put_around(buf, 0, end, FRAME_METHOD, channel)
 }
 
@@ -78,7 +78,7 @@ fn put_header_frame(
     ensures { Puts buf.old buf.new 0
         (framed header_byte channel (canonical_of content_header_bytes (judge_content_header (header_payload class body_size properties.now)))) result }
 {
-    let end = put_header(buf, 7, class, body_size, properties);
+    let end = put_header(buf, 7, &mut [], class, body_size, properties);
     put_around(buf, 0, end, FRAME_HEADER, channel)
 }
 

@@ -1,65 +1,33 @@
 -- What fields and properties are rendered as, one after another.
-use Rattle.std.proofs.Common.{◌≡◌, ℕ, ◌+◌, ◌<◌, ◌≤◌, Bool, true, false, List, [], ◌∷◌, ◌++◌, length, get_or, drop, map, Result, Ok, Err, refl, sym, ap, subst, ◌∙◌, append_assoc, append-nil, arith}
+use Rattle.std.proofs.Common.{Bor, ◌≡◌, ℕ, ◌+◌, ◌<◌, ◌≤◌, Bool, true, false, List, [], ◌∷◌, ◌++◌, length, get_or, drop, map, Result, Ok, Err, refl, sym, ap, subst, ◌∙◌, append_assoc, append-nil, arith}
 use Rattle.std.specs.Prelude.{codes}
 use Rattle.amqp_types.specs.Judging.{Judged, Judge, took, past, fault, ◌>>=◌}
 use Rattle.amqp_types.specs.Flags.{flag_at}
 use Rattle.amqp_types.specs.Numbers.{bytes2, judge_number}
 use Rattle.amqp_types.specs.Properties.{properties}
-use Rattle.amqp_types.specs.Slots.{Item, Slot, kept_slot, reserved_slot}
 use Rattle.amqp_types.specs.SlotJudging.{judge_form}
 use Rattle.amqp_types.specs.declared.errors.NoMemory.{NoMemory}
-use Rattle.amqp_canonical.specs.declared.shapes.Shape.{Shape}
-use Rattle.amqp_canonical.specs.declared.shapes.Shape.TheVariants as shapes
+use Rattle.amqp_canonical.specs.declared.shapes.Form.{Form}
+use Rattle.amqp_canonical.specs.declared.shapes.Slot.{Slot}
+use Rattle.amqp_canonical.specs.declared.shapes.Slot.TheVariants as slots
 use Rattle.amqp_canonical.specs.Shapes.{form_of, property_of, slot_of, slots_of}
 use Rattle.amqp_canonical.specs.Writes.{IsRead}
 use Rattle.amqp_lines.specs.Slots.{property_name}
-use Rattle.amqp_lines.specs.Rendering.{Says, Renders, is_reserved, rendered_form, rendered_option, rendered_properties, rendered_set, rendered_slot, rendered_slots}
+use Rattle.amqp_lines.specs.Rendering.{Says, Renders, rendered_form, rendered_option, rendered_properties, rendered_set, rendered_slot, rendered_slots}
 use Rattle.amqp_types.specs.Tidiness.{used_by}
 
 -- ---- one field
-
--- which field a shape stands for
-pub kept : (shape : Shape) → is_reserved (slot_of shape) ≡ false → slot_of shape ≡ kept_slot (form_of shape)
-kept shapes.Octet e = refl
-kept shapes.Short e = refl
-kept shapes.Long e = refl
-kept shapes.LongLong e = refl
-kept (shapes.Flags count) e = refl
-kept shapes.ShortString e = refl
-kept shapes.LongString e = refl
-kept shapes.Table e = refl
-kept (shapes.ReservedShort n) e = absurd cc
-kept (shapes.ReservedLong n) e = absurd cc
-kept shapes.ReservedFlag e = absurd cc
-kept shapes.ReservedShortString e = absurd cc
-kept shapes.ReservedLongString e = absurd cc
-
-pub reserved : (shape : Shape) → is_reserved (slot_of shape) ≡ true → (constant : List Item) × (slot_of shape ≡ reserved_slot (form_of shape) constant)
-reserved shapes.Octet e = absurd cc
-reserved shapes.Short e = absurd cc
-reserved shapes.Long e = absurd cc
-reserved shapes.LongLong e = absurd cc
-reserved (shapes.Flags count) e = absurd cc
-reserved shapes.ShortString e = absurd cc
-reserved shapes.LongString e = absurd cc
-reserved shapes.Table e = absurd cc
-reserved (shapes.ReservedShort n) e = (_, refl)
-reserved (shapes.ReservedLong n) e = (_, refl)
-reserved shapes.ReservedFlag e = (_, refl)
-reserved shapes.ReservedShortString e = (_, refl)
-reserved shapes.ReservedLongString e = (_, refl)
 
 dropped : {A : Type 0} (j : Judged A) (old : List ℕ) (n : ℕ) → (IsRead j → n ≡ used_by j) → Renders (j >>= λ x. took [] x.1) old old (Ok n)
 dropped (took x used) old n h = (h tt, sym (append-nil old))
 dropped past old n h = tt
 dropped (fault bad) old n h = tt
 
-pub reserved_rendered : (shape : Shape) (i old : List ℕ) (n : ℕ) → is_reserved (slot_of shape) ≡ true → (IsRead (judge_form (form_of shape) i) → n ≡ used_by (judge_form (form_of shape) i)) → Renders (rendered_slot (slot_of shape) i) old old (Ok n)
+pub reserved_rendered : (slot : Slot) (form : Form) (constant : Bor (List ℕ)) (i old : List ℕ) (n : ℕ) → slot ≡ slots.Reserved form constant → (IsRead (judge_form (form_of form) i) → n ≡ used_by (judge_form (form_of form) i)) → Renders (rendered_slot (slot_of slot) i) old old (Ok n)
 unfolding rendered_slot
-reserved_rendered shape i old n e h =
-    let is = reserved shape e in
-    let P : Slot → Type 0 = λ slot. Renders (rendered_slot slot i) old old (Ok n) in
-    subst P (sym is.1) (dropped (judge_form (form_of shape) i) old n h)
+reserved_rendered slot form constant i old n is h =
+    let P : Slot → Type 0 = λ s. Renders (rendered_slot (slot_of s) i) old old (Ok n) in
+    subst P (sym is) (dropped (judge_form (form_of form) i) old n h)
 
 spaced : (j : Judged (List ℕ)) (old mid new : List ℕ) (r : Result ℕ NoMemory) → mid ≡ old ++ codes " " → Renders j mid new r → Renders (j >>= λ x. took (codes " " ++ x.0) x.1) old new r
 spaced (took text used) old mid new (Ok n) e h = (h.0, h.1 ∙ ap (λ (xs : List ℕ). xs ++ text) e ∙ append_assoc old (codes " ") text)
@@ -67,11 +35,11 @@ spaced (took text used) old mid new (Err error) e h = tt
 spaced past old mid new r e h = tt
 spaced (fault bad) old mid new r e h = tt
 
-pub kept_rendered : (shape : Shape) (i old mid new : List ℕ) (r : Result ℕ NoMemory) → is_reserved (slot_of shape) ≡ false → mid ≡ old ++ codes " " → Renders (rendered_form (form_of shape) i) mid new r → Renders (rendered_slot (slot_of shape) i) old new r
+pub kept_rendered : (slot : Slot) (form : Form) (i old mid new : List ℕ) (r : Result ℕ NoMemory) → slot ≡ slots.Kept form → mid ≡ old ++ codes " " → Renders (rendered_form (form_of form) i) mid new r → Renders (rendered_slot (slot_of slot) i) old new r
 unfolding rendered_slot
-kept_rendered shape i old mid new r e space h =
-    let P : Slot → Type 0 = λ slot. Renders (rendered_slot slot i) old new r in
-    subst P (sym (kept shape e)) (spaced (rendered_form (form_of shape) i) old mid new r space h)
+kept_rendered slot form i old mid new r is space h =
+    let P : Slot → Type 0 = λ s. Renders (rendered_slot (slot_of s) i) old new r in
+    subst P (sym is) (spaced (rendered_form (form_of form) i) old mid new r space h)
 
 -- ---- fields, one after another
 
@@ -88,12 +56,12 @@ first (took text n) others i rest old mid new used r one e h =
     let P : List ℕ → Type 0 = λ bytes. Says (others bytes) mid new r in
     second (others (drop n i)) text old mid new n r one.1 (subst P (e ∙ ap (λ k. drop k i) one.0) h)
 
-pub no_slots : (shapes : List Shape) (i old : List ℕ) → length shapes < 1 → Says (rendered_slots (slots_of shapes) i) old old (Ok tt)
+pub no_slots : (shapes : List Slot) (i old : List ℕ) → length shapes < 1 → Says (rendered_slots (slots_of shapes) i) old old (Ok tt)
 unfolding rendered_slots
 no_slots [] i old h = sym (append-nil old)
 no_slots (shape ∷ shapes) i old h = absurd (omega arith)
 
-pub slots_rendered : (shapes : List Shape) (other : Shape) (i rest old mid new : List ℕ) (used : ℕ) (r : Result (Unit {0}) NoMemory) → 1 ≤ length shapes → Renders (rendered_slot (slot_of (get_or shapes 0 other)) i) old mid (Ok used) → rest ≡ drop used i → Says (rendered_slots (slots_of (drop 1 shapes)) rest) mid new r
+pub slots_rendered : (shapes : List Slot) (other : Slot) (i rest old mid new : List ℕ) (used : ℕ) (r : Result (Unit {0}) NoMemory) → 1 ≤ length shapes → Renders (rendered_slot (slot_of (get_or shapes 0 other)) i) old mid (Ok used) → rest ≡ drop used i → Says (rendered_slots (slots_of (drop 1 shapes)) rest) mid new r
     → Says (rendered_slots (slots_of shapes) i) old new r
 unfolding rendered_slots
 slots_rendered [] other i rest old mid new used r some one e h = absurd (omega arith)
@@ -101,7 +69,7 @@ slots_rendered (shape ∷ shapes) other i rest old mid new used r some one e h =
 
 -- ---- properties
 
-pub no_options : (mask : ℕ) (shapes : List (ℕ × Shape)) (i old : List ℕ) → length shapes < 1 → Says (rendered_set mask (map property_of shapes) i) old old (Ok tt)
+pub no_options : (mask : ℕ) (shapes : List (ℕ × Form)) (i old : List ℕ) → length shapes < 1 → Says (rendered_set mask (map property_of shapes) i) old old (Ok tt)
 unfolding rendered_set
 no_options mask [] i old h = sym (append-nil old)
 no_options mask (shape ∷ shapes) i old h = absurd (omega arith)
@@ -112,7 +80,7 @@ passed (took text n) old new (Err error) h = tt
 passed past old new r h = tt
 passed (fault bad) old new r h = tt
 
-pub option_past : (mask : ℕ) (shapes : List (ℕ × Shape)) (other : ℕ × Shape) (i old new : List ℕ) (r : Result (Unit {0}) NoMemory) → 1 ≤ length shapes → flag_at mask (get_or shapes 0 other).0 ≡ false → Says (rendered_set mask (map property_of (drop 1 shapes)) i) old new r → Says (rendered_set mask (map property_of shapes) i) old new r
+pub option_past : (mask : ℕ) (shapes : List (ℕ × Form)) (other : ℕ × Form) (i old new : List ℕ) (r : Result (Unit {0}) NoMemory) → 1 ≤ length shapes → flag_at mask (get_or shapes 0 other).0 ≡ false → Says (rendered_set mask (map property_of (drop 1 shapes)) i) old new r → Says (rendered_set mask (map property_of shapes) i) old new r
 unfolding rendered_set rendered_option
 option_past mask [] other i old new r some e h = absurd (omega arith)
 option_past mask (shape ∷ shapes) other i old new r some e h =
@@ -125,7 +93,7 @@ named (fault bad) name old mid new used e h = tt
 named (took text n) name old mid new used e h =
     (h.0, h.1 ∙ ap (λ (xs : List ℕ). xs ++ text) e ∙ append_assoc old (codes " " ++ (name ++ codes "=")) text ∙ ap (λ (xs : List ℕ). old ++ (codes " " ++ xs)) (append_assoc name (codes "=") text))
 
-pub option_rendered : (mask : ℕ) (shapes : List (ℕ × Shape)) (other : ℕ × Shape) (i rest old a b new : List ℕ) (used : ℕ) (r : Result (Unit {0}) NoMemory) → 1 ≤ length shapes → flag_at mask (get_or shapes 0 other).0 ≡ true
+pub option_rendered : (mask : ℕ) (shapes : List (ℕ × Form)) (other : ℕ × Form) (i rest old a b new : List ℕ) (used : ℕ) (r : Result (Unit {0}) NoMemory) → 1 ≤ length shapes → flag_at mask (get_or shapes 0 other).0 ≡ true
     → a ≡ old ++ (codes " " ++ (property_name (get_or shapes 0 other).0 ++ codes "=")) → Renders (rendered_form (form_of (get_or shapes 0 other).1) i) a b (Ok used) → rest ≡ drop used i → Says (rendered_set mask (map property_of (drop 1 shapes)) rest) b new r
     → Says (rendered_set mask (map property_of shapes) i) old new r
 unfolding rendered_set rendered_option

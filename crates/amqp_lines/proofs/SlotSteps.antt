@@ -1,50 +1,50 @@
 -- What calls read of fields and properties, step by step.
-use Rattle.std.proofs.Common.{◌≡◌, ℕ, zero, suc, ◌+◌, ◌-◌, ◌*◌, ◌%◌, ◌^◌, ◌<◌, ◌≤◌, List, [], ◌∷◌, ◌++◌, length, get_or, drop, map, Bool, true, false, cond, Option, Some, None, Result, Ok, Err, refl, sym, ap, ap₂, subst, ◌∙◌, append_assoc, append-nil, arith}
+use Rattle.std.proofs.Common.{Bor, ◌≡◌, ℕ, zero, suc, ◌+◌, ◌-◌, ◌*◌, ◌%◌, ◌^◌, ◌<◌, ◌≤◌, List, [], ◌∷◌, ◌++◌, length, get_or, drop, map, Bool, true, false, cond, Option, Some, None, Result, Ok, Err, refl, sym, ap, ap₂, subst, ◌∙◌, append_assoc, append-nil, arith}
 use Rattle.std.specs.Prelude.{codes, ◌==◌}
 use Rattle.std.proofs.lemmas.List.{length-append}
 use Rattle.amqp_types.specs.Numbers.{bytes2, number_bytes}
-use Rattle.amqp_types.specs.Slots.{Slot}
 use Rattle.amqp_types.specs.Properties.{Property, properties}
 use Rattle.amqp_types.specs.Writing.{written}
-use Rattle.amqp_canonical.specs.declared.shapes.Shape.{Shape}
-use Rattle.amqp_canonical.specs.Shapes.{form_of, property_of, slot_of, slots_of}
+use Rattle.amqp_canonical.specs.declared.shapes.Form.{Form}
+use Rattle.amqp_canonical.specs.declared.shapes.Slot.{Slot}
+use Rattle.amqp_canonical.specs.declared.shapes.Slot.TheVariants as slots
+use Rattle.amqp_canonical.proofs.Constants.{constant_put}
+use Rattle.amqp_canonical.specs.Shapes.{form_of, property_of, slot_of, has_constant, slots_of}
 use Rattle.amqp_lines.specs.declared.errors.TextError.{TextError}
 use Rattle.amqp_lines.specs.declared.errors.TextError.TheVariants as texts
 use Rattle.amqp_lines.specs.Slots.{property_name}
-use Rattle.amqp_lines.specs.Rendering.{is_reserved}
 use Rattle.amqp_types.specs.Reading.{Reading, ◌>>=◌}
-use Rattle.amqp_lines.specs.Reading.{first_is, read_form, read_slot, read_slots, strip, named, read_option, read_set, read_properties, constant_bytes, ReadsWord, ReadsSet, FindsText}
+use Rattle.amqp_lines.specs.Reading.{first_is, read_form, read_slot, read_slots, strip, named, read_option, read_set, read_properties, ReadsWord, ReadsSet, FindsText}
 use Rattle.amqp_lines.proofs.ReadWords.{chosen, other}
 use Rattle.amqp_lines.proofs.ReadSteps.{failed, both_read, put_at}
-use Rattle.amqp_lines.proofs.RenderedSlots.{kept, reserved}
 
 -- ---- fields
 
-pub constant_read : {K : Type 0} (view : K → List ℕ) (shape : Shape) (rest : K) (old new : List ℕ) → is_reserved (slot_of shape) ≡ true → new ≡ old ++ constant_bytes (slot_of shape) → ReadsWord view (read_slot (slot_of shape) (view rest)) old new (Ok rest)
+pub constant_read : {K : Type 0} (view : K → List ℕ) (slot : Slot) (form : Form) (constant : Bor (List ℕ)) (rest : K) (old new : List ℕ) → slot ≡ slots.Reserved form constant → has_constant slot ≡ true → new ≡ old ++ constant.now
+    → ReadsWord view (read_slot (slot_of slot) (view rest)) old new (Ok rest)
 unfolding read_slot
-constant_read view shape rest old new e h =
-    let is = reserved shape e in
-    let P : Slot → Type 0 = λ slot. new ≡ old ++ constant_bytes slot → ReadsWord view (read_slot slot (view rest)) old new (Ok rest) in
-    subst P (sym is.1) (λ k. (refl, k)) h
+constant_read view slot form constant rest old new is there h =
+    let P : Slot → Type 0 = λ s. has_constant s ≡ true → ReadsWord view (read_slot (slot_of s) (view rest)) old new (Ok rest) in
+    subst P (sym is) (λ has. (refl, h ∙ ap (λ bs. old ++ bs) (sym (constant_put (form_of form) constant.now has)))) there
 
-pub kept_read : {K : Type 0} (view : K → List ℕ) (shape : Shape) (text next old new : List ℕ) (r : Result K TextError) → is_reserved (slot_of shape) ≡ false → next ≡ drop 1 text → ReadsWord view (read_form (form_of shape) next) old new r → ReadsWord view (read_slot (slot_of shape) text) old new r
+pub kept_read : {K : Type 0} (view : K → List ℕ) (slot : Slot) (form : Form) (text next old new : List ℕ) (r : Result K TextError) → slot ≡ slots.Kept form → next ≡ drop 1 text → ReadsWord view (read_form (form_of form) next) old new r → ReadsWord view (read_slot (slot_of slot) text) old new r
 unfolding read_slot
-kept_read view shape text next old new r e at h =
-    let P : Slot → Type 0 = λ slot. ReadsWord view (read_slot slot text) old new r in
-    let Q : List ℕ → Type 0 = λ t. ReadsWord view (read_form (form_of shape) t) old new r in
-    subst P (sym (kept shape e)) (subst Q at h)
+kept_read view slot form text next old new r is at h =
+    let P : Slot → Type 0 = λ s. ReadsWord view (read_slot (slot_of s) text) old new r in
+    let Q : List ℕ → Type 0 = λ t. ReadsWord view (read_form (form_of form) t) old new r in
+    subst P (sym is) (subst Q at h)
 
-pub slots_none : {K : Type 0} (view : K → List ℕ) (shapes : List Shape) (rest : K) (old : List ℕ) → length shapes < 1 → ReadsWord view (read_slots (slots_of shapes) (view rest)) old old (Ok rest)
+pub slots_none : {K : Type 0} (view : K → List ℕ) (shapes : List Slot) (rest : K) (old : List ℕ) → length shapes < 1 → ReadsWord view (read_slots (slots_of shapes) (view rest)) old old (Ok rest)
 unfolding read_slots
 slots_none view [] rest old h = (refl, sym (append-nil old))
 slots_none view (shape ∷ shapes) rest old h = absurd (omega arith)
 
-pub slots_failed : {K L : Type 0} (view : K → List ℕ) (look : L → List ℕ) (shapes : List Shape) (none : Shape) (text a b old new : List ℕ) (error : TextError) → 1 ≤ length shapes → ReadsWord view (read_slot (slot_of (get_or shapes 0 none)) text) a b (Err error) → ReadsWord look (read_slots (slots_of shapes) text) old new (Err error)
+pub slots_failed : {K L : Type 0} (view : K → List ℕ) (look : L → List ℕ) (shapes : List Slot) (none : Slot) (text a b old new : List ℕ) (error : TextError) → 1 ≤ length shapes → ReadsWord view (read_slot (slot_of (get_or shapes 0 none)) text) a b (Err error) → ReadsWord look (read_slots (slots_of shapes) text) old new (Err error)
 unfolding read_slots
 slots_failed view look [] none text a b old new error some h = absurd (omega arith)
 slots_failed view look (shape ∷ shapes) none text a b old new error some h = failed view look (read_slot (slot_of shape) text) (λ one. read_slots (slots_of shapes) one.1 >>= λ others. Some (one.0 ++ others.0, others.1)) a b old new error h
 
-pub slots_read : {K L : Type 0} (view : K → List ℕ) (look : L → List ℕ) (shapes : List Shape) (none : Shape) (text old mid new : List ℕ) (rest : K) (r : Result L TextError) → 1 ≤ length shapes → ReadsWord view (read_slot (slot_of (get_or shapes 0 none)) text) old mid (Ok rest) → ReadsWord look (read_slots (slots_of (drop 1 shapes)) (view rest)) mid new r → ReadsWord look (read_slots (slots_of shapes) text) old new r
+pub slots_read : {K L : Type 0} (view : K → List ℕ) (look : L → List ℕ) (shapes : List Slot) (none : Slot) (text old mid new : List ℕ) (rest : K) (r : Result L TextError) → 1 ≤ length shapes → ReadsWord view (read_slot (slot_of (get_or shapes 0 none)) text) old mid (Ok rest) → ReadsWord look (read_slots (slots_of (drop 1 shapes)) (view rest)) mid new r → ReadsWord look (read_slots (slots_of shapes) text) old new r
 unfolding read_slots
 slots_read view look [] none text old mid new rest r some h k = absurd (omega arith)
 slots_read view look (shape ∷ shapes) none text old mid new rest r some h k = both_read view look (read_slot (slot_of shape) text) (read_slots (slots_of shapes)) old mid new rest r h k
@@ -108,7 +108,7 @@ bit_next (suc n) below some h =
     let is : below ≡ 2 ^ n % 2 ^ 16 = h ∙ ap (λ (k : ℕ). 2 ^ k % 2 ^ 16) {x = suc n - 1} {y = n} (omega arith) in
     omega (arith, two, is)
 
-pub option_none : {K : Type 0} (view : K → List ℕ) (bit : ℕ) (shape : Shape) (rest : K) (old : List ℕ) → strip (named bit) (view rest) ≡ None → ReadsSet (λ (n : ℕ). n) view (read_option (property_of (bit, shape)) (strip (named bit) (view rest)) (view rest)) old old (Ok (0, rest))
+pub option_none : {K : Type 0} (view : K → List ℕ) (bit : ℕ) (shape : Form) (rest : K) (old : List ℕ) → strip (named bit) (view rest) ≡ None → ReadsSet (λ (n : ℕ). n) view (read_option (property_of (bit, shape)) (strip (named bit) (view rest)) (view rest)) old old (Ok (0, rest))
 unfolding read_option
 option_none view bit shape rest old h =
     let P : Option (List ℕ) → Type 0 = λ o. ReadsSet (λ (n : ℕ). n) view (read_option (property_of (bit, shape)) o (view rest)) old old (Ok (0, rest)) in
@@ -118,7 +118,7 @@ option_on : {K : Type 0} (view : K → List ℕ) (bit worth : ℕ) (old new : Li
 option_on view bit worth old new rest is None h = tt
 option_on view bit worth old new rest is (Some read) h = (is, h.0, h.1)
 
-pub option_some : {K L : Type 0} (view : K → List ℕ) (look : L → List ℕ) (bit worth : ℕ) (shape : Shape) (text old new : List ℕ) (after : L) (rest : K) → worth ≡ 2 ^ bit % 2 ^ 16 → strip (named bit) text ≡ Some (look after) → ReadsWord view (read_form (form_of shape) (look after)) old new (Ok rest)
+pub option_some : {K L : Type 0} (view : K → List ℕ) (look : L → List ℕ) (bit worth : ℕ) (shape : Form) (text old new : List ℕ) (after : L) (rest : K) → worth ≡ 2 ^ bit % 2 ^ 16 → strip (named bit) text ≡ Some (look after) → ReadsWord view (read_form (form_of shape) (look after)) old new (Ok rest)
     → ReadsSet (λ (n : ℕ). n) view (read_option (property_of (bit, shape)) (strip (named bit) text) text) old new (Ok (worth, rest))
 unfolding read_option
 option_some view look bit worth shape text old new after rest is found h =
@@ -130,14 +130,14 @@ error_on view look f a b old new error None h = tt
 error_on view look f a b old new texts.BadText (Some read) h = absurd h
 error_on view look f a b old new texts.NoMemory (Some read) h = set_memory look (f read) old new
 
-pub option_failed : {K L M : Type 0} (view : K → List ℕ) (look : L → List ℕ) (seen : M → List ℕ) (bit : ℕ) (shape : Shape) (text a b old new : List ℕ) (after : L) (error : TextError) → strip (named bit) text ≡ Some (look after) → ReadsWord view (read_form (form_of shape) (look after)) a b (Err error)
+pub option_failed : {K L M : Type 0} (view : K → List ℕ) (look : L → List ℕ) (seen : M → List ℕ) (bit : ℕ) (shape : Form) (text a b old new : List ℕ) (after : L) (error : TextError) → strip (named bit) text ≡ Some (look after) → ReadsWord view (read_form (form_of shape) (look after)) a b (Err error)
     → ReadsSet (λ (n : ℕ). n) seen (read_option (property_of (bit, shape)) (strip (named bit) text) text) old new (Err error)
 unfolding read_option
 option_failed view look seen bit shape text a b old new after error found h =
     let P : Option (List ℕ) → Type 0 = λ o. ReadsSet (λ (n : ℕ). n) seen (read_option (property_of (bit, shape)) o text) old new (Err error) in
     subst P (sym found) (error_on view seen (λ x. Some ((2 ^ bit % 2 ^ 16, x.0), x.1)) a b old new error (read_form (form_of shape) (look after)) h)
 
-pub set_none : {K : Type 0} (view : K → List ℕ) (shapes : List (ℕ × Shape)) (rest : K) (old : List ℕ) → length shapes < 1 → ReadsSet (λ (n : ℕ). n) view (read_set (map property_of shapes) (view rest)) old old (Ok (0, rest))
+pub set_none : {K : Type 0} (view : K → List ℕ) (shapes : List (ℕ × Form)) (rest : K) (old : List ℕ) → length shapes < 1 → ReadsSet (λ (n : ℕ). n) view (read_set (map property_of shapes) (view rest)) old old (Ok (0, rest))
 unfolding read_set
 set_none view [] rest old h = (refl, refl, sym (append-nil old))
 set_none view (shape ∷ shapes) rest old h = absurd (omega arith)
@@ -147,14 +147,14 @@ set_error view look f a b old new error None h = tt
 set_error view look f a b old new texts.BadText (Some read) h = absurd h
 set_error view look f a b old new texts.NoMemory (Some read) h = set_memory look (f read) old new
 
-pub set_failed : {K L : Type 0} (view : K → List ℕ) (look : L → List ℕ) (shapes : List (ℕ × Shape)) (none : ℕ × Shape) (text a b old new : List ℕ) (error : TextError) → 1 ≤ length shapes → (let shape = get_or shapes 0 none in ReadsSet (λ (n : ℕ). n) view (read_option (property_of (shape.0, shape.1)) (strip (named shape.0) text) text) a b (Err error))
+pub set_failed : {K L : Type 0} (view : K → List ℕ) (look : L → List ℕ) (shapes : List (ℕ × Form)) (none : ℕ × Form) (text a b old new : List ℕ) (error : TextError) → 1 ≤ length shapes → (let shape = get_or shapes 0 none in ReadsSet (λ (n : ℕ). n) view (read_option (property_of (shape.0, shape.1)) (strip (named shape.0) text) text) a b (Err error))
     → ReadsSet (λ (n : ℕ). n) look (read_set (map property_of shapes) text) old new (Err error)
 unfolding read_set
 set_failed view look [] none text a b old new error some h = absurd (omega arith)
 set_failed view look (shape ∷ shapes) none text a b old new error some h =
     set_error view look (λ one. read_set (map property_of shapes) one.1 >>= λ others. Some (((one.0.0 + others.0.0) % 2 ^ 16, one.0.1 ++ others.0.1), others.1)) a b old new error (read_option (property_of shape) (strip (named shape.0) text) text) h
 
-pub set_failed_later : {K L M : Type 0} (view : K → List ℕ) (look : L → List ℕ) (seen : M → List ℕ) (shapes : List (ℕ × Shape)) (none : ℕ × Shape) (text a b c old new : List ℕ) (worth : ℕ) (rest : K) (error : TextError) → 1 ≤ length shapes
+pub set_failed_later : {K L M : Type 0} (view : K → List ℕ) (look : L → List ℕ) (seen : M → List ℕ) (shapes : List (ℕ × Form)) (none : ℕ × Form) (text a b c old new : List ℕ) (worth : ℕ) (rest : K) (error : TextError) → 1 ≤ length shapes
     → (let shape = get_or shapes 0 none in ReadsSet (λ (n : ℕ). n) view (read_option (property_of (shape.0, shape.1)) (strip (named shape.0) text) text) a b (Ok (worth, rest)))
     → ReadsSet (λ (n : ℕ). n) look (read_set (map property_of (drop 1 shapes)) (view rest)) b c (Err error) → ReadsSet (λ (n : ℕ). n) seen (read_set (map property_of shapes) text) old new (Err error)
 unfolding read_set
@@ -167,7 +167,7 @@ set_failed_later {K = K} view look seen (shape ∷ shapes) none text a b c old n
         let P : List ℕ → Type 0 = λ t. ReadsSet (λ (n : ℕ). n) look (read_set (map property_of shapes) t) b c (Err error) in
         set_error look seen (λ others. Some (((one.0.0 + others.0.0) % 2 ^ 16, one.0.1 ++ others.0.1), others.1)) b c old new error (read_set (map property_of shapes) one.1) (subst P q.1 k)
 
-pub set_read : {K L : Type 0} (view : K → List ℕ) (look : L → List ℕ) (shapes : List (ℕ × Shape)) (none : ℕ × Shape) (text old mid new : List ℕ) (worth mask sum : ℕ) (rest : K) (end : L) → 1 ≤ length shapes
+pub set_read : {K L : Type 0} (view : K → List ℕ) (look : L → List ℕ) (shapes : List (ℕ × Form)) (none : ℕ × Form) (text old mid new : List ℕ) (worth mask sum : ℕ) (rest : K) (end : L) → 1 ≤ length shapes
     → (let shape = get_or shapes 0 none in ReadsSet (λ (n : ℕ). n) view (read_option (property_of (shape.0, shape.1)) (strip (named shape.0) text) text) old mid (Ok (worth, rest)))
     → ReadsSet (λ (n : ℕ). n) look (read_set (map property_of (drop 1 shapes)) (view rest)) mid new (Ok (mask, end)) → sum ≡ (worth + mask) % 2 ^ 16 → ReadsSet (λ (n : ℕ). n) look (read_set (map property_of shapes) text) old new (Ok (sum, end))
 unfolding read_set
@@ -195,7 +195,7 @@ mask_unset before content old place end is at size fits far =
     let beyond : 18446744073709551615 + 2 < end - place = far (omega (arith, count, at, size)) in
     absurd (omega (arith, beyond, fits))
 
-pub properties_failed : {K L : Type 0} (view : K → List ℕ) (look : L → List ℕ) (shapes : List (ℕ × Shape)) (text a b old new : List ℕ) (error : TextError) → map property_of shapes ≡ properties → ReadsSet (λ (n : ℕ). n) view (read_set (map property_of shapes) text) a b (Err error) → ReadsWord look (read_properties text) old new (Err error)
+pub properties_failed : {K L : Type 0} (view : K → List ℕ) (look : L → List ℕ) (shapes : List (ℕ × Form)) (text a b old new : List ℕ) (error : TextError) → map property_of shapes ≡ properties → ReadsSet (λ (n : ℕ). n) view (read_set (map property_of shapes) text) a b (Err error) → ReadsWord look (read_properties text) old new (Err error)
 unfolding read_properties
 properties_failed view look shapes text a b old new error all h =
     let P : List Property → Type 0 = λ ps. ReadsSet (λ (n : ℕ). n) view (read_set ps text) a b (Err error) in
@@ -206,7 +206,7 @@ properties_failed view look shapes text a b old new error all h =
     on texts.BadText (Some set) q = absurd q
     on texts.NoMemory (Some set) q = tt
 
-pub properties_read : {K L : Type 0} (view : K → List ℕ) (look : L → List ℕ) (shapes : List (ℕ × Shape)) (text old a b new : List ℕ) (place mask : ℕ) (rest : K) (r : Result L TextError) → map property_of shapes ≡ properties → a ≡ old ++ (0 ∷ 0 ∷ []) → place ≡ length old → ReadsSet (λ (n : ℕ). n) view (read_set (map property_of shapes) text) a b (Ok (mask, rest))
+pub properties_read : {K L : Type 0} (view : K → List ℕ) (look : L → List ℕ) (shapes : List (ℕ × Form)) (text old a b new : List ℕ) (place mask : ℕ) (rest : K) (r : Result L TextError) → map property_of shapes ≡ properties → a ≡ old ++ (0 ∷ 0 ∷ []) → place ≡ length old → ReadsSet (λ (n : ℕ). n) view (read_set (map property_of shapes) text) a b (Ok (mask, rest))
     → ((before content : List ℕ) → b ≡ before ++ (0 ∷ 0 ∷ content) → place ≡ length before → ReadsWord look (Some (number_bytes bytes2 mask ++ content, view rest)) before new r) → ReadsWord look (read_properties text) old new r
 unfolding read_properties
 properties_read {L = L} view look shapes text old a b new place mask rest r all zeros at h set =

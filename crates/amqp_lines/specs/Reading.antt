@@ -151,7 +151,7 @@ read_array value text = inside (or_comma value) 93 text >>= framed_long
 unfoldable pub read_table : Reader (List ℕ) → Reader (List ℕ)
 read_table value text = inside (or_comma (read_entry value)) 125 text >>= framed_long
 
--- the value after a tag; `nested` reads a value one level deeper, where there is room for one
+-- the value after a tag; `nested` reads a value one level deeper, where one more may be nested
 unfoldable pub read_behind : Option (Reader (List ℕ)) → FieldTag → Reader (List ℕ)
 read_behind nested tag.Boolean text = read_truth text
 read_behind nested tag.ShortShortInt text = read_unsigned bytes1 text
@@ -188,14 +188,14 @@ unfoldable pub read_tagged : Option (Reader (List ℕ)) → Reader (List ℕ)
 read_tagged nested [] = None
 read_tagged nested (c ∷ cs) = read_after nested (tag_at c) cs
 
--- how a value one level deeper is read, where there is room for so many more levels
+-- how a value one level deeper is read, where so many more may be nested
 unfoldable pub read_nested : ℕ → Option (Reader (List ℕ))
 read_nested zero = None
-read_nested (suc room) = Some (read_tagged (read_nested room))
+read_nested (suc depth_left) = Some (read_tagged (read_nested depth_left))
 
 -- a tag and its value
 unfoldable pub read_value : ℕ → Reader (List ℕ)
-read_value room = read_tagged (read_nested room)
+read_value depth_left = read_tagged (read_nested depth_left)
 
 -- ---- fields
 
@@ -244,11 +244,6 @@ unfoldable pub read_properties : Reader (List ℕ)
 read_properties text = read_set properties text >>= λ set. Some (number_bytes bytes2 set.0.0 ++ set.0.1, set.1)
 
 -- ---- what a call appends
-
--- the canonical bytes of a reserved field, and none of another
-abbrev pub constant_bytes : Slot → List ℕ
-constant_bytes (kept_slot form) = []
-constant_bytes (reserved_slot form constant) = form_bytes form constant
 
 -- What was read is appended, and the text after it is returned. (Where nothing is read, or memory runs out, nothing is said.)
 abbrev pub ReadsWord : {K : Type 0} → (K → List ℕ) → Reading (List ℕ) → List ℕ → List ℕ → Result K TextError → Type 0

@@ -44,7 +44,7 @@ rendered_signed width = judge_map signed_decimal (judge_signed width)
 abbrev pub rendered_number : NumberWidth → Judge (List ℕ)
 rendered_number width = judge_map decimal (judge_number width)
 
--- the value after a tag; `nested` is the text of a value one level deeper, where there is room for one
+-- the value after a tag; `nested` is the text of a value one level deeper, where one more may be nested
 unfoldable pub rendered_behind : Option (Judge (List ℕ)) → FieldTag → Judge (List ℕ)
 rendered_behind nested tag.Boolean bytes = judge_map truth_text judge_boolean bytes
 rendered_behind nested tag.ShortShortInt bytes = rendered_signed bytes1 bytes
@@ -76,14 +76,14 @@ unfoldable pub rendered_tagged : Option (Judge (List ℕ)) → Judge (List ℕ)
 rendered_tagged nested [] = past
 rendered_tagged nested (byte ∷ bytes) = rendered_after nested (tag_at byte) bytes
 
--- the text of a value one level deeper, where there is room for so many more levels
+-- the text of a value one level deeper, where so many more may be nested
 unfoldable pub rendered_nested : ℕ → Option (Judge (List ℕ))
 rendered_nested zero = None
-rendered_nested (suc room) = Some (rendered_tagged (rendered_nested room))
+rendered_nested (suc depth_left) = Some (rendered_tagged (rendered_nested depth_left))
 
 -- a tag and its value
 unfoldable pub rendered_value : ℕ → Judge (List ℕ)
-rendered_value room = rendered_tagged (rendered_nested room)
+rendered_value depth_left = rendered_tagged (rendered_nested depth_left)
 
 -- ---- fields
 
@@ -94,11 +94,6 @@ rendered_form (flags_form count) = judge_map signs (judge_flags count)
 rendered_form short_string_form = judge_map quoted judge_short_string
 rendered_form long_string_form = judge_map quoted judge_long_string
 rendered_form table_form = rendered_table (rendered_value inner_depth)
-
--- a reserved field: it holds a constant, and has no word
-abbrev pub is_reserved : Slot → Bool
-is_reserved (kept_slot form) = false
-is_reserved (reserved_slot form constant) = true
 
 -- a word with a space in front, or nothing where the field is reserved, whose bytes are passed
 unfoldable pub rendered_slot : Slot → Judge (List ℕ)

@@ -7,14 +7,14 @@ ghost use Rattle.amqp_types.specs.Strings.{judge_short_string};
 ghost use Rattle.amqp_canonical.specs.Shapes.{form_of, property_of, slot_of, slots_of};
 ghost use Rattle.amqp_lines.specs.Words.{quoted, signs};
 ghost use Rattle.amqp_lines.specs.Slots.{property_name};
-ghost use Rattle.amqp_lines.specs.Rendering.{Says, Renders, AppendsText, is_reserved, rendered_form, rendered_properties, rendered_set, rendered_slot, rendered_slots};
+ghost use Rattle.amqp_lines.specs.Rendering.{Says, Renders, AppendsText, rendered_form, rendered_properties, rendered_set, rendered_slot, rendered_slots};
 
 use crate::values::{
     write_long_long_uint, write_long_string, write_long_uint, write_short_short_uint,
     write_short_uint, write_table,
 };
 use crate::words::{write_bytes, write_quoted, write_signs};
-use amqp_canonical::{Shape, bytes_from, has_bit, property_shapes, slot_size, split_key};
+use amqp_canonical::{Form, Slot, bytes_from, form_size, has_bit, property_shapes, split_key};
 use amqp_types::{INNER_DEPTH, Identifier, NoMemory};
 
 /// So many flags of a byte.
@@ -41,64 +41,40 @@ fn write_short_string(out: &mut Vec<u8>, i: &[u8]) -> Result<usize, NoMemory>
     Ok(1 + text.len())
 }
 
-/// What stands at the front as this shape.
+/// What stands at the front, encoded so.
 #[tactic(auto, unfolding(crate::specs::Rendering::rendered_form))]
-fn write_form(out: &mut Vec<u8>, shape: Shape, i: &[u8]) -> Result<usize, NoMemory>
-    ensures { Renders (rendered_form (form_of shape) i.now) out.old.items out.new.items result }
+fn write_form(out: &mut Vec<u8>, form: Form, i: &[u8]) -> Result<usize, NoMemory>
+    ensures { Renders (rendered_form (form_of form) i.now) out.old.items out.new.items result }
 {
-    match shape {
-        Shape::Octet => write_short_short_uint(out, i),
-        Shape::Short => write_short_uint(out, i),
-        Shape::ReservedShort(_) => write_short_uint(out, i),
-        Shape::Long => write_long_uint(out, i),
-        Shape::ReservedLong(_) => write_long_uint(out, i),
-        Shape::LongLong => write_long_long_uint(out, i),
-        Shape::Flags(count) => write_flags(out, count, i),
-        Shape::ReservedFlag => write_flags(out, 1, i),
-        Shape::ShortString => write_short_string(out, i),
-        Shape::ReservedShortString => write_short_string(out, i),
-        Shape::LongString => write_long_string(out, i),
-        Shape::ReservedLongString => write_long_string(out, i),
-        Shape::Table => write_table(out, i, INNER_DEPTH),
-    }
-}
-
-/// Whether a field is reserved.
-pub(crate) fn is_reserved(shape: Shape) -> bool
-    ensures { result ≡ is_reserved (slot_of shape) }
-{
-    match shape {
-        Shape::ReservedShort(_) => true,
-        Shape::ReservedLong(_) => true,
-        Shape::ReservedFlag => true,
-        Shape::ReservedShortString => true,
-        Shape::ReservedLongString => true,
-        Shape::Octet => false,
-        Shape::Short => false,
-        Shape::Long => false,
-        Shape::LongLong => false,
-        Shape::Flags(_) => false,
-        Shape::ShortString => false,
-        Shape::LongString => false,
-        Shape::Table => false,
+    match form {
+        Form::Octet => write_short_short_uint(out, i),
+        Form::Short => write_short_uint(out, i),
+        Form::Long => write_long_uint(out, i),
+        Form::LongLong => write_long_long_uint(out, i),
+        Form::Flags(count) => write_flags(out, count, i),
+        Form::ShortString => write_short_string(out, i),
+        Form::LongString => write_long_string(out, i),
+        Form::Table => write_table(out, i, INNER_DEPTH),
     }
 }
 
 /// A field: a space and a word, or nothing where it is reserved.
 #[tactic(auto, using(crate::proofs::RenderedSlots::reserved_rendered, crate::proofs::RenderedSlots::kept_rendered))]
-fn write_slot(out: &mut Vec<u8>, shape: Shape, i: &[u8]) -> Result<usize, NoMemory>
-    ensures { Renders (rendered_slot (slot_of shape) i.now) out.old.items out.new.items result }
+fn write_slot(out: &mut Vec<u8>, slot: Slot, i: &[u8]) -> Result<usize, NoMemory>
+    ensures { Renders (rendered_slot (slot_of slot) i.now) out.old.items out.new.items result }
 {
-    if is_reserved(shape) {
-        return Ok(slot_size(shape, i));
+    match slot {
+        Slot::Reserved(form, _) => Ok(form_size(form, i)),
+        Slot::Kept(form) => {
+            out.push(b' ')?;
+            write_form(out, form, i)
+        }
     }
-    out.push(b' ')?;
-    write_form(out, shape, i)
 }
 
 /// Appends the text of fields of these shapes, one after another.
 #[tactic(auto, using(crate::proofs::RenderedSlots::slots_rendered, crate::proofs::RenderedSlots::no_slots))]
-pub(crate) fn write_slots(out: &mut Vec<u8>, shapes: &[Shape], i: &[u8]) -> Result<(), NoMemory>
+pub(crate) fn write_slots(out: &mut Vec<u8>, shapes: &[Slot], i: &[u8]) -> Result<(), NoMemory>
     ensures { Says (rendered_slots (slots_of shapes.now) i.now) out.old.items out.new.items result }
 {
     match shapes {
@@ -146,12 +122,7 @@ fn write_name(out: &mut Vec<u8>, bit: u16) -> Result<(), NoMemory>
 
 /// The properties of these bits and shapes that the mask has, one after another.
 #[tactic(auto, using(crate::proofs::RenderedSlots::option_rendered, crate::proofs::RenderedSlots::option_past, crate::proofs::RenderedSlots::no_options))]
-fn write_set(
-    out: &mut Vec<u8>,
-    mask: u16,
-    shapes: &[(u16, Shape)],
-    i: &[u8],
-) -> Result<(), NoMemory>
+fn write_set(out: &mut Vec<u8>, mask: u16, shapes: &[(u16, Form)], i: &[u8]) -> Result<(), NoMemory>
     ensures { Says (rendered_set mask (map property_of shapes.now) i.now) out.old.items out.new.items result }
 {
     match shapes {

@@ -228,11 +228,11 @@ fn write_tag(out: &mut Vec<u8>, tag: FieldTag) -> Result<(), NoMemory>
     }
 }
 
-/// Appends the text of a value at the front, and returns how many bytes it takes. Tables and arrays may nest `room`
+/// Appends the text of a value at the front, and returns how many bytes it takes. Tables and arrays may nest `depth_left`
 /// deep in it.
 #[cycle(render)]
-pub(crate) fn write_value(out: &mut Vec<u8>, i: &[u8], room: usize) -> Result<usize, NoMemory>
-    ensures rendered { Renders (rendered_value room i.now) out.old.items out.new.items result }
+pub(crate) fn write_value(out: &mut Vec<u8>, i: &[u8], depth_left: usize) -> Result<usize, NoMemory>
+    ensures rendered { Renders (rendered_value depth_left i.now) out.old.items out.new.items result }
     ensures used { IfOk result (λ n. (0 < n) × (n ≤ length i.now + 1)) }
 {
     match i {
@@ -240,7 +240,7 @@ pub(crate) fn write_value(out: &mut Vec<u8>, i: &[u8], room: usize) -> Result<us
         [byte, rest @ ..] => match FieldTag::from_byte(*byte) {
             Some(tag) => {
                 write_tag(out, tag)?;
-                let used = write_after_tag(out, tag, rest, room)?;
+                let used = write_after_tag(out, tag, rest, depth_left)?;
                 Ok(1 + used)
             }
             None => Ok(1),
@@ -254,9 +254,9 @@ fn write_after_tag(
     out: &mut Vec<u8>,
     tag: FieldTag,
     i: &[u8],
-    room: usize,
+    depth_left: usize,
 ) -> Result<usize, NoMemory>
-    ensures rendered { Renders (rendered_behind (rendered_nested room) tag i.now) out.old.items out.new.items result }
+    ensures rendered { Renders (rendered_behind (rendered_nested depth_left) tag i.now) out.old.items out.new.items result }
     ensures used { IfOk result (λ n. n ≤ length i.now) }
 {
     match tag {
@@ -272,24 +272,24 @@ fn write_after_tag(
         FieldTag::DecimalValue => write_decimal_value(out, i),
         FieldTag::LongString => write_long_string(out, i),
         FieldTag::ByteArray => write_byte_array(out, i),
-        FieldTag::FieldArray if room == 0 => Ok(0),
-        FieldTag::FieldArray => write_array(out, i, room - 1),
-        FieldTag::FieldTable if room == 0 => Ok(0),
-        FieldTag::FieldTable => write_table(out, i, room - 1),
+        FieldTag::FieldArray if depth_left == 0 => Ok(0),
+        FieldTag::FieldArray => write_array(out, i, depth_left - 1),
+        FieldTag::FieldTable if depth_left == 0 => Ok(0),
+        FieldTag::FieldTable => write_table(out, i, depth_left - 1),
         FieldTag::Void => Ok(0),
     }
 }
 
 /// An array.
 #[cycle(render)]
-fn write_array(out: &mut Vec<u8>, i: &[u8], room: usize) -> Result<usize, NoMemory>
-    ensures rendered { Renders (rendered_items (rendered_value room) (codes "[") (codes "]") i.now) out.old.items out.new.items result }
+fn write_array(out: &mut Vec<u8>, i: &[u8], depth_left: usize) -> Result<usize, NoMemory>
+    ensures rendered { Renders (rendered_items (rendered_value depth_left) (codes "[") (codes "]") i.now) out.old.items out.new.items result }
     ensures used { IfOk result (λ n. n ≤ length i.now) }
 {
     match split_long(i) {
         Some((used, content)) => {
             out.push(b'[')?;
-            write_values(out, content, room)?;
+            write_values(out, content, depth_left)?;
             out.push(b']')?;
             Ok(used)
         }
@@ -297,17 +297,17 @@ fn write_array(out: &mut Vec<u8>, i: &[u8], room: usize) -> Result<usize, NoMemo
     }
 }
 
-/// Appends the text of a table at the front, and returns how many bytes it takes. Tables and arrays may nest `room`
+/// Appends the text of a table at the front, and returns how many bytes it takes. Tables and arrays may nest `depth_left`
 /// deep in its values.
 #[cycle(render)]
-pub(crate) fn write_table(out: &mut Vec<u8>, i: &[u8], room: usize) -> Result<usize, NoMemory>
-    ensures rendered { Renders (rendered_table (rendered_value room) i.now) out.old.items out.new.items result }
+pub(crate) fn write_table(out: &mut Vec<u8>, i: &[u8], depth_left: usize) -> Result<usize, NoMemory>
+    ensures rendered { Renders (rendered_table (rendered_value depth_left) i.now) out.old.items out.new.items result }
     ensures used { IfOk result (λ n. n ≤ length i.now) }
 {
     match split_long(i) {
         Some((used, content)) => {
             out.push(b'{')?;
-            write_entries(out, content, room)?;
+            write_entries(out, content, depth_left)?;
             out.push(b'}')?;
             Ok(used)
         }
@@ -317,12 +317,12 @@ pub(crate) fn write_table(out: &mut Vec<u8>, i: &[u8], room: usize) -> Result<us
 
 /// The values that fill an array.
 #[cycle(render)]
-fn write_values(out: &mut Vec<u8>, content: &[u8], room: usize) -> Result<(), NoMemory>
-    ensures { RendersAll parted (filled (rendered_value room) 0 content.now) out.old.items out.new.items result }
+fn write_values(out: &mut Vec<u8>, content: &[u8], depth_left: usize) -> Result<(), NoMemory>
+    ensures { RendersAll parted (filled (rendered_value depth_left) 0 content.now) out.old.items out.new.items result }
 {
     let mut rest = content;
     while !rest.is_empty() {
-        let used = write_value(out, rest, room)?;
+        let used = write_value(out, rest, depth_left)?;
         rest = bytes_from(rest, used);
         write_comma(out, rest)?;
     }
@@ -331,12 +331,12 @@ fn write_values(out: &mut Vec<u8>, content: &[u8], room: usize) -> Result<(), No
 
 /// The entries that fill a table.
 #[cycle(render)]
-fn write_entries(out: &mut Vec<u8>, content: &[u8], room: usize) -> Result<(), NoMemory>
-    ensures { RendersAll parted (filled (rendered_entry (rendered_value room)) 0 content.now) out.old.items out.new.items result }
+fn write_entries(out: &mut Vec<u8>, content: &[u8], depth_left: usize) -> Result<(), NoMemory>
+    ensures { RendersAll parted (filled (rendered_entry (rendered_value depth_left)) 0 content.now) out.old.items out.new.items result }
 {
     let mut rest = content;
     while !rest.is_empty() {
-        let used = write_entry(out, rest, room)?;
+        let used = write_entry(out, rest, depth_left)?;
         rest = bytes_from(rest, used);
         write_comma(out, rest)?;
     }
@@ -345,13 +345,13 @@ fn write_entries(out: &mut Vec<u8>, content: &[u8], room: usize) -> Result<(), N
 
 /// An entry: its key, `=` and its value.
 #[cycle(render)]
-fn write_entry(out: &mut Vec<u8>, i: &[u8], room: usize) -> Result<usize, NoMemory>
-    ensures rendered { Renders (rendered_entry (rendered_value room) i.now) out.old.items out.new.items result }
+fn write_entry(out: &mut Vec<u8>, i: &[u8], depth_left: usize) -> Result<usize, NoMemory>
+    ensures rendered { Renders (rendered_entry (rendered_value depth_left) i.now) out.old.items out.new.items result }
     ensures used { IfOk result (λ n. (0 < n) × (n ≤ length i.now + 2)) }
 {
     let (key, value) = split_key(i);
     write_quoted(out, key)?;
     out.push(b'=')?;
-    let used = write_value(out, value, room)?;
+    let used = write_value(out, value, depth_left)?;
     Ok(1 + key.len() + used)
 }

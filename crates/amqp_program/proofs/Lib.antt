@@ -4,6 +4,7 @@ pub mod HexRuns
 pub mod HexApart
 pub mod RawRuns
 pub mod RecutRuns
+pub mod FilterRuns
 pub mod TextRuns
 pub mod Selections
 pub mod SelectRuns

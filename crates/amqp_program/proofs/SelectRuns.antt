@@ -10,6 +10,7 @@ use Rattle.amqp_select.specs.declared.rule.Rule.{Rule}
 use Rattle.amqp_select.specs.Refusals.{Spell}
 use Rattle.amqp_select.specs.Covering.{uncovered}
 use Rattle.amqp_select.specs.Selecting.{selection}
+use Rattle.amqp_program.specs.Commands.{AreNamed}
 use Rattle.amqp_program.specs.Reports.{max_payload}
 use Rattle.amqp_program.specs.Runs.{IsDoneOrNoMemory, RunsSelect, raw_turns}
 use Rattle.amqp_program.proofs.RawRuns.{done_or_no_memory}
@@ -43,9 +44,9 @@ by_all rules a b k l status run = record {
 }
 
 -- these are the rules that the words stand for
-pub runs_spelled : (words : List (List ℕ)) (found rest rules : List Rule) (a b : Supply) (k l : Store) (status : ℕ) → Spell words found → Spell words rules → rest ≡ uncovered found → RunsSelect rest a b k l status → RunsSelect rules a b k l status
-runs_spelled words found rest rules a b k l status is spell e run =
-    by_all rules a b k l status (subst (λ kept. RunsSelect kept a b k l status) (e ∙ ap uncovered (one_spelling words found rules is spell)) run)
+pub runs_named : (words : List (List ℕ)) (found rules : List Rule) (a b : Supply) (k l : Store) (status : ℕ) → AreNamed words found → Spell words rules → RunsSelect found a b k l status → RunsSelect rules a b k l status
+runs_named words found rules a b k l status named spell run =
+    by_all rules a b k l status (subst (λ kept. RunsSelect kept a b k l status) (named.are ∙ ap uncovered (one_spelling words named.all rules named.spell spell)) run)
 
 -- memory ran out before the run began
 pub select_without_memory : (rules : List Rule) (a : Supply) (k : Store) → RunsSelect rules a a k k 3

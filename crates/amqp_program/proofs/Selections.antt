@@ -15,7 +15,7 @@ use Rattle.amqp_select.specs.Selecting.{selection}
 use Rattle.amqp_select.proofs.Words.{one_rule}
 use Rattle.amqp_select.proofs.Covered.{kept_same}
 use Rattle.amqp_wire.specs.Canonical.{canon_frames}
-use Rattle.amqp_program.specs.Commands.{after_select, command_of, IsNoForm}
+use Rattle.amqp_program.specs.Commands.{after_word, command_of, IsByRules, IsNoForm}
 
 same_rules : (rules others : List Rule) → AllByRecursion IsRule rules → AllByRecursion IsRule others → map spelled rules ≡ map spelled others → rules ≡ others
 same_rules [] [] h k e = refl
@@ -53,29 +53,64 @@ refused_spell_none words errors.NoMemory is h rules k = absurd is
 pub same_selection : (rules : List Rule) → selection (uncovered rules) ≡ selection rules
 same_selection rules = fun_ext λ frames. ap canon_frames (kept_same rules frames)
 
--- ---- `select` is no other command
+-- ---- a form by rules is no other command
+
+-- this word is the first of no command and of no other form by rules
+tested : (b : Bool) (more words : List (List ℕ)) → (if b then Some more else None) ≡ Some words → b ≡ true
+tested true more words e = refl
+tested false more words e = absurd cc
+
+pub first_is : (first : List ℕ) (texts words : List (List ℕ)) → after_word first texts ≡ Some words → texts ≡ first ∷ words
+first_is first [] words e = absurd cc
+first_is first (word ∷ more) words e =
+    let t = tested (bytes_eq word first) more words e in
+    let is = (bytes_eq-Decides word first).0 t in
+    let rest : more ≡ words = (let P : Bool → Type 0 = λ b. (if b then Some more else None) ≡ Some words in let same : Some more ≡ Some words = subst P t e in cc) in
+    ap (λ w. w ∷ more) is ∙ ap (λ ws. first ∷ ws) rest
 
 named_select : (more : List (List ℕ)) → command_of (codes "select" ∷ more) ≡ None
 named_select [] = refl
 named_select (number ∷ []) = refl
 named_select (number ∷ other ∷ more) = refl
 
-tested : (b : Bool) (more words : List (List ℕ)) → (if b then Some more else None) ≡ Some words → b ≡ true
-tested true more words e = refl
-tested false more words e = absurd cc
+named_filter : (more : List (List ℕ)) → command_of (codes "filter" ∷ more) ≡ None
+named_filter [] = refl
+named_filter (number ∷ []) = refl
+named_filter (number ∷ other ∷ more) = refl
 
-pub select_alone : (texts words : List (List ℕ)) → after_select texts ≡ Some words → command_of texts ≡ None
-select_alone [] words e = refl
-select_alone (word ∷ more) words e =
-    let is = (bytes_eq-Decides word (codes "select")).0 (tested (bytes_eq word (codes "select")) more words e) in
-    ap (λ first. command_of (first ∷ more)) is ∙ named_select more
+pub select_alone : (texts words : List (List ℕ)) → after_word (codes "select") texts ≡ Some words → command_of texts ≡ None
+select_alone texts words e = ap command_of (first_is (codes "select") texts words e) ∙ named_select words
 
--- `select` with words that stand for no rules is none of the forms, and only then
-pub no_form : (texts words : List (List ℕ)) → after_select texts ≡ Some words → ((rules : List Rule) → ¬ Spell words rules) → IsNoForm texts
-no_form texts words after none = record {
+pub filter_alone : (texts words : List (List ℕ)) → after_word (codes "filter") texts ≡ Some words → command_of texts ≡ None
+filter_alone texts words e = ap command_of (first_is (codes "filter") texts words e) ∙ named_filter words
+
+-- words begin with one of the two alone
+pub not_both : (texts words : List (List ℕ)) → after_word (codes "select") texts ≡ Some words → after_word (codes "filter") texts ≡ None
+not_both texts words e = ap (after_word (codes "filter")) (first_is (codes "select") texts words e)
+
+-- words that stand for no rules, after a first word that no other form has, are none of the forms, and only then
+no_rules : (first : List ℕ) (texts words : List (List ℕ)) → after_word first texts ≡ Some words → ((rules : List Rule) → ¬ Spell words rules) → (rules : List Rule) → ¬ IsByRules first texts rules
+no_rules first texts words after none rules is = none rules (subst (λ ws. Spell ws rules) (let same = sym is.are ∙ after in cc) is.spell)
+
+absent : (first : List ℕ) (texts : List (List ℕ)) → after_word first texts ≡ None → (rules : List Rule) → ¬ IsByRules first texts rules
+absent first texts none rules is = absurd (let same = sym none ∙ is.are in cc)
+
+pub no_selecting : (texts words : List (List ℕ)) → after_word (codes "select") texts ≡ Some words → ((rules : List Rule) → ¬ Spell words rules) → IsNoForm texts
+no_selecting texts words after none = record {
   no_command = select_alone texts words after;
-  no_selection = λ rules is. none rules (subst (λ ws. Spell ws rules) (let same = sym is.are ∙ after in cc) is.spell);
+  no_selection = no_rules (codes "select") texts words after none;
+  no_filtering = absent (codes "filter") texts (not_both texts words after);
 }
 
-pub no_selection : (texts words : List (List ℕ)) → after_select texts ≡ Some words → IsNoForm texts → (rules : List Rule) → ¬ Spell words rules
+pub no_filtering : (texts words : List (List ℕ)) → after_word (codes "select") texts ≡ None → after_word (codes "filter") texts ≡ Some words → ((rules : List Rule) → ¬ Spell words rules) → IsNoForm texts
+no_filtering texts words other after none = record {
+  no_command = filter_alone texts words after;
+  no_selection = absent (codes "select") texts other;
+  no_filtering = no_rules (codes "filter") texts words after none;
+}
+
+pub no_selection : (texts words : List (List ℕ)) → after_word (codes "select") texts ≡ Some words → IsNoForm texts → (rules : List Rule) → ¬ Spell words rules
 no_selection texts words after none rules spell = none.no_selection rules (record { words = words; are = after; spell = spell })
+
+pub no_filter : (texts words : List (List ℕ)) → after_word (codes "filter") texts ≡ Some words → IsNoForm texts → (rules : List Rule) → ¬ Spell words rules
+no_filter texts words after none rules spell = none.no_filtering rules (record { words = words; are = after; spell = spell })

@@ -6,6 +6,7 @@ use Rattle.amqp_types.specs.Numerals.{number_named}
 use Rattle.amqp_stream.specs.Made.{most_frames}
 use Rattle.amqp_select.specs.declared.rule.Rule.{Rule}
 use Rattle.amqp_select.specs.Refusals.{Spell}
+use Rattle.amqp_select.specs.Covering.{uncovered}
 use Rattle.amqp_program.specs.Reports.{max_payload}
 use Rattle.amqp_program.specs.declared.command.Command.{Command}
 use Rattle.amqp_program.specs.declared.command.Command.TheVariants as commands
@@ -33,25 +34,40 @@ command_with word number =
     if bytes_eq word (codes "make") then option_map commands.Make (number_named most_frames number)
     else (if bytes_eq word (codes "recut") then recut_by (number_named max_payload number) else None)
 
--- the command that the words after the program's name ask for, but for selections: each form is one word, or two
+-- the command that the words after the program's name ask for, but for those by rules: each form is one word, or two
 abbrev pub command_of : List (List ℕ) → Option Command
 command_of [] = None
 command_of (word ∷ []) = command_named word
 command_of (word ∷ number ∷ []) = command_with word number
 command_of (word ∷ number ∷ other ∷ more) = None
 
--- the words after `select`
-abbrev pub after_select : List (List ℕ) → Option (List (List ℕ))
-after_select [] = None
-after_select (word ∷ more) = if bytes_eq word (codes "select") then Some more else None
+-- the words after the first, where that is this one
+abbrev pub after_word : List ℕ → List (List ℕ) → Option (List (List ℕ))
+after_word first [] = None
+after_word first (word ∷ more) = if bytes_eq word first then Some more else None
 
--- `select`, and words that stand for 1 to 64 rules
-pub record IsSelection (texts : List (List ℕ)) (rules : List Rule) : Type 0 where
+-- this word, and words that stand for 1 to 64 rules
+pub record IsByRules (first : List ℕ) (texts : List (List ℕ)) (rules : List Rule) : Type 0 where
   pub words : List (List ℕ)
-  pub are : after_select texts ≡ Some words
+  pub are : after_word first texts ≡ Some words
   pub spell : Spell words rules
+
+-- the rules that words stand for, without each that an earlier one covers
+pub record AreNamed (words : List (List ℕ)) (rules : List Rule) : Type 0 where
+  pub all : List Rule
+  pub spell : Spell words all
+  pub are : rules ≡ uncovered all
+
+-- `select` and rules
+abbrev pub IsSelection : List (List ℕ) → List Rule → Type 0
+IsSelection = IsByRules (codes "select")
+
+-- `filter` and rules
+abbrev pub IsFiltering : List (List ℕ) → List Rule → Type 0
+IsFiltering = IsByRules (codes "filter")
 
 -- words that are none of the forms
 pub record IsNoForm (texts : List (List ℕ)) : Type 0 where
   pub no_command : command_of texts ≡ None
   pub no_selection : (rules : List Rule) → ¬ IsSelection texts rules
+  pub no_filtering : (rules : List Rule) → ¬ IsFiltering texts rules

@@ -1,5 +1,5 @@
 -- What a run of each command does. a is the source before the run and b after it, k and l the sink.
-use Rattle.std.specs.Prelude.{◌≡◌, ◌⊎◌, ℕ, ◌+◌, ◌^◌, ◌<◌, ◌≤◌, List, [], ◌∷◌, ◌++◌, length, Option, Some, Result, Ok, Err}
+use Rattle.std.specs.Prelude.{◌≡◌, ◌⊎◌, ℕ, ◌+◌, ◌^◌, ◌<◌, ◌≤◌, List, [], ◌∷◌, ◌++◌, length, Option, Some, None, Result, Ok, Err}
 use Rattle.hex.specs.Hex.{decode_of, encode_lower}
 use Rattle.std.specs.Io.BufRead.{strip_last}
 use Rattle.amqp_types.specs.Levels.{Level, plain}
@@ -11,11 +11,16 @@ use Rattle.amqp_stream.specs.Transcribing.{Transcribes, TranscribesExactly, IsSe
 use Rattle.amqp_stream.specs.Canonicalizing.{canon_of, Canonicalizes, AnswersExactly}
 use Rattle.amqp_stream.specs.Writing.{IsPrefix}
 use Rattle.amqp_select.specs.declared.rule.Rule.{Rule}
+use Rattle.amqp_select.specs.Matching.{decides}
 use Rattle.amqp_select.specs.Selecting.{selection}
 use Rattle.amqp_recut.specs.declared.errors.RecutError.{RecutError}
 use Rattle.amqp_recut.specs.Errors.{recut_error_status}
 use Rattle.amqp_recut.specs.Recutting.{Recuts, RecutsExactly, IsComplete}
 use Rattle.amqp_recut.specs.Recutting.{NeverBegan as NeverRecut}
+use Rattle.amqp_filter.specs.declared.errors.FilterError.{FilterError}
+use Rattle.amqp_filter.specs.Errors.{filter_error_status}
+use Rattle.amqp_filter.specs.Filtering.{Filters, FiltersExactly}
+use Rattle.amqp_filter.specs.Turning.{NeverBegan as NeverFiltered, IsComplete as AreWhole}
 use Rattle.amqp_lines.specs.Lines.{lines}
 use Rattle.amqp_lines.specs.Dumping.{Dumps}
 use Rattle.amqp_lines.specs.Undumping.{Undumps, UndumpsExactly}
@@ -138,15 +143,30 @@ pub record RunsRecut (size : ℕ) (a b : Supply) (k l : Store) (status : ℕ) : 
   pub exact : (input : List ℕ) → a.left ≡ Some input → RecutsExactly max_payload size input k l answer
   pub complete : (input : List ℕ) → a.left ≡ Some input → IsValid plain max_payload raw_turns input → IsComplete max_payload input → NoFaults a b k l → IsDoneOrNoMemory status
 
+-- the status of a result of filtering
+abbrev pub filter_status_of : Result (Unit {0}) FilterError → ℕ
+filter_status_of (Ok done) = 0
+filter_status_of (Err error) = filter_error_status error
+
+-- the canonical bytes of the messages whose openings rules keep were written, and of each other frame that they keep
+pub record RunsFilter (rules : List Rule) (a b : Supply) (k l : Store) (status : ℕ) : Type 0 where
+  pub answer : Result (Unit {0}) FilterError
+  pub status_is : status ≡ filter_status_of answer
+  pub stream : Filters (decides rules) max_payload raw_turns a b k l answer ⊎ NeverFiltered a b k l answer
+  pub exact : (input : List ℕ) → a.left ≡ Some input → FiltersExactly (decides rules) max_payload input k l answer
+  pub complete : (input : List ℕ) → a.left ≡ Some input → IsValid plain max_payload raw_turns input → AreWhole max_payload input → NoFaults a b k l → IsDoneOrNoMemory status
+
 -- a text was printed, or a part of its front and then the sink failed
 pub record Prints (text : List ℕ) (k l : Store) (status : ℕ) : Type 0 where
   pub written : List ℕ
   pub gains : Gains k l written
   pub ends : ((status ≡ 0) × (written ≡ text)) ⊎ ((status ≡ 5) × IsPrefix written text × Rises k.faults l.faults)
 
--- the statuses from 23 on with which a command may end
-abbrev pub MayEndWith : Option Command → ℕ → Type 0
-MayEndWith (Some commands.Tidy) status = status ≡ 23
-MayEndWith (Some (commands.Recut n)) status = (status ≡ 24) ⊎ (status ≡ 25)
-MayEndWith (Some commands.Undump) status = status ≡ 26
-MayEndWith other status = ⊥
+-- The statuses from 23 on with which a run may end, by the words after `filter` and the command that is asked for: those of content faults with `filter`
+-- and with `recut` alone.
+abbrev pub MayEndWith : Option (List (List ℕ)) → Option Command → ℕ → Type 0
+MayEndWith (Some rules) asked status = (status ≡ 24) ⊎ (status ≡ 25)
+MayEndWith None (Some commands.Tidy) status = status ≡ 23
+MayEndWith None (Some (commands.Recut n)) status = (status ≡ 24) ⊎ (status ≡ 25)
+MayEndWith None (Some commands.Undump) status = status ≡ 26
+MayEndWith None other status = ⊥

@@ -6,7 +6,7 @@ ghost use Rattle.amqp_select.specs.Refusals.{texts_of};
 ghost use Rattle.amqp_types.specs.Numerals.{number_named};
 ghost use Rattle.amqp_stream.specs.Made.{most_frames};
 ghost use Rattle.amqp_program.specs.declared.command.Command.TheVariants as commands;
-ghost use Rattle.amqp_program.specs.Commands.{after_select, command_named, command_of, command_with, recut_by};
+ghost use Rattle.amqp_program.specs.Commands.{after_word, command_named, command_of, command_with, recut_by};
 ghost use Rattle.amqp_program.specs.Reports.{max_payload};
 
 use crate::report::MAX_PAYLOAD;
@@ -113,12 +113,12 @@ pub fn parse_command(words: &[String]) -> Option<Command>
     }
 }
 
-/// The words after `select`, where it is the first.
-pub fn rules_of(words: &[String]) -> Option<&[String]>
-    ensures { option_map (λ rules. texts_of rules.now) result ≡ after_select (texts_of words.now) }
+/// The words after the first, where that is this one.
+pub fn words_after<'a>(first: &str, words: &'a [String]) -> Option<&'a [String]>
+    ensures { option_map (λ rules. texts_of rules.now) result ≡ after_word first.now (texts_of words.now) }
 {
     match words {
-        [word, rules @ ..] if word.as_str() == "select" => Some(rules),
+        [word, more @ ..] if word.as_str() == first => Some(more),
         _ => None,
     }
 }

@@ -3,6 +3,7 @@
 
 mod command;
 mod dump_command;
+mod filter_command;
 mod hex_command;
 mod laws;
 mod make_command;
@@ -10,6 +11,7 @@ mod print_command;
 mod raw_command;
 mod recut_command;
 mod report;
+mod rule_words;
 mod run;
 mod select_command;
 mod text;

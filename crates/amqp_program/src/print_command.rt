@@ -23,6 +23,10 @@ pub const HELP: &str = "feksroum: reads AMQP 0-9-1 frames and writes their canon
                       matches says keep: 1 to 64 rules, each keep or drop and then any of
                       ,channel=A or ,channel=A-B  ,kind=K  ,class=A  ,method=A  in this
                       order, where K is proto, method, header, body or beat
+  feksroum filter RULE..
+                      as select, by whole messages: a rule decides at the method that opens a
+                      message, and its content header and bodies follow; all other frames are
+                      decided by themselves
   feksroum recut N    as raw, and cuts the body of each message into body frames of N bytes, 1
                       to 131072, the last of a message shorter; all else stays
   feksroum make N     makes N frames, at most 100000, and prints the number of their bytes

@@ -1,15 +1,16 @@
 //! What the program does for each form of words.
 
-ghost use Rattle.std.specs.Prelude.{◌≡◌, ◌↔◌, ◌≤◌, ℕ, List, Some};
+ghost use Rattle.std.specs.Prelude.{◌≡◌, ◌↔◌, ◌≤◌, ℕ, List, Some, codes};
 ghost use Rattle.amqp_types.specs.Levels.{plain, tidy};
 ghost use Rattle.amqp_select.specs.declared.rule.Rule.{Rule};
 ghost use Rattle.amqp_select.specs.Refusals.{texts_of};
-ghost use Rattle.amqp_program.specs.Commands.{command_of, IsNoForm, IsSelection};
+ghost use Rattle.amqp_program.specs.Commands.{after_word, command_of, IsNoForm, IsSelection, IsFiltering};
 ghost use Rattle.amqp_program.specs.Makes.{RunsMake};
-ghost use Rattle.amqp_program.specs.Runs.{RunsDump, RunsHex, RunsRaw, RunsRecut, RunsSelect, RunsUndump, Prints, MayEndWith};
+ghost use Rattle.amqp_program.specs.Runs.{RunsDump, RunsFilter, RunsHex, RunsRaw, RunsRecut, RunsSelect, RunsUndump, Prints, MayEndWith};
 
-use crate::command::{Command, parse_command, rules_of};
+use crate::command::{Command, parse_command, words_after};
 use crate::dump_command::run_dump;
+use crate::filter_command::run_filter;
 use crate::hex_command::run_hex;
 use crate::make_command::run_make;
 use crate::print_command::{HELP, VERSION, print};
@@ -22,7 +23,7 @@ use amqp_types::Profile;
 use std::alloc::Global;
 
 /// Does all that the program does, and returns its exit status. The words are those after the program's name.
-#[tactic(auto, using(crate::proofs::HexRuns::hex_not_two, crate::proofs::RawRuns::raw_not_two, crate::proofs::Owners::owns_none, crate::proofs::Owners::owns))]
+#[tactic(auto, using(crate::proofs::HexRuns::hex_not_two, crate::proofs::RawRuns::raw_not_two, crate::proofs::Owners::owns_none, crate::proofs::Owners::owns, crate::proofs::Owners::owns_filter))]
 pub fn run<S: Source, K: Sink>(alloc: Global, words: &[String], source: &mut S, sink: &mut K) -> u8
     ensures hex { command_of (texts_of words.now) ≡ Some Command.Hex
         → RunsHex plain (S.supply source.old) (S.supply source.new) (K.store sink.old) (K.store sink.new) result }
@@ -42,20 +43,25 @@ pub fn run<S: Source, K: Sink>(alloc: Global, words: &[String], source: &mut S, 
         → RunsRecut n (S.supply source.old) (S.supply source.new) (K.store sink.old) (K.store sink.new) result }
     ensures select { (rules : List Rule) → IsSelection (texts_of words.now) rules
         → RunsSelect rules (S.supply source.old) (S.supply source.new) (K.store sink.old) (K.store sink.new) result }
+    ensures filter { (rules : List Rule) → IsFiltering (texts_of words.now) rules
+        → RunsFilter rules (S.supply source.old) (S.supply source.new) (K.store sink.old) (K.store sink.new) result }
     ensures help { command_of (texts_of words.now) ≡ Some Command.Help
         → Prints HELP.now (K.store sink.old) (K.store sink.new) result × (source.new ≡ source.old) }
     ensures version { command_of (texts_of words.now) ≡ Some Command.Version
         → Prints VERSION.now (K.store sink.old) (K.store sink.new) result × (source.new ≡ source.old) }
 
-    // NotTidy, BadContent, OpenContent and BadText are each of one command.
-    ensures own { 23 ≤ result → MayEndWith (command_of (texts_of words.now)) result }
+    // NotTidy and BadText are each of one command, BadContent and OpenContent of `recut` and `filter`.
+    ensures own { 23 ≤ result → MayEndWith (after_word (codes "filter") (texts_of words.now)) (command_of (texts_of words.now)) result }
 
     // Words that are none of the forms, and only they, end with 2. Nothing is read or written.
     ensures usage { (result ≡ 2) ↔ IsNoForm (texts_of words.now) }
     ensures nothing { IsNoForm (texts_of words.now) → (source.new ≡ source.old) × (sink.new ≡ sink.old) }
 {
-    if let Some(rules) = rules_of(words) {
+    if let Some(rules) = words_after("select", words) {
         return run_select(alloc, rules, source, sink);
+    }
+    if let Some(rules) = words_after("filter", words) {
+        return run_filter(alloc, rules, source, sink);
     }
     match parse_command(words) {
         Some(Command::Hex) => run_hex(alloc, Profile::Plain, source, sink),

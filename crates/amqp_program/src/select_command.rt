@@ -7,7 +7,8 @@ ghost use Rattle.amqp_program.specs.Runs.{RunsSelect};
 
 use crate::raw_command::RAW_TURNS;
 use crate::report::MAX_PAYLOAD;
-use amqp_select::{RuleError, Rules, select};
+use crate::rule_words::rules_named;
+use amqp_select::{Rules, select};
 use amqp_stream::{Sink, Source};
 use std::alloc::Global;
 
@@ -23,8 +24,8 @@ fn run_rules<S: Source, K: Sink>(alloc: Global, rules: &Rules, source: &mut S, s
     }
 }
 
-/// The same for the rules that words stand for. A rule that an earlier one covers is left out first: it decides
-/// nothing.
+/// The same for the rules that words stand for.
+#[tactic(auto, using(crate::proofs::SelectRuns::runs_named, crate::proofs::SelectRuns::select_without_memory))]
 pub fn run_select<S: Source, K: Sink>(
     alloc: Global,
     words: &[String],
@@ -37,14 +38,8 @@ pub fn run_select<S: Source, K: Sink>(
     ensures usage { (result ≡ 2) ↔ ((rules : List Rule) → ¬ Spell (texts_of words.now) rules) }
     ensures nothing { result ≡ 2 → (source.new ≡ source.old) × (sink.new ≡ sink.old) }
 {
-    let rules = match Rules::parse(alloc, words) {
-        Ok(rules) => rules,
-        Err(RuleError::NoMemory) => return 3,
-        Err(RuleError::Count) => return 2,
-        Err(RuleError::Malformed { .. }) => return 2,
-    };
-    match rules.without_covered(alloc) {
-        Ok(uncovered) => run_rules(alloc, &uncovered, source, sink),
-        Err(_) => 3,
+    match rules_named(alloc, words) {
+        Ok(rules) => run_rules(alloc, &rules, source, sink),
+        Err(status) => status,
     }
 }

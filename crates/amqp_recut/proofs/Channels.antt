@@ -20,7 +20,7 @@ use Rattle.amqp_turns.specs.Steps.{mark_after, step}
 use Rattle.amqp_turns.specs.Messages.{joined}
 use Rattle.amqp_turns.proofs.Moving.{bytes_in-push}
 use Rattle.amqp_turns.proofs.Telling.{joined-push, length-joined}
-use Rattle.amqp_recut.specs.InTurn.{greatest}
+use Rattle.amqp_turns.specs.InTurn.{greatest}
 use Rattle.amqp_recut.specs.Cuts.{frame_recut}
 use Rattle.amqp_recut.specs.Held.{Held, progress_in, kept_in, held_with}
 use Rattle.amqp_recut.specs.Stepping.{left_over, written_marked, mark_held, held_after}

@@ -16,12 +16,12 @@ use Rattle.amqp_turns.specs.Splits.{pieces}
 use Rattle.amqp_turns.proofs.Pieces.{pieces-none, pieces-more}
 use Rattle.amqp_turns.proofs.Running.{turn_runs, stands_run}
 use Rattle.amqp_turns.proofs.Telling.{joined-push, length-joined}
-use Rattle.amqp_recut.specs.InTurn.{greatest, AreInTurn, NoneIsOpen, state_on}
+use Rattle.amqp_turns.specs.InTurn.{greatest, AreInTurn, NoneIsOpen, state_on}
 use Rattle.amqp_recut.specs.Cuts.{cuts_of, frame_recut, recut_after, recut}
 use Rattle.amqp_recut.specs.Stepping.{whole_pieces, left_over}
 use Rattle.amqp_recut.specs.Laws.{IsPiece, AreCut}
 use Rattle.amqp_recut.proofs.Cutting.{given_last, given_more, left-more, given-more, given-nothing}
-use Rattle.amqp_recut.proofs.Running.{state_on-own, state_on-other, state_on-outside}
+use Rattle.amqp_turns.proofs.Turns.{state_on-own, state_on-other, state_on-outside}
 use Rattle.amqp_recut.proofs.LawsChannels.{IsCut}
 use Rattle.amqp_recut.proofs.LawsPieces.{left_none}
 use Rattle.amqp_recut.proofs.LawsUnits.{unit_recut, begun_recut}

@@ -1,7 +1,5 @@
 -- The frames of a channel are recut by themselves, whatever comes on other channels.
 use Rattle.std.proofs.Common.{◌≡◌, ℕ, Bool, true, false, eqb, List, [], ◌∷◌, ◌++◌, map, refl, sym, ap, ap₂, subst, ◌∙◌}
-use Rattle.std.specs.List.{AllByRecursion}
-use Rattle.std.proofs.lemmas.Bool.{eqb-true}
 use Rattle.std.proofs.lemmas.List.Elements.{filter-append}
 use Rattle.amqp_wire.specs.Frames.{Frame, Proto, Meth, Head, Body, Beat, BadBeat, channel_id_of}
 use Rattle.amqp_wire.specs.Outlines.{outline_of}
@@ -11,7 +9,8 @@ use Rattle.amqp_turns.specs.Steps.{step, run_state}
 use Rattle.amqp_turns.specs.Messages.{joined}
 use Rattle.amqp_turns.proofs.Running.{run_state-append}
 use Rattle.amqp_turns.proofs.Apart.{of_channel-in, of_channel-out, of_own}
-use Rattle.amqp_recut.specs.InTurn.{greatest, state_on}
+use Rattle.amqp_turns.proofs.Messages.{channel_is}
+use Rattle.amqp_turns.specs.InTurn.{greatest, state_on}
 use Rattle.amqp_recut.specs.Cuts.{cuts_of, frame_recut, recut_after, recut}
 use Rattle.amqp_recut.specs.Laws.{IsPiece, AreCut}
 
@@ -59,14 +58,6 @@ none size channel (At (Opened opening)) (Body other content) h = alone_out chann
 none size channel (At (Headed opening header bodies)) (Body other content) h = bodies_out channel other (cuts_of size (size_in (outline_of header)) (joined bodies) content) h
 none size channel Lost (Body other content) h = alone_out channel (Body other content) h
 
-channel_is : (channel : ℕ) (frame : Frame) → is_of_channel outline_of channel frame ≡ true → channel_id_of frame ≡ channel
-channel_is channel (Meth other m) h = eqb-true other channel h
-channel_is channel (Head other header) h = eqb-true other channel h
-channel_is channel (Body other content) h = eqb-true other channel h
-channel_is channel (Proto major minor revision) h = absurd cc
-channel_is channel Beat h = absurd cc
-channel_is channel (BadBeat other) h = absurd cc
-
 -- ---- frames one after another
 
 recut_later : (size channel : ℕ) (earlier frames : List Frame) → of_channel outline_of channel (recut_after size earlier frames) ≡ channel_recut size (state_on earlier channel) (of_channel outline_of channel frames)
@@ -94,31 +85,6 @@ recut_later size channel earlier (frame ∷ frames) = by_test (is_of_channel out
 
 pub recut_on : (size channel : ℕ) (frames : List Frame) → of_channel outline_of channel (recut size frames) ≡ channel_recut size (At Nothing) (of_channel outline_of channel frames)
 recut_on size channel frames = recut_later size channel [] frames
-
--- ---- all frames of a channel
-
-abbrev pub IsOn : ℕ → Frame → Type 0
-IsOn channel frame = is_of_channel outline_of channel frame ≡ true
-
-pub all_on : (channel : ℕ) (frames : List Frame) → AllByRecursion (IsOn channel) (of_channel outline_of channel frames)
-all_on channel [] = tt
-all_on channel (frame ∷ frames) = by_test (is_of_channel outline_of channel frame) refl (all_on channel frames)
-  where
-    by_test : (test : Bool) → is_of_channel outline_of channel frame ≡ test → AllByRecursion (IsOn channel) (of_channel outline_of channel frames) → AllByRecursion (IsOn channel) (of_channel outline_of channel (frame ∷ frames))
-    by_test true e rest =
-        let has : frame ∷ of_channel outline_of channel frames ≡ of_channel outline_of channel (frame ∷ frames) = rw e refl in
-        subst (AllByRecursion (IsOn channel)) has (e, rest)
-    by_test false e rest =
-        let has : of_channel outline_of channel frames ≡ of_channel outline_of channel (frame ∷ frames) = rw e refl in
-        subst (AllByRecursion (IsOn channel)) has rest
-
-pub all_front : {X : Type 0} (P : X → Type 0) (xs ys : List X) → AllByRecursion P (xs ++ ys) → AllByRecursion P xs
-all_front P [] ys h = tt
-all_front P (x ∷ xs) ys h = (h.0, all_front P xs ys h.1)
-
-pub all_back : {X : Type 0} (P : X → Type 0) (xs ys : List X) → AllByRecursion P (xs ++ ys) → AllByRecursion P ys
-all_back P [] ys h = h
-all_back P (x ∷ xs) ys h = all_back P xs ys h.1
 
 -- ---- bodies that are cut
 

@@ -1,19 +1,16 @@
 -- Frames recut once: they are in turn, with the same messages, and their bodies are cut.
 use Rattle.std.proofs.Common.{◌≡◌, ℕ, ◌≤◌, List, ◌++◌, refl, sym, ap, ap₂, subst, ◌∙◌}
 use Rattle.std.specs.List.{AllByRecursion, flat_map}
-use Rattle.std.proofs.lemmas.List.{append-nil}
 use Rattle.amqp_wire.specs.Frames.{Frame}
 use Rattle.amqp_wire.specs.Outlines.{outline_of}
-use Rattle.amqp_turns.specs.Units.{of_channel, Finished, Begun, Nothing, begun_frames, finished_frames, IsInTurn}
-use Rattle.amqp_turns.specs.Answers.{begun_answers, finished_answers, answers_in}
+use Rattle.amqp_turns.specs.Units.{of_channel, Nothing, begun_frames, finished_frames, IsInTurn}
 use Rattle.amqp_turns.specs.Stands.{State, At}
-use Rattle.amqp_turns.specs.Steps.{run_answers}
-use Rattle.amqp_turns.proofs.Running.{turn_runs}
-use Rattle.amqp_recut.specs.InTurn.{greatest, AreInTurn}
+use Rattle.amqp_turns.proofs.Messages.{IsOn, all_on, all_front, done_of, turn_done}
+use Rattle.amqp_turns.specs.InTurn.{greatest, AreInTurn}
 use Rattle.amqp_recut.specs.Cuts.{recut}
 use Rattle.amqp_recut.specs.Laws.{messages_on, AreCut}
-use Rattle.amqp_recut.proofs.LawsChannels.{recut_on, channel_recut, IsOn, all_on, all_front, AreCutAfter, cut_append, are_cut}
-use Rattle.amqp_recut.proofs.LawsUnits.{unit_recut, begun_recut, units_cut, done_by, done_by_append, held_begun, AllRemade, all_remade, BegunRemade, begun_remade}
+use Rattle.amqp_recut.proofs.LawsChannels.{recut_on, channel_recut, AreCutAfter, cut_append, are_cut}
+use Rattle.amqp_recut.proofs.LawsUnits.{unit_recut, begun_recut, units_cut, AllRemade, all_remade, BegunRemade, begun_remade}
 
 -- the frames of a channel, recut, by its units
 pub by_units : (size channel : ℕ) (frames : List Frame) → 1 ≤ size → (h : IsInTurn outline_of greatest (of_channel outline_of channel frames)) → of_channel outline_of channel (recut size frames) ≡ flat_map (unit_recut size channel) h.units ++ begun_recut size channel h.begun
@@ -21,14 +18,6 @@ by_units size channel frames some h =
     recut_on size channel frames
     ∙ ap (channel_recut size (At Nothing)) h.are
     ∙ units_cut size channel h.units h.begun some h.finished h.is_begun (subst (AllByRecursion (IsOn channel)) h.are (all_on channel frames))
-
--- the messages of units
-units_done : (xs : List Frame) (units : List (Finished Frame)) (begun : Begun Frame) → run_answers outline_of greatest (At Nothing) xs ≡ answers_in units begun → done_by (run_answers outline_of greatest (At Nothing) xs) ≡ done_by (flat_map finished_answers units)
-units_done xs units begun e =
-    ap done_by e
-    ∙ done_by_append (flat_map finished_answers units) (begun_answers begun)
-    ∙ ap (λ cs. done_by (flat_map finished_answers units) ++ cs) (held_begun begun)
-    ∙ append-nil (done_by (flat_map finished_answers units))
 
 -- units of a channel that are the frames recut, with the same messages
 pub record IsRemade (size channel : ℕ) (frames : List Frame) (h : IsInTurn outline_of greatest (of_channel outline_of channel frames)) : Type 0 where
@@ -65,10 +54,10 @@ messages_stay size frames some turn channel =
     let h = turn channel in
     let made = is_remade size channel frames some h in
     let g = made.turn in
-    units_done (of_channel outline_of channel (recut size frames)) g.units g.begun (ap (run_answers outline_of greatest (At Nothing)) g.are ∙ (turn_runs outline_of greatest g.units g.begun g.finished g.is_begun).answers_are)
-    ∙ ap (λ us. done_by (flat_map finished_answers us)) made.units_are
+    turn_done (of_channel outline_of channel (recut size frames)) g
+    ∙ ap done_of made.units_are
     ∙ made.units.same
-    ∙ sym (units_done (of_channel outline_of channel frames) h.units h.begun (ap (run_answers outline_of greatest (At Nothing)) h.are ∙ (turn_runs outline_of greatest h.units h.begun h.finished h.is_begun).answers_are))
+    ∙ sym (turn_done (of_channel outline_of channel frames) h)
 
 pub bodies_are_cut : (size : ℕ) (frames : List Frame) → 1 ≤ size → AreInTurn frames → AreCut size (recut size frames)
 bodies_are_cut size frames some turn = are_cut size (recut size frames) (λ channel. on_channel channel (is_remade size channel frames some (turn channel)))

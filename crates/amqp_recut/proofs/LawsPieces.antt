@@ -14,7 +14,7 @@ use Rattle.amqp_turns.specs.Splits.{pieces}
 use Rattle.amqp_turns.proofs.Moving.{bytes_in-push}
 use Rattle.amqp_turns.proofs.Running.{body_step, last_step}
 use Rattle.amqp_turns.proofs.Telling.{joined-push, length-joined}
-use Rattle.amqp_recut.specs.InTurn.{greatest}
+use Rattle.amqp_turns.specs.InTurn.{greatest}
 use Rattle.amqp_recut.specs.Cuts.{cuts_of}
 use Rattle.amqp_recut.specs.Stepping.{whole_pieces, left_over, pieces_given}
 use Rattle.amqp_recut.specs.Laws.{IsPiece}

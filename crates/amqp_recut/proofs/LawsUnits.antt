@@ -8,22 +8,20 @@ use Rattle.amqp_wire.specs.declared.outline.FrameOutline.TheVariants as outlines
 use Rattle.amqp_wire.specs.Frames.{Frame, Proto, Meth, Head, Body, Beat, BadBeat, channel_id_of}
 use Rattle.amqp_wire.specs.Outlines.{outline_of}
 use Rattle.amqp_turns.specs.Units.{Finished, Lone, Empty, Full, Begun, Nothing, Opened, Headed, IsOpening, IsOtherMethod, IsBasicHeader, IsBody, size_in, count_in, bytes_in, begun_frames, finished_frames, frames_in, IsBegun, IsFinished}
-use Rattle.amqp_turns.specs.Answers.{Answer, Ends, bodies_within, begun_answers, finished_answers}
+use Rattle.amqp_turns.specs.Answers.{Answer, finished_answers}
 use Rattle.amqp_turns.specs.Stands.{State, At}
 use Rattle.amqp_turns.specs.Steps.{step, run_state}
-use Rattle.amqp_turns.specs.Messages.{Content, method_in, header_in, bytes_of, joined, content_with}
-use Rattle.amqp_turns.specs.Outcomes.{answer_outcome}
+use Rattle.amqp_turns.specs.Messages.{method_in, header_in, bytes_of, joined}
 use Rattle.amqp_turns.specs.Splits.{pieces}
-use Rattle.amqp_turns.specs.Laws.{done_in}
 use Rattle.amqp_turns.proofs.Pieces.{ArePieces, pieces_are}
-use Rattle.amqp_turns.proofs.Running.{opening_step, header_step, empty_step, finished_runs, run_state-append}
+use Rattle.amqp_turns.proofs.Running.{empty_step, finished_runs, run_state-append}
 use Rattle.amqp_turns.proofs.Telling.{joined-push, length-joined}
-use Rattle.amqp_recut.specs.InTurn.{greatest}
+use Rattle.amqp_turns.proofs.Messages.{IsOn, all_front, all_back, opened, headed_by, done_by, done_by_append, full_done}
+use Rattle.amqp_turns.specs.InTurn.{greatest}
 use Rattle.amqp_recut.specs.Cuts.{frame_recut}
 use Rattle.amqp_recut.specs.Stepping.{whole_pieces, left_over}
-use Rattle.amqp_recut.proofs.LawsChannels.{channel_recut, IsOn, all_front, all_back, IsCut, AreCutAfter, cut_append}
+use Rattle.amqp_recut.proofs.LawsChannels.{channel_recut, IsCut, AreCutAfter, cut_append}
 use Rattle.amqp_recut.proofs.LawsPieces.{bodies_with, flat, joined_bodies, bytes_bodies, all_bodies, flat_push, whole_fit, open_bodies, closed_bodies, cut_given}
-use Rattle.amqp_turns.proofs.Whole.{done_in-append}
 
 -- a unit recut: the body of a message in pieces
 abbrev pub unit_recut : (size channel : ℕ) → Finished Frame → List Frame
@@ -120,12 +118,6 @@ none_left_over size bytes = ap (λ l. l ++ bytes) (drop_all ((0 / size) * size) 
 
 -- ---- a unit recut
 
-opened : (opening : Frame) → IsOpening (outline_of opening) → (step outline_of greatest (At Nothing) opening).1 ≡ At (Opened opening)
-opened opening h = ap (λ (p : Answer Frame × State Frame). p.1) (opening_step outline_of greatest opening (outline_of opening) refl h)
-
-headed_by : (opening header : Frame) → IsBasicHeader (outline_of header) → size_in (outline_of header) ≤ greatest → 0 < size_in (outline_of header) → (step outline_of greatest (At (Opened opening)) header).1 ≡ At (Headed opening header [])
-headed_by opening header basic fits some = ap (λ (p : Answer Frame × State Frame). p.1) (header_step outline_of greatest opening header (outline_of header) refl basic fits some)
-
 unit_cut : (size channel : ℕ) (unit : Finished Frame) (frames : List Frame) → 1 ≤ size → IsFinished outline_of greatest unit → AllByRecursion (IsOn channel) (finished_frames unit) → channel_recut size (At Nothing) (finished_frames unit ++ frames) ≡ unit_recut size channel unit ++ channel_recut size (At Nothing) frames
 unit_cut size channel (Lone method) frames some h on = recut_first size (At Nothing) (At Nothing) method frames (other_no_body (outline_of method) h) (finished_runs outline_of greatest (Lone method) h).state_is
 unit_cut size channel (Empty opening header) frames some h on =
@@ -170,27 +162,6 @@ units_cut size channel (unit ∷ units) begun some finished is_begun on =
     ∙ unit_cut size channel unit rest some finished.0 (all_front (IsOn channel) (finished_frames unit) rest on_all)
     ∙ ap (λ fs. unit_recut size channel unit ++ fs) (units_cut size channel units begun some finished.1 is_begun (all_back (IsOn channel) (finished_frames unit) rest on_all))
     ∙ sym (append_assoc (unit_recut size channel unit) (flat_map (unit_recut size channel) units) (begun_recut size channel begun))
-
--- ---- the messages that outcomes complete
-
--- the messages of outcomes
-abbrev pub done_by : List (Answer Frame) → List Content
-done_by answers = done_in (map answer_outcome answers)
-
-pub done_by_append : (xs ys : List (Answer Frame)) → done_by (xs ++ ys) ≡ done_by xs ++ done_by ys
-done_by_append xs ys = ap done_in (map-append answer_outcome xs ys) ∙ done_in-append (map answer_outcome xs) (map answer_outcome ys)
-
-held_bodies : (opening header : Frame) (before bodies : List Frame) → done_by (bodies_within opening header before bodies) ≡ []
-held_bodies opening header before [] = refl
-held_bodies opening header before (body ∷ bodies) = held_bodies opening header (before ++ body ∷ []) bodies
-
-pub held_begun : (begun : Begun Frame) → done_by (begun_answers begun) ≡ []
-held_begun Nothing = refl
-held_begun (Opened opening) = refl
-held_begun (Headed opening header bodies) = held_bodies opening header [] bodies
-
-full_done : (opening header : Frame) (bodies : List Frame) (last : Frame) → done_by (finished_answers (Full opening header bodies last)) ≡ content_with (Headed opening header bodies) last ∷ []
-full_done opening header bodies last = done_by_append (begun_answers (Headed opening header bodies)) (Ends (Headed opening header bodies) last ∷ []) ∙ ap (λ cs. cs ++ content_with (Headed opening header bodies) last ∷ []) (held_begun (Headed opening header bodies))
 
 -- ---- a unit recut is a unit, of the same message, whose bodies are cut
 

@@ -1,6 +1,5 @@
 -- The lemmas of amqp_recut.
 pub mod Cutting
-pub mod Holding
 pub mod Gathering
 pub mod Piecing
 pub mod Channels

@@ -33,13 +33,14 @@ use Rattle.amqp_recut.specs.declared.errors.Refusal.{Refusal}
 use Rattle.amqp_recut.specs.declared.errors.Refusal.TheVariants as refusals
 use Rattle.amqp_recut.specs.declared.recutter.Recutter.{Recutter}
 use Rattle.amqp_recut.specs.Errors.{as_recut}
-use Rattle.amqp_recut.specs.InTurn.{greatest, AreInTurn, IsNextFault, IsOpen, NoneIsOpen, state_on}
+use Rattle.amqp_turns.specs.InTurn.{greatest, AreInTurn, IsNextFault, IsOpen, NoneIsOpen, state_on}
 use Rattle.amqp_recut.specs.Held.{Held}
 use Rattle.amqp_recut.specs.Stepping.{recutting, end_recutting}
 use Rattle.amqp_recut.specs.Recutting.{frames_at, recut_bytes, AtContent, IsAllInTurn, HasCauseRecut, HasWrittenRecut, Recuts, NeverBegan, IsAnsweredTo, IsRecutExactly, UnlessStoppedRecut, RecutsExactly, IsComplete, IsOkOrNoMemory}
-use Rattle.amqp_recut.proofs.Holding.{none_held, some_held}
+use Rattle.amqp_turns.proofs.Holding.{none_held, some_held}
 use Rattle.amqp_recut.proofs.Channels.{held_of_state}
-use Rattle.amqp_recut.proofs.Running.{StandsFor, Ends, all, fault, Ran, runs, longest_ran, none_lost, lost_later}
+use Rattle.amqp_turns.proofs.Turns.{none_lost, lost_later}
+use Rattle.amqp_recut.proofs.Running.{StandsFor, Ends, all, fault, Ran, runs, longest_ran}
 use Rattle.amqp_stream.proofs.Transcribing.{error_by, error_by-cause, unless, caused_by, written_unless}
 
 -- ---- results

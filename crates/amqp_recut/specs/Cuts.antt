@@ -7,7 +7,7 @@ use Rattle.amqp_turns.specs.Units.{Nothing, Opened, Headed, size_in}
 use Rattle.amqp_turns.specs.Stands.{State, At, Lost}
 use Rattle.amqp_turns.specs.Messages.{joined}
 use Rattle.amqp_turns.specs.Splits.{piece_count}
-use Rattle.amqp_recut.specs.InTurn.{state_on}
+use Rattle.amqp_turns.specs.InTurn.{state_on}
 
 -- A body of n bytes is cut by size: its cut k, for each k with k * size below n, goes from k * size up to here.
 abbrev pub cut_end : (size n k : ℕ) → ℕ

@@ -1,8 +1,7 @@
 -- What a writer keeps of the channels on which a message has begun.
 use Rattle.std.specs.Prelude.{ℕ, List, [], Option, Some, None}
-use Rattle.std.specs.FinMap as finite
-use Rattle.std.specs.Ordering.{nat_cmp}
 use Rattle.amqp_turns.specs.declared.progress.Progress.{Progress}
+pub use Rattle.amqp_turns.specs.ByChannel.{ByChannel, set_at}
 use Rattle.amqp_recut.specs.declared.message.Message.{Message}
 
 -- how far a message has come, and the bytes of its body that are not written yet
@@ -20,7 +19,7 @@ entry_held entry = (entry.0, held_of entry.1)
 
 -- what is kept of each channel of which something is
 abbrev pub HeldByChannel : Type 0
-HeldByChannel = finite.FinMap nat_cmp Held
+HeldByChannel = ByChannel Held
 
 -- how far the content of a channel has come; None where nothing is kept of it
 abbrev pub progress_in : Option Held → Option Progress
@@ -31,11 +30,6 @@ progress_in (Some held) = Some held.progress
 abbrev pub kept_in : Option Held → List ℕ
 kept_in None = []
 kept_in (Some held) = held.kept
-
--- what is kept once this is kept of a channel, in the place of what was; of None nothing
-abbrev pub set_at : HeldByChannel → ℕ → Option Held → HeldByChannel
-set_at holding channel None = finite.remove holding channel
-set_at holding channel (Some held) = finite.insert holding channel held
 
 -- nothing is kept of a message that is complete
 abbrev pub held_with : Option Progress → List ℕ → Option Held

@@ -1,19 +1,12 @@
 -- What recutting keeps of a sequence of frames, and what it makes of their bodies.
-use Rattle.std.specs.Prelude.{◌≡◌, ℕ, ◌-◌, ◌<◌, ◌≤◌, min, List, ◌∷◌, ◌++◌, length, map}
+use Rattle.std.specs.Prelude.{◌≡◌, ℕ, ◌-◌, ◌<◌, ◌≤◌, min, List, ◌∷◌, ◌++◌, length}
 use Rattle.amqp_wire.specs.Frames.{Frame, Body}
 use Rattle.amqp_wire.specs.Outlines.{outline_of}
 use Rattle.amqp_turns.specs.Units.{Nothing, Opened, Headed, of_channel, size_in, bytes_in}
 use Rattle.amqp_turns.specs.Stands.{State, At, Lost}
-use Rattle.amqp_turns.specs.Messages.{Content}
-use Rattle.amqp_turns.specs.Outcomes.{answer_outcome}
-use Rattle.amqp_turns.specs.Laws.{done_in}
-use Rattle.amqp_turns.specs.Steps.{run_answers}
-use Rattle.amqp_recut.specs.InTurn.{greatest, state_on, AreInTurn, NoneIsOpen}
+pub use Rattle.amqp_turns.specs.Laws.{messages_on}
+use Rattle.amqp_turns.specs.InTurn.{state_on, AreInTurn, NoneIsOpen}
 use Rattle.amqp_recut.specs.Cuts.{recut}
-
--- the messages that are complete on a channel, in order
-abbrev pub messages_on : ℕ → List Frame → List Content
-messages_on channel frames = done_in (map answer_outcome (run_answers outline_of greatest (At Nothing) (of_channel outline_of channel frames)))
 
 -- a body that comes after these has the size, or is the last of its message and no longer
 abbrev pub IsPiece : ℕ → State Frame → List ℕ → Type 0

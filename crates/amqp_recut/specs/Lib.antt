@@ -1,5 +1,5 @@
 -- The definitions of amqp_recut.
-pub mod InTurn
+pub use Rattle.amqp_turns.specs.InTurn
 pub mod Cuts
 pub mod Held
 pub mod Errors

@@ -13,7 +13,7 @@ use Rattle.amqp_stream.specs.Writing.{IsPrefix}
 use Rattle.amqp_stream.specs.Transcribing.{IsSequence, IsCausedBy, UnlessStopped, IsOutOfMemory, answer_to, IsWrittenUnless}
 use Rattle.amqp_recut.specs.declared.errors.RecutError.{RecutError}
 use Rattle.amqp_recut.specs.declared.errors.RecutError.TheVariants as errors
-use Rattle.amqp_recut.specs.InTurn.{IsLongestInTurn, IsNextFault, IsOpen, NoneIsOpen, AreInTurn}
+use Rattle.amqp_turns.specs.InTurn.{IsLongestInTurn, IsNextFault, IsOpen, NoneIsOpen, AreInTurn}
 use Rattle.amqp_recut.specs.Cuts.{recut}
 use Rattle.amqp_recut.specs.Stepping.{is_content_type}
 

@@ -22,7 +22,7 @@ use Rattle.amqp_stream.specs.Writing.{IsFaulty}
 use Rattle.amqp_recut.specs.declared.errors.Refusal.{Refusal}
 use Rattle.amqp_recut.specs.declared.errors.Refusal.TheVariants as refusals
 use Rattle.amqp_recut.specs.declared.recutter.Recutter.{Recutter}
-use Rattle.amqp_recut.specs.InTurn.{greatest}
+use Rattle.amqp_turns.specs.InTurn.{greatest}
 use Rattle.amqp_recut.specs.Held.{Held, progress_in, kept_in, held_with, set_at}
 
 -- ---- pieces

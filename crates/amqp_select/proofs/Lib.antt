@@ -5,3 +5,4 @@ pub mod Reading
 pub mod Covered
 pub mod Uncovered
 pub mod Selected
+pub mod EqualRules

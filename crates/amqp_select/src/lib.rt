@@ -9,7 +9,7 @@ mod rule;
 mod rules;
 mod selecting;
 
-pub use equality::equal_rule_errors;
+pub use equality::{equal_rule_errors, equal_rules};
 pub use errors::RuleError;
 pub use laws::{covered_rules_decide_nothing, words_spell_one_rule};
 pub use rules::Rules;

@@ -33,6 +33,27 @@ impl Model for Rules {
     ghost view = { λ rules. rules.rules.items };
 }
 
+impl PartialEq for Rules {
+    ghost use Rattle.std.specs.Cmp.Lexicographic.{lists_per, pointwise};
+    ghost use Rattle.amqp_select.specs.contracts.rule.RulePartialEq.TheImpl as rule;
+    ghost use Rattle.amqp_select.specs.contracts.rule.RulePartialEq.TheImpl.Laws.{laws-law};
+
+    ghost eq = { pointwise rule.ghosts.eq };
+
+    ghost laws = { lists_per laws-law };
+
+    fn eq(&self, other: &Rules) -> bool {
+        self.rules == other.rules
+    }
+}
+
+impl Eq for Rules {
+    ghost use Rattle.std.specs.Cmp.Lexicographic.{lists_equiv};
+    ghost use Rattle.amqp_select.specs.contracts.rule.RuleEq.TheImpl.Laws.{laws-law};
+
+    ghost laws = { lists_equiv laws-law };
+}
+
 impl Rules {
     /// The rules that 1 to 64 words stand for, one a word. Whether they do is found without memory.
     pub fn parse(alloc: Global, words: &[String]) -> Result<Rules, RuleError>

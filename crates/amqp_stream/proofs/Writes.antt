@@ -1,8 +1,9 @@
 -- Writes one after another.
-use Rattle.std.proofs.Common.{◌≡◌, ◌≢◌, ℕ, ◌+◌, ◌-◌, List, [], ◌∷◌, ◌++◌, length, get_or, take, drop, Bool, true, false, Result, Ok, Err, refl, sym, ap, subst, ◌∙◌, arith, append_assoc, append-nil}
+use Rattle.std.proofs.Common.{◌≡◌, ◌≢◌, ℕ, ◌+◌, ◌-◌, List, [], ◌++◌, length, take, drop, Bool, true, false, Result, Ok, Err, refl, sym, ap, subst, ◌∙◌, append_assoc, append-nil}
 use Rattle.std.proofs.lemmas.List.{take_rest, take-append-drop}
 use Rattle.std.proofs.Math.Seq.{take-add}
 use Rattle.amqp_wire.specs.declared.frame_type.AMQPFrameType.TheVariants as kinds
+use Rattle.amqp_wire.specs.declared.version.ProtocolVersion.{ProtocolVersion}
 use Rattle.amqp_wire.specs.Frames.{Raw, Frame, Body, Proto, beat_on}
 use Rattle.amqp_wire.specs.Verdicts.{IsPayloadError, whole, whole_as, is_at, judged_frame}
 use Rattle.amqp_wire.specs.Spelling.{framed, proto}
@@ -101,17 +102,10 @@ pub wrote-beat : (raw : Raw) (a : Store) (before after bytes : List ℕ) → raw
 unfolding whole_as
 wrote-beat raw a before after bytes k e h = added raw a before after (beat_on raw.channel) (rw k refl) (h ∙ ap (λ (xs : List ℕ). before ++ xs) (e ∙ canon_beat raw.channel))
 
-whole-proto : (payload : List ℕ) (channel : ℕ) → length payload ≡ 3 → whole_as kinds.ProtocolHeader channel payload ≡ Ok (Proto (get_or payload 0 0) (get_or payload 1 0) (get_or payload 2 0))
-unfolding whole_as
-whole-proto [] channel e = absurd (omega arith)
-whole-proto (a ∷ []) channel e = absurd (omega arith)
-whole-proto (a ∷ b ∷ []) channel e = absurd (omega arith)
-whole-proto (a ∷ b ∷ c ∷ []) channel e = refl
-whole-proto (a ∷ b ∷ c ∷ d ∷ more) channel e = absurd (omega arith)
-
-pub wrote-proto : (raw : Raw) (a : Store) (before after bytes : List ℕ) → raw.kind ≡ kinds.ProtocolHeader → length raw.payload ≡ 3 → bytes ≡ proto (get_or raw.payload 0 0) (get_or raw.payload 1 0) (get_or raw.payload 2 0) → after ≡ before ++ bytes → WritesFrame raw a a before after (Ok tt)
+pub wrote-proto : (raw : Raw) (a : Store) (before after bytes : List ℕ) (v : ProtocolVersion) → raw.kind ≡ kinds.ProtocolHeader → whole_as kinds.ProtocolHeader raw.channel raw.payload ≡ Ok (Proto v.major v.minor v.revision)
+    → bytes ≡ proto v.major v.minor v.revision → after ≡ before ++ bytes → WritesFrame raw a a before after (Ok tt)
 unfolding canon
-wrote-proto raw a before after bytes k e is h = added raw a before after (Proto (get_or raw.payload 0 0) (get_or raw.payload 1 0) (get_or raw.payload 2 0)) (rw k (whole-proto raw.payload raw.channel e)) (h ∙ ap (λ (xs : List ℕ). before ++ xs) is)
+wrote-proto raw a before after bytes v k is_whole is h = added raw a before after (Proto v.major v.minor v.revision) (rw k is_whole) (h ∙ ap (λ (xs : List ℕ). before ++ xs) is)
 
 -- nothing was gathered
 pub kept : (a : Store) (before after : List ℕ) → after ≡ before → Keeps a a before after
@@ -128,6 +122,9 @@ pub record IsNone (raw : Raw) (cause : Cause) : Type 0 where
 
 abbrev pub refusing : ParserError → Result (Unit {0}) ParserError
 refusing error = Err error
+
+pub refused_by : {error other : ParserError} → refusing error ≡ refusing other → error ≡ other
+refused_by h = cc
 
 pub is_none : (raw : Raw) (error : ParserError) → IsPayloadError error → refusing error ≢ Err parses.NoMemory → RefusesWhole error (whole raw) → IsNone raw (cause_of (payload_fault error))
 is_none raw parses.NoMemory inside some h = absurd (some refl)

@@ -206,18 +206,12 @@ pub fn write_canonical<K: Sink>(
     ensures compact { length out.new.bytes ≤ length out.old.bytes + frame_length (raw_of raw.entry) }
 {
     match raw.frame_type {
-        AMQPFrameType::ProtocolHeader => match raw.payload {
-            [major, minor, revision] => {
-                let version = ProtocolVersion {
-                    major: *major,
-                    minor: *minor,
-                    revision: *revision,
-                };
+        AMQPFrameType::ProtocolHeader => match ProtocolVersion::from_payload(raw.payload) {
+            Ok(version) => {
                 out.push(&header_bytes(version));
                 Ok(())
             }
-            [_, _, _, _, ..] => Err(StreamError::TrailingBytes),
-            _ => Err(StreamError::ShortPayload),
+            Err(error) => Err(payload_error(error)),
         },
         AMQPFrameType::Method => write_typed(out, raw),
         AMQPFrameType::Header => write_typed(out, raw),

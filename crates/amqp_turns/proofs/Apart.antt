@@ -1,5 +1,5 @@
 -- Frames of many channels: what a channel's content gives depends on its own frames alone.
-use Rattle.std.proofs.Common.{◌≡◌, ◌≢◌, ℕ, Bool, true, false, eqb, List, [], ◌∷◌, ◌++◌, map, refl, sym, ap, ap₂, subst, ◌∙◌, arith, inl, inr, Option}
+use Rattle.std.proofs.Common.{◌≡◌, ◌≢◌, ℕ, Bool, true, false, eqb, List, [], ◌∷◌, ◌++◌, map, refl, sym, ap, ap₂, subst, ◌∙◌, arith, inl, inr, Option, None}
 use Rattle.std.specs.Prelude.{◌&&◌}
 use Rattle.std.proofs.lemmas.List.{append-nil, append_assoc, same_from_push}
 use Rattle.std.proofs.lemmas.Bool.{cases_eq, eq-eqb, ne_eqb}
@@ -135,5 +135,8 @@ is_given max frames frame before outcome old outside inside = record {
   inside = λ e. subst (λ (fs : List Frame). IsOutcomeOf max fs outcome) (sym (of_channel-in (channel_id_of frame) frames frame (of_own frame e))) (inside e (of_channel outline_of (channel_id_of frame) frames) (old (channel_id_of frame)));
 }
 
+pub nothing_stands : (max : ℕ) (kept : Option Kept) → kept ≡ None → AssemblerStands max [] kept
+nothing_stands max kept none = record { state = At Nothing; stands = stands_nothing outline_of max; is = none }
+
 pub none_stand : (max : ℕ) (channels : List (ℕ × Kept)) → channels ≡ [] → AllStand max [] channels
-none_stand max channels none = λ channel. record { state = At Nothing; stands = stands_nothing outline_of max; is = ap (λ cs. kept_at cs channel) none }
+none_stand max channels none = λ channel. nothing_stands max (kept_at channels channel) (ap (λ cs. kept_at cs channel) none)

@@ -6,6 +6,9 @@ pub mod Telling
 pub mod Pieces
 pub mod Whole
 pub mod Apart
+pub mod Turns
+pub mod Messages
 pub mod Errors
 pub mod Entries
 pub mod LastEntry
+pub mod Holding

@@ -1,5 +1,5 @@
 -- What a tracker keeps decides the mark of one more frame, and what to keep after it.
-use Rattle.std.proofs.Common.{◌≡◌, ℕ, ◌+◌, Bool, true, false, eqb, leb, List, [], ◌∷◌, ◌++◌, refl, sym, ap, ◌∙◌, Option, Some}
+use Rattle.std.proofs.Common.{◌≡◌, ℕ, ◌+◌, Bool, true, false, eqb, leb, List, [], ◌∷◌, ◌++◌, refl, sym, ap, ◌∙◌, Option, Some, None}
 use Rattle.amqp_wire.specs.declared.outline.FrameOutline.{FrameOutline}
 use Rattle.amqp_wire.specs.declared.outline.FrameOutline.TheVariants as outlines
 use Rattle.amqp_turns.specs.declared.mark.Mark.{Mark}
@@ -83,6 +83,10 @@ tracks_step max before after outline mark content is kept = record {
       };
 }
 
+-- nothing is kept of a channel that has had no outline
+pub nothing_tracked : (max : ℕ) (progress : Option Progress) → progress ≡ None → TrackerStands max [] progress
+nothing_tracked max progress none = record { state = At Nothing; stands = stands_nothing itself max; is = none }
+
 -- nothing is kept before the first outline
 pub none_tracked : (max : ℕ) (channels : List (ℕ × Progress)) → channels ≡ [] → (channel : ℕ) → TrackerStands max [] (kept_at channels channel)
-none_tracked max channels none channel = record { state = At Nothing; stands = stands_nothing itself max; is = ap (λ cs. kept_at cs channel) none }
+none_tracked max channels none channel = nothing_tracked max (kept_at channels channel) (ap (λ cs. kept_at cs channel) none)

@@ -10,6 +10,7 @@ use Rattle.amqp_turns.specs.Steps.{run_answers, run_state}
 use Rattle.amqp_turns.specs.Messages.{Content}
 use Rattle.amqp_turns.specs.Outcomes.{OutcomeView, passed, held, done, wrong, answer_outcome}
 use Rattle.amqp_turns.specs.Sequences.{AreGiven, given_of}
+use Rattle.amqp_turns.specs.InTurn.{greatest}
 
 -- The outcomes by the longest prefix in turn are those of one step after another, so each list of frames has just one list of outcomes,
 -- and one state stands for it.
@@ -26,6 +27,10 @@ done_in (passed frame ∷ rest) = done_in rest
 done_in (held ∷ rest) = done_in rest
 done_in (done content ∷ rest) = content ∷ done_in rest
 done_in (wrong fault ∷ rest) = done_in rest
+
+-- the messages that are complete on a channel, in order
+abbrev pub messages_on : ℕ → List Frame → List Content
+messages_on channel frames = done_in (map answer_outcome (run_answers outline_of greatest (At Nothing) (of_channel outline_of channel frames)))
 
 -- the outcome is no fault
 abbrev pub IsNoFault : OutcomeView → Type 0

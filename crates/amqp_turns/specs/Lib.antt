@@ -7,6 +7,8 @@ pub mod LastEntry
 pub mod Lent
 pub mod Marks
 pub mod Steps
+pub mod InTurn
+pub mod ByChannel
 pub mod Messages
 pub mod Outcomes
 pub mod Sequences

@@ -99,6 +99,15 @@ impl Tracker {
         self.track_outline(frame.to_outline())
     }
 
+    /// Forgets what has come on a channel, its fault too: it was closed, and where it is opened again its content begins anew.
+    pub fn forget(&mut self, channel_id: ChannelId)
+        ensures stands { TrackerStands self.old.max_body [] (kept_at self.new.channels channel_id) }
+        ensures others { OthersStay channel_id self.old.channels self.new.channels }
+        ensures max_body { self.new.max_body ≡ self.old.max_body }
+    {
+        self.channels.forget(channel_id);
+    }
+
     /// The number of channels on which a message has begun and is not finished. A faulted channel does
     /// not count.
     pub fn unfinished(&self) -> usize

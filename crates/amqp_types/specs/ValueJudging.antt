@@ -74,7 +74,7 @@ judge_unsigned_kind kind = judge_map (unsigned_value kind) (judge_number (unsign
 abbrev pub judge_bytes_kind : BytesKind → Judge FieldValue
 judge_bytes_kind kind = judge_map (bytes_value kind) judge_long_string
 
--- the value after a known tag; `nested` decodes a value one level deeper, where there is room for one
+-- the value after a known tag; `nested` decodes a value one level deeper, where one more may be nested
 unfoldable pub judge_behind : Option (Judge FieldValue) → FieldTag → Judge FieldValue
 judge_behind nested tag.Boolean bytes = judge_map boolean_value judge_boolean bytes
 judge_behind nested tag.ShortShortInt bytes = judge_signed_kind short_short_int bytes
@@ -106,26 +106,26 @@ unfoldable pub judge_tagged : Option (Judge FieldValue) → Judge FieldValue
 judge_tagged nested [] = past
 judge_tagged nested (byte ∷ bytes) = behind_tag nested (tag_at byte) bytes
 
--- how a value one level deeper is decoded, where there is room for so many more levels
+-- how a value one level deeper is decoded, where so many more may be nested
 unfoldable pub nested : ℕ → Option (Judge FieldValue)
 nested zero = None
-nested (suc room) = Some (judge_tagged (nested room))
+nested (suc depth_left) = Some (judge_tagged (nested depth_left))
 
--- a tag and its value, with room for so many nested tables and arrays
+-- a tag and its value, in which tables and arrays may nest so deep
 unfoldable pub judge_value : ℕ → Judge FieldValue
-judge_value room = judge_tagged (nested room)
+judge_value depth_left = judge_tagged (nested depth_left)
 
 -- ---- at most 64 levels
 
--- a tag and its value, with room for nesting of 64 levels
+-- a tag and its value, in which tables and arrays may nest 64 deep
 abbrev pub judge_field_value : Judge FieldValue
 judge_field_value = judge_value max_depth
 
--- an array without a tag: it is the first level, and its values have room for 63 more
+-- an array without a tag: it is the first level, and in its values 63 more may be nested
 abbrev pub judge_field_array : Judge (List FieldValue)
 judge_field_array = judge_array (judge_value inner_depth)
 
--- a table without a tag: it is the first level, and its values have room for 63 more
+-- a table without a tag: it is the first level, and in its values 63 more may be nested
 abbrev pub judge_field_table : Judge (List Entry)
 judge_field_table = judge_table (judge_value inner_depth)
 

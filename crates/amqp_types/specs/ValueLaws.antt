@@ -15,9 +15,9 @@ use Rattle.amqp_types.specs.ValueSpelling.{SpellsValue, SpellsFieldArray, Spells
 use Rattle.amqp_types.specs.FormLaws.{IsLawful}
 use Rattle.amqp_types.specs.declared.errors.GenError.{GenError}
 
--- The laws of a form of bytes hold of a tag and its value, whatever the room for nesting.
+-- The laws of a form of bytes hold of a tag and its value, however deep tables and arrays may nest.
 abbrev pub ValuesAreLawful : Type 0
-ValuesAreLawful = (room : ℕ) → IsLawful (judge_value room) (λ level. SpellsValue level room) tagged_bytes
+ValuesAreLawful = (depth_left : ℕ) → IsLawful (judge_value depth_left) (λ level. SpellsValue level depth_left) tagged_bytes
 
 -- The laws hold of arrays of at most 64 levels, without a tag.
 abbrev pub ArraysAreLawful : Type 0
@@ -27,9 +27,9 @@ ArraysAreLawful = IsLawful judge_field_array SpellsFieldArray array_bytes
 abbrev pub TablesAreLawful : Type 0
 TablesAreLawful = IsLawful judge_field_table SpellsFieldTable table_bytes
 
--- what is encoded with so much room is neither long nor deeper
+-- what is encoded with nesting of so many levels is neither long nor deeper
 abbrev pub SpelledIsBounded : Type 0
-SpelledIsBounded = (level : Level) (room : ℕ) (bytes : List ℕ) (v : FieldValue) → SpellsValue level room bytes v → (is_long v ≡ false) × (depth v ≤ room)
+SpelledIsBounded = (level : Level) (depth_left : ℕ) (bytes : List ℕ) (v : FieldValue) → SpellsValue level depth_left bytes v → (is_long v ≡ false) × (depth v ≤ depth_left)
 
 -- of duplicate keys the last one wins: putting the entries into a table one after another does just that
 abbrev pub SettledIsSettling : Type 0

@@ -47,16 +47,16 @@ pub record SpellsTable (level : Level) (Spells : List ℕ → FieldValue → Typ
   pub counts : IsSettled table entries
   pub once : IfStrict level (entries ≡ table)
 
--- A value without its tag, with room for so many nested tables and arrays. `Spells` says how values one level deeper are encoded.
+-- A value without its tag, in which tables and arrays may nest so deep. `Spells` says how values one level deeper are encoded.
 abbrev pub SpellsBehind : Level → ℕ → (List ℕ → FieldValue → Type 0) → List ℕ → FieldValue → Type 0
-SpellsBehind level room Spells bytes (boolean_value b) = SpellsBoolean level bytes b
-SpellsBehind level room Spells bytes (signed_value kind n) = SpellsSigned (signed_width kind) bytes n
-SpellsBehind level room Spells bytes (unsigned_value kind n) = SpellsNumber (unsigned_width kind) bytes n
-SpellsBehind level room Spells bytes (decimal_value scale n) = SpellsDecimal bytes (scale, n)
-SpellsBehind level room Spells bytes (bytes_value kind content) = SpellsLongString bytes content
-SpellsBehind level room Spells bytes (array_value vs) = (0 < room) × SpellsArray Spells bytes (items vs)
-SpellsBehind level room Spells bytes (table_value es) = (0 < room) × SpellsTable level Spells bytes (pairs es)
-SpellsBehind level room Spells bytes void_value = bytes ≡ []
+SpellsBehind level depth_left Spells bytes (boolean_value b) = SpellsBoolean level bytes b
+SpellsBehind level depth_left Spells bytes (signed_value kind n) = SpellsSigned (signed_width kind) bytes n
+SpellsBehind level depth_left Spells bytes (unsigned_value kind n) = SpellsNumber (unsigned_width kind) bytes n
+SpellsBehind level depth_left Spells bytes (decimal_value scale n) = SpellsDecimal bytes (scale, n)
+SpellsBehind level depth_left Spells bytes (bytes_value kind content) = SpellsLongString bytes content
+SpellsBehind level depth_left Spells bytes (array_value vs) = (0 < depth_left) × SpellsArray Spells bytes (items vs)
+SpellsBehind level depth_left Spells bytes (table_value es) = (0 < depth_left) × SpellsTable level Spells bytes (pairs es)
+SpellsBehind level depth_left Spells bytes void_value = bytes ≡ []
 
 -- a tag byte, and after it the value
 pub record SpellsTagged (level : Level) (Spells : List ℕ → FieldValue → Type 0) (bytes : List ℕ) (v : FieldValue) : Type 0 where
@@ -66,21 +66,21 @@ pub record SpellsTagged (level : Level) (Spells : List ℕ → FieldValue → Ty
   pub tag_is : SpellsTag level byte (tag_of v)
   pub value_is : Spells behind v
 
--- a tag and its value, with room for so many nested tables and arrays
+-- a tag and its value, in which tables and arrays may nest so deep
 unfoldable pub SpellsValue : Level → ℕ → List ℕ → FieldValue → Type 0
 SpellsValue level zero = SpellsTagged level (SpellsBehind level 0 (λ _ _. ⊥))
-SpellsValue level (suc room) = SpellsTagged level (SpellsBehind level (suc room) (SpellsValue level room))
+SpellsValue level (suc depth_left) = SpellsTagged level (SpellsBehind level (suc depth_left) (SpellsValue level depth_left))
 
 -- ---- at most 64 levels
 
--- a tag and its value, with room for nesting of 64 levels
+-- a tag and its value, in which tables and arrays may nest 64 deep
 abbrev pub SpellsFieldValue : Level → List ℕ → FieldValue → Type 0
 SpellsFieldValue level = SpellsValue level max_depth
 
--- an array without a tag: it is the first level, and its values have room for 63 more
+-- an array without a tag: it is the first level, and in its values 63 more may be nested
 abbrev pub SpellsFieldArray : Level → List ℕ → List FieldValue → Type 0
 SpellsFieldArray level = SpellsArray (SpellsValue level inner_depth)
 
--- a table without a tag: it is the first level, and its values have room for 63 more
+-- a table without a tag: it is the first level, and in its values 63 more may be nested
 abbrev pub SpellsFieldTable : Level → List ℕ → List Entry → Type 0
 SpellsFieldTable level = SpellsTable level (SpellsValue level inner_depth)

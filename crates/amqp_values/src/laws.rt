@@ -23,7 +23,7 @@ pub fn tables_are_lawful()
     ensures { TablesAreLawful }
 {}
 
-/// What is encoded is neither long nor deeper than its room for nesting.
+/// What is encoded is neither long nor deeper than it may nest.
 pub fn spelled_is_bounded()
     ensures { SpelledIsBounded }
 {}

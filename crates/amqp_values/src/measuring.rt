@@ -12,25 +12,25 @@ use amqp_types::{GenError, INNER_DEPTH, MAX_DEPTH};
 /// The first length that four bytes do not hold.
 const LENGTH_LIMIT: u64 = 1 << 32;
 
-/// Whether tables and arrays nest at most `room` deep in a value.
+/// Whether tables and arrays nest at most `depth_left` deep in a value.
 #[cycle(depth)]
-fn has_room(value: &AMQPValue, room: usize) -> bool
-    ensures { result ≡ nat_le (depth (value_of value.now)) room }
+fn has_room(value: &AMQPValue, depth_left: usize) -> bool
+    ensures { result ≡ nat_le (depth (value_of value.now)) depth_left }
 {
     match value {
-        AMQPValue::FieldArray(array) => room > 0 && array_has_room(array, room - 1),
-        AMQPValue::FieldTable(table) => room > 0 && table_has_room(table, room - 1),
+        AMQPValue::FieldArray(array) => depth_left > 0 && array_has_room(array, depth_left - 1),
+        AMQPValue::FieldTable(table) => depth_left > 0 && table_has_room(table, depth_left - 1),
         _ => true,
     }
 }
 
 /// The same of all values of an array.
 #[cycle(depth)]
-fn array_has_room(array: &FieldArray, room: usize) -> bool
-    ensures { result ≡ nat_le (values_depth (values_of array.now)) room }
+fn array_has_room(array: &FieldArray, depth_left: usize) -> bool
+    ensures { result ≡ nat_le (values_depth (values_of array.now)) depth_left }
 {
     for value in array.as_slice() {
-        if !has_room(value, room) {
+        if !has_room(value, depth_left) {
             return false;
         }
     }
@@ -39,11 +39,11 @@ fn array_has_room(array: &FieldArray, room: usize) -> bool
 
 /// The same of all values of a table.
 #[cycle(depth)]
-fn table_has_room(table: &FieldTable, room: usize) -> bool
-    ensures { result ≡ nat_le (entries_depth (entries_of table.now)) room }
+fn table_has_room(table: &FieldTable, depth_left: usize) -> bool
+    ensures { result ≡ nat_le (entries_depth (entries_of table.now)) depth_left }
 {
     for (_, value) in table.iter() {
-        if !has_room(value, room) {
+        if !has_room(value, depth_left) {
             return false;
         }
     }

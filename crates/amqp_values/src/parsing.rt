@@ -18,11 +18,15 @@ use amqp_types::{
 };
 use std::alloc::Global;
 
-/// Decodes a tag and its value, in which tables and arrays may nest `room` deep.
+/// Decodes a tag and its value, in which tables and arrays may nest `depth_left` deep.
 #[tactic(auto, using(amqp_types::proofs::Judged::refuses_next), unfolding(amqp_types::specs::ValueJudging::judge_tagged, amqp_types::specs::ValueJudging::judge_value))]
 #[cycle(read)]
-fn value_within(alloc: Global, i: &[u8], room: usize) -> Result<(usize, AMQPValue), ParserError>
-    ensures judged { Answers value_of result (judge_value room i.now) }
+fn value_within(
+    alloc: Global,
+    i: &[u8],
+    depth_left: usize,
+) -> Result<(usize, AMQPValue), ParserError>
+    ensures judged { Answers value_of result (judge_value depth_left i.now) }
     ensures used { IfOk result (λ found. (0 < found.0) × (found.0 ≤ length i.now)) }
 {
     match i {
@@ -30,7 +34,7 @@ fn value_within(alloc: Global, i: &[u8], room: usize) -> Result<(usize, AMQPValu
         [byte, rest @ ..] => match FieldTag::from_byte(*byte) {
             None => Err(ParserError::UnknownTag),
             Some(tag) => {
-                let (n, value) = behind_tag_within(alloc, tag, rest, room)?;
+                let (n, value) = behind_tag_within(alloc, tag, rest, depth_left)?;
                 Ok((1 + n, value))
             }
         },
@@ -44,9 +48,9 @@ fn behind_tag_within(
     alloc: Global,
     tag: FieldTag,
     i: &[u8],
-    room: usize,
+    depth_left: usize,
 ) -> Result<(usize, AMQPValue), ParserError>
-    ensures judged { Answers value_of result (judge_behind (nested room) tag i.now) }
+    ensures judged { Answers value_of result (judge_behind (nested depth_left) tag i.now) }
     ensures used { IfOk result (λ found. found.0 ≤ length i.now) }
 {
     match tag {
@@ -99,10 +103,10 @@ fn behind_tag_within(
             Ok((n, AMQPValue::LongString(value)))
         }
         FieldTag::FieldArray => {
-            if room == 0 {
+            if depth_left == 0 {
                 return Err(ParserError::TooDeep);
             }
-            let (n, array) = array_within(alloc, i, room - 1)?;
+            let (n, array) = array_within(alloc, i, depth_left - 1)?;
             Ok((n, AMQPValue::FieldArray(array)))
         }
         FieldTag::Timestamp => {
@@ -110,10 +114,10 @@ fn behind_tag_within(
             Ok((n, AMQPValue::Timestamp(value)))
         }
         FieldTag::FieldTable => {
-            if room == 0 {
+            if depth_left == 0 {
                 return Err(ParserError::TooDeep);
             }
-            let (n, table) = table_within(alloc, i, room - 1)?;
+            let (n, table) = table_within(alloc, i, depth_left - 1)?;
             Ok((n, AMQPValue::FieldTable(table)))
         }
         FieldTag::ByteArray => {
@@ -124,37 +128,45 @@ fn behind_tag_within(
     }
 }
 
-/// Decodes an array, in whose values tables and arrays may nest `room` deep.
+/// Decodes an array, in whose values tables and arrays may nest `depth_left` deep.
 #[tactic(auto, using(amqp_types::proofs::Judged::refuses_next, amqp_laws::proofs::Filling::refuses_whole), unfolding(amqp_types::specs::ValueJudging::judge_array))]
 #[cycle(read)]
-fn array_within(alloc: Global, i: &[u8], room: usize) -> Result<(usize, FieldArray), ParserError>
-    ensures judged { Answers (λ array. array) result (judge_array (judge_value room) i.now) }
+fn array_within(
+    alloc: Global,
+    i: &[u8],
+    depth_left: usize,
+) -> Result<(usize, FieldArray), ParserError>
+    ensures judged { Answers (λ array. array) result (judge_array (judge_value depth_left) i.now) }
     ensures used { IfOk result (λ found. found.0 ≤ length i.now) }
 {
     let (n, content) = parse_long_bytes(i)?;
-    Ok((n, values_in(alloc, content, room)?))
+    Ok((n, values_in(alloc, content, depth_left)?))
 }
 
-/// Decodes a table, in whose values tables and arrays may nest `room` deep.
+/// Decodes a table, in whose values tables and arrays may nest `depth_left` deep.
 #[tactic(auto, using(amqp_types::proofs::Judged::refuses_next, amqp_laws::proofs::Filling::refuses_whole), unfolding(amqp_types::specs::ValueJudging::judge_table))]
 #[cycle(read)]
-fn table_within(alloc: Global, i: &[u8], room: usize) -> Result<(usize, FieldTable), ParserError>
-    ensures judged { Answers (λ table. table) result (judge_table (judge_value room) i.now) }
+fn table_within(
+    alloc: Global,
+    i: &[u8],
+    depth_left: usize,
+) -> Result<(usize, FieldTable), ParserError>
+    ensures judged { Answers (λ table. table) result (judge_table (judge_value depth_left) i.now) }
     ensures used { IfOk result (λ found. found.0 ≤ length i.now) }
 {
     let (n, content) = parse_long_bytes(i)?;
-    Ok((n, entries_in(alloc, content, room)?))
+    Ok((n, entries_in(alloc, content, depth_left)?))
 }
 
 /// Decodes the values that fill an array.
 #[cycle(read)]
-fn values_in(alloc: Global, content: &[u8], room: usize) -> Result<FieldArray, ParserError>
-    ensures { AnswersWhole (λ array. array) result (filled (judge_value room) 0 content.now) }
+fn values_in(alloc: Global, content: &[u8], depth_left: usize) -> Result<FieldArray, ParserError>
+    ensures { AnswersWhole (λ array. array) result (filled (judge_value depth_left) 0 content.now) }
 {
     let mut array = FieldArray::new(alloc);
     let mut at = 0;
     while at < content.len() {
-        let (n, value) = match value_within(alloc, &content[at..], room) {
+        let (n, value) = match value_within(alloc, &content[at..], depth_left) {
             Ok(found) => found,
             Err(error) => return Err(error.inside()),
         };
@@ -166,13 +178,13 @@ fn values_in(alloc: Global, content: &[u8], room: usize) -> Result<FieldArray, P
 
 /// Decodes the entries that fill a table. Of duplicate keys the last one wins.
 #[cycle(read)]
-fn entries_in(alloc: Global, content: &[u8], room: usize) -> Result<FieldTable, ParserError>
-    ensures { AnswersWhole (λ table. table) result (read_map settled (filled (judge_entry (judge_value room)) 0 content.now)) }
+fn entries_in(alloc: Global, content: &[u8], depth_left: usize) -> Result<FieldTable, ParserError>
+    ensures { AnswersWhole (λ table. table) result (read_map settled (filled (judge_entry (judge_value depth_left)) 0 content.now)) }
 {
     let mut table = FieldTable::new(alloc);
     let mut at = 0;
     while at < content.len() {
-        let (n, (key, value)) = match entry_within(alloc, &content[at..], room) {
+        let (n, (key, value)) = match entry_within(alloc, &content[at..], depth_left) {
             Ok(found) => found,
             Err(error) => return Err(error.inside()),
         };
@@ -188,13 +200,13 @@ fn entries_in(alloc: Global, content: &[u8], room: usize) -> Result<FieldTable, 
 fn entry_within(
     alloc: Global,
     i: &[u8],
-    room: usize,
+    depth_left: usize,
 ) -> Result<(usize, (ShortString, AMQPValue)), ParserError>
-    ensures judged { Answers entry_of result (judge_entry (judge_value room) i.now) }
+    ensures judged { Answers entry_of result (judge_entry (judge_value depth_left) i.now) }
     ensures used { IfOk result (λ found. (0 < found.0) × (found.0 ≤ length i.now)) }
 {
     let (n, key) = parse_short_string(alloc, i)?;
-    let (m, value) = value_within(alloc, &i[n..], room)?;
+    let (m, value) = value_within(alloc, &i[n..], depth_left)?;
     Ok((n + m, (key, value)))
 }
 

@@ -4,9 +4,10 @@ ghost use Rattle.std.specs.Prelude.{◌≡◌, ◌≤◌, ◌-◌, [], ◌∷◌
 ghost use Rattle.amqp_types.specs.Numbers.{bytes1, bytes2, bytes4, bytes8};
 ghost use Rattle.amqp_types.specs.Flags.{flags_from};
 ghost use Rattle.amqp_types.specs.Slots.{number_item, flag_item, text_item, bytes_item, entries_item, number_form, flags_form, short_string_form, long_string_form, table_form};
-ghost use Rattle.amqp_types.specs.SlotJudging.{Steps, judge_form, judge_dropped};
+ghost use Rattle.amqp_types.specs.SlotJudging.{Steps, judge_form, judge_dropped, judge_slots};
 ghost use Rattle.amqp_types.specs.Calls.{NeedsNoMemory};
 
+use crate::from_slots::FromSlots;
 use crate::parsing::parse_field_table;
 use crate::value::FieldTable;
 use amqp_types::{
@@ -37,6 +38,14 @@ impl<'a> SlotReader<'a> {
         ensures { result ≡ length whole.now - length self.now.rest.now }
     {
         whole.len() - self.rest.len()
+    }
+
+    /// Decodes the next fields.
+    pub fn read<T: FromSlots>(&mut self, alloc: Global) -> Result<T, ParserError>
+        ensures step { Steps T.items result self.old.rest.now self.new.rest.now (judge_slots T.slots) }
+        ensures left { length self.new.rest.now ≤ length self.old.rest.now }
+    {
+        T::read(self, alloc)
     }
 
     /// Decodes a number of 1 byte.

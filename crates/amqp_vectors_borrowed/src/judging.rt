@@ -2,7 +2,7 @@
 
 use crate::{payloads, slots, values};
 use amqp_canonical::{
-    Judgement, Shape, ValueJudgement, judge_array, judge_content_header, judge_payload,
+    Form, Judgement, Slot, ValueJudgement, judge_array, judge_content_header, judge_payload,
     judge_slots, judge_table, judge_value,
 };
 use amqp_types::ParserError;
@@ -16,7 +16,14 @@ pub enum Call {
     Value(usize),
     Array(usize),
     Table(usize),
-    Slots(&'static [Shape]),
+    /// A field of each shape.
+    Shapes,
+
+    /// Two reserved fields of any length, and one after them.
+    Skipped,
+
+    /// So many flags.
+    Flags(u8),
     Payload,
     ContentHeader,
 }
@@ -46,12 +53,15 @@ fn of_value(found: Result<ValueJudgement, ParserError>) -> Judged {
     }
 }
 
+#[tactic(auto, unfolding(amqp_types::specs::SlotBytes::form_bytes))]
 fn judged(call: Call, bytes: &[u8]) -> Judged {
     match call {
-        Call::Value(room) => of_value(judge_value(bytes, room)),
-        Call::Array(room) => of_value(judge_array(bytes, room)),
-        Call::Table(room) => of_value(judge_table(bytes, room)),
-        Call::Slots(shapes) => of_fields(judge_slots(shapes, bytes)),
+        Call::Value(depth_left) => of_value(judge_value(bytes, depth_left)),
+        Call::Array(depth_left) => of_value(judge_array(bytes, depth_left)),
+        Call::Table(depth_left) => of_value(judge_table(bytes, depth_left)),
+        Call::Shapes => of_fields(judge_slots(&slots::SHAPES, bytes)),
+        Call::Skipped => of_fields(judge_slots(&slots::SKIPPED, bytes)),
+        Call::Flags(count) => of_fields(judge_slots(&[Slot::Kept(Form::Flags(count))], bytes)),
         Call::Payload => of_fields(judge_payload(bytes)),
         Call::ContentHeader => of_fields(judge_content_header(bytes)),
     }
@@ -94,7 +104,7 @@ fn bytes_are_judged() -> Result<(), Fail> {
 #[test]
 fn changed_bytes_are_judged(rt: HostRuntime) -> Result<(), Fail> {
     let alloc = rt.alloc();
-    let (table, fields) = (Call::Table(63), Call::Slots(&slots::SHAPES));
+    let (table, fields) = (Call::Table(63), Call::Shapes);
     are_judged_then(alloc, table, &values::KINDS, &values::CHANGED)?;
     are_judged_then(alloc, fields, &slots::BYTES, &slots::CHANGED)?;
     let header = Call::ContentHeader;

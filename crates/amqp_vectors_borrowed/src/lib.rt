@@ -11,6 +11,8 @@ mod parts;
 #[cfg(test)]
 mod payloads;
 #[cfg(test)]
+mod sameness;
+#[cfg(test)]
 mod slots;
 #[cfg(test)]
 mod streams;

@@ -1,11 +1,11 @@
 //! Where the parts of entries, values and fields lie, the shapes of fields, and the laws of equality.
 
 use crate::slots::BYTES;
-use amqp_canonical::Shape::{LongLong, LongString, ReservedShort, Short, ShortString};
+use amqp_canonical::Slot::{Kept, Reserved};
 use amqp_canonical::{
-    Judgement, ValueJudgement, bytes_from, content_of, entry_size, equal_judgements, equal_shapes,
-    equal_value_judgements, has_bit, header_shapes, next_entry, property_shapes, shapes_of,
-    slot_size, split_key, value_size,
+    Form, Judgement, ValueJudgement, bytes_from, content_of, entry_size, equal_forms,
+    equal_judgements, equal_slots, equal_value_judgements, form_size, has_bit, header_shapes,
+    next_entry, property_shapes, shapes_of, slot_size, split_key, value_size,
 };
 use amqp_lent::{LentError, LentFrame, equal_lent_errors, equal_lent_frames};
 use amqp_vectors::asking::same;
@@ -41,22 +41,28 @@ fn entries_are_found() -> Result<(), Fail> {
 
 #[test]
 fn shapes_are_known() -> Result<(), Fail> {
-    let reserved = [ReservedShort(1)];
+    let short = Form::Short;
+    let reserved = [Reserved(short, &[0, 1])];
     same(
         (shapes_of(30, 11), shapes_of(30, 12), shapes_of(99, 11)),
         (Some(reserved.as_slice()), None, None),
     )?;
-    let header = [Short, ReservedShort(0), LongLong];
+    let size = Form::LongLong;
+    let header = [Kept(short), Reserved(short, &[0, 0]), Kept(size)];
     same(header_shapes(), header.as_slice())?;
     let properties = property_shapes();
     same(
         (properties.len(), properties.last()),
-        (14, Some(&(2, ShortString))),
+        (14, Some(&(2, Form::ShortString))),
     )?;
     let bits = (has_bit(0x8000, 15), has_bit(0x8000, 16));
     same(
-        (bits, slot_size(LongString, &BYTES[18..])),
-        ((true, false), 5),
+        (
+            bits,
+            slot_size(Kept(Form::LongString), &BYTES[18..]),
+            form_size(size, &BYTES),
+        ),
+        ((true, false), 5, 8),
     )
 }
 
@@ -75,10 +81,14 @@ fn equality_is_told() -> Result<(), Fail> {
         (
             equal_judgements(&fields, &fields),
             equal_value_judgements(&value, &value),
-            equal_shapes(&Short, &ReservedShort(0)),
+            equal_forms(&Form::ShortString, &Form::LongString),
+            equal_slots(
+                &Reserved(Form::ShortString, &[0]),
+                &Reserved(Form::ShortString, &[0]),
+            ),
             equal_lent_errors(&LentError::UnknownClass, &LentError::UnknownMethod),
             equal_lent_frames(LentFrame::Heartbeat, LentFrame::InvalidHeartbeat(0)),
         ),
-        (true, true, false, false, false),
+        (true, true, false, true, false, false),
     )
 }

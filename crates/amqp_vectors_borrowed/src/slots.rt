@@ -1,28 +1,26 @@
 //! Fields of each shape, and what is returned when they are decoded.
 
-use crate::judging::Call::Slots;
+use crate::judging::Call::{Flags, Skipped};
 use crate::judging::{Changed, Whole};
-use amqp_canonical::Shape::{
-    self, Flags, Long, LongLong, LongString, Octet, ReservedFlag, ReservedLong, ReservedLongString,
-    ReservedShort, ReservedShortString, Short, ShortString, Table,
-};
+use amqp_canonical::Slot::{Kept, Reserved};
+use amqp_canonical::{Form, Slot};
 use amqp_types::ParserError;
 
 /// A field of each shape.
-pub const SHAPES: [Shape; 13] = [
-    Octet,
-    Short,
-    Long,
-    LongLong,
-    Flags(3),
-    ShortString,
-    LongString,
-    Table,
-    ReservedShort(1),
-    ReservedLong(7),
-    ReservedFlag,
-    ReservedShortString,
-    ReservedLongString,
+pub const SHAPES: [Slot; 13] = [
+    Kept(Form::Octet),
+    Kept(Form::Short),
+    Kept(Form::Long),
+    Kept(Form::LongLong),
+    Kept(Form::Flags(3)),
+    Kept(Form::ShortString),
+    Kept(Form::LongString),
+    Kept(Form::Table),
+    Reserved(Form::Short, &[0, 1]),
+    Reserved(Form::Long, &[0, 0, 0, 7]),
+    Reserved(Form::Flags(1), &[0]),
+    Reserved(Form::ShortString, &[0]),
+    Reserved(Form::LongString, &[0, 0, 0, 0]),
 ];
 
 /// Such fields, as they are written, and one byte more.
@@ -75,28 +73,24 @@ pub const CHANGED: [Changed; 21] = [
 ];
 
 /// Two reserved fields of any length, and one after them.
-const SKIPPED: [Shape; 3] = [ReservedShortString, ReservedLongString, Octet];
+pub const SKIPPED: [Slot; 3] = [
+    Reserved(Form::ShortString, &[0]),
+    Reserved(Form::LongString, &[0, 0, 0, 0]),
+    Kept(Form::Octet),
+];
 
 pub const WHOLE: [Whole; 7] = [
     // what comes after a field that is not tidy is decoded
     (
-        Slots(&SKIPPED),
+        Skipped,
         &[1, 97, 0, 0, 0, 2, 255, 254, 3, 4],
         Ok((9, false, false)),
     ),
-    (
-        Slots(&SKIPPED),
-        &[1, 255, 0, 0, 0, 0, 3],
-        Err(ParserError::NotUtf8),
-    ),
-    (
-        Slots(&SKIPPED),
-        &[0, 0, 0, 0, 0],
-        Err(ParserError::Incomplete),
-    ),
+    (Skipped, &[1, 255, 0, 0, 0, 0, 3], Err(ParserError::NotUtf8)),
+    (Skipped, &[0, 0, 0, 0, 0], Err(ParserError::Incomplete)),
     // all bits of a byte are flags where there are eight flags or more, and none where there are no flags
-    (Slots(&[Flags(0)]), &[0], Ok((1, true, true))),
-    (Slots(&[Flags(0)]), &[1], Ok((1, false, false))),
-    (Slots(&[Flags(8)]), &[255], Ok((1, true, true))),
-    (Slots(&[Flags(9)]), &[255], Ok((1, true, true))),
+    (Flags(0), &[0], Ok((1, true, true))),
+    (Flags(0), &[1], Ok((1, false, false))),
+    (Flags(8), &[255], Ok((1, true, true))),
+    (Flags(9), &[255], Ok((1, true, true))),
 ];

@@ -15,16 +15,16 @@ use std::test::Fail;
 fn put(call: Call, buf: &mut [u8], scratch: &mut [EntryMark], i: &[u8]) -> Option<usize> {
     written_is_no_longer();
     match call {
-        Value(room) => match judge_value(i, room) {
-            Ok(it) if it.used < buf.len() => Some(put_value(buf, 1, scratch, i, room)),
+        Value(depth_left) => match judge_value(i, depth_left) {
+            Ok(it) if it.used < buf.len() => Some(put_value(buf, 1, scratch, i, depth_left)),
             _ => None,
         },
-        Array(room) => match judge_array(i, room) {
-            Ok(it) if it.used < buf.len() => Some(put_array(buf, 1, scratch, i, room)),
+        Array(depth_left) => match judge_array(i, depth_left) {
+            Ok(it) if it.used < buf.len() => Some(put_array(buf, 1, scratch, i, depth_left)),
             _ => None,
         },
-        Table(room) => match judge_table(i, room) {
-            Ok(it) if it.used < buf.len() => Some(put_table(buf, 1, scratch, i, room)),
+        Table(depth_left) => match judge_table(i, depth_left) {
+            Ok(it) if it.used < buf.len() => Some(put_table(buf, 1, scratch, i, depth_left)),
             _ => None,
         },
         Payload => match judge_payload(i) {
@@ -35,7 +35,7 @@ fn put(call: Call, buf: &mut [u8], scratch: &mut [EntryMark], i: &[u8]) -> Optio
             Ok(it) if it.used < buf.len() => Some(put_content_header(buf, 1, scratch, i)),
             _ => None,
         },
-        Call::Slots(_) => None,
+        Call::Shapes | Call::Skipped | Call::Flags(_) => None,
     }
 }
 

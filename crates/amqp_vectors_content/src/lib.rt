@@ -9,6 +9,8 @@ mod channels;
 #[cfg(test)]
 mod frames;
 #[cfg(test)]
+mod outcomes;
+#[cfg(test)]
 mod reading;
 #[cfg(test)]
 mod refused;

@@ -2,6 +2,7 @@
 
 use crate::frames::Step::{self, Read};
 use crate::frames::{BODY, HEADER, HELD, HELLO, PUBLISH, PUBLISHED, let_go, pushed};
+use crate::outcomes::done_is_copied;
 use crate::splitting::{copies, split_by_two};
 use amqp_content::Assembler;
 use amqp_types::ParserError;
@@ -67,6 +68,15 @@ fn refused_memory_leaves_no_part(rt: HostRuntime) -> Result<(), Fail> {
         Ok(count) => same(count, 5)?,
     }
     match copies(rt.alloc(), &MESSAGE) {
+        Err(error) => same(error, ParserError::NoMemory),
+        Ok(copied) => same(copied, true),
+    }
+}
+
+/// An outcome is copied as a whole, or memory is refused.
+#[test]
+fn refused_memory_leaves_no_part_of_an_outcome(rt: HostRuntime) -> Result<(), Fail> {
+    match done_is_copied(rt.alloc()) {
         Err(error) => same(error, ParserError::NoMemory),
         Ok(copied) => same(copied, true),
     }

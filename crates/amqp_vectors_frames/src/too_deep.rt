@@ -16,10 +16,10 @@ fn is_refused(alloc: Global, table: &FieldTable) -> Result<bool, Fail> {
 
 /// Whether a frame is, and a slice stays.
 fn is_refused_by_a_slice(frame: AMQPFrame) -> bool {
-    let mut room = [7; 7];
-    let outcome = gen_frame_slice(&mut room, &frame);
+    let mut depth_left = [7; 7];
+    let outcome = gen_frame_slice(&mut depth_left, &frame);
     release(frame);
-    outcome == Err(GenError::TooDeep) && room == [7; 7]
+    outcome == Err(GenError::TooDeep) && depth_left == [7; 7]
 }
 
 #[test]

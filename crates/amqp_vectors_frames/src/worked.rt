@@ -136,11 +136,11 @@ const SEVENS: [u8; 64] = [7; 64];
 fn fills(
     alloc: Global,
     frame: &AMQPFrame,
-    room: usize,
+    depth_left: usize,
     outcome: Result<usize, GenError>,
     front: &[u8],
 ) -> Result<(), Fail> {
-    let mut buf = vec![in alloc; 7; room]?;
+    let mut buf = vec![in alloc; 7; depth_left]?;
     let found = gen_frame_slice(&mut buf, frame);
     let after = buf.get(front.len()..).unwrap_or_default();
     let is_left = buf.starts_with(front) && SEVENS.starts_with(after);

@@ -2,7 +2,8 @@
 
 use amqp_frame::{AMQPFrame, AMQPFrameType, AMQPRawFrame, FrameOutline, judge_frame, release};
 use amqp_select::{
-    RuleError, Rules, covered_rules_decide_nothing, equal_rule_errors, words_spell_one_rule,
+    RuleError, Rules, covered_rules_decide_nothing, equal_rule_errors, equal_rules,
+    words_spell_one_rule,
 };
 use amqp_types::ByteArray;
 use std::alloc::Global;
@@ -258,6 +259,41 @@ fn errors_have_texts(rt: HostRuntime) -> Result<(), Fail> {
     for (error, text) in ERRORS {
         assert_eq!(rt; format!(in rt.alloc(); "{error}")?.as_str(), *text);
         assert!(rt; equal_rule_errors(error, error));
+    }
+    Ok(())
+}
+
+/// Two lists of words, and whether they are the same rules.
+const PAIRS: &[(&[&str], &[&str], bool)] = &[
+    (&["keep"], &["keep"], true),
+    (&["keep"], &["drop"], false),
+    (&["keep", "keep"], &["keep"], false),
+    (
+        &["drop,channel=1", "keep"],
+        &["drop,channel=1", "keep"],
+        true,
+    ),
+    (
+        &["drop,channel=1", "keep"],
+        &["keep", "drop,channel=1"],
+        false,
+    ),
+    (&["keep,kind=body"], &["keep,kind=beat"], false),
+    (&["keep,class=60"], &["keep,method=60"], false),
+    (&["keep,channel=5"], &["keep,channel=5-5"], false),
+];
+
+/// Whether two lists of words are the same rules.
+fn are_equal(alloc: Global, a: &[&str], b: &[&str]) -> Result<bool, RuleError> {
+    let a = parse(alloc, a)?;
+    let b = parse(alloc, b)?;
+    Ok(a == b && equal_rules(&a, &b))
+}
+
+#[test]
+fn rules_are_equal_in_their_order(rt: HostRuntime) -> Result<(), Fail> {
+    for (a, b, wanted) in PAIRS {
+        assert_eq!(rt; are_equal(rt.alloc(), a, b)?, *wanted);
     }
     Ok(())
 }

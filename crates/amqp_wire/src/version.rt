@@ -1,9 +1,13 @@
 //! Versions of the protocol, as protocol headers name them (AMQP 0-9-1, section 4.2.2).
 
-ghost use Rattle.std.specs.Prelude.{◌≡◌, Some};
+ghost use Rattle.std.specs.Prelude.{◌≡◌, ◌≢◌, ℕ, Some, Err, IfErr};
+ghost use Rattle.amqp_types.specs.Answers.{AnswersWhole};
+ghost use Rattle.amqp_wire.specs.declared.frame_type.AMQPFrameType.TheVariants as kinds;
 ghost use Rattle.amqp_wire.specs.Display.{version_text};
+ghost use Rattle.amqp_wire.specs.Frames.{Proto};
+ghost use Rattle.amqp_wire.specs.Verdicts.{IsPayloadError, whole_as};
 
-use amqp_types::ShortShortUInt;
+use amqp_types::{ParserError, ShortShortUInt};
 use std::fmt;
 
 /// The version that a protocol header names.
@@ -28,6 +32,26 @@ impl ProtocolVersion {
             major: 0,
             minor: 9,
             revision: 1,
+        }
+    }
+
+    /// The version that the payload of a protocol header is, which has 3 bytes. Fewer are `ShortPayload`, and more
+    /// `TrailingBytes`.
+    #[tactic(auto, unfolding(crate::specs::Verdicts::whole_as))]
+    pub fn from_payload(payload: &[u8]) -> Result<Self, ParserError>
+        ensures whole { (channel : ℕ) → AnswersWhole (λ version. Proto version.major version.minor version.revision) result
+            (whole_as kinds.ProtocolHeader channel payload.now) }
+        ensures inside { IfErr result IsPayloadError }
+        ensures memory { result ≢ Err ParserError.NoMemory }
+    {
+        match payload {
+            [major, minor, revision] => Ok(ProtocolVersion {
+                major: *major,
+                minor: *minor,
+                revision: *revision,
+            }),
+            [_, _, _, _, ..] => Err(ParserError::TrailingBytes),
+            _ => Err(ParserError::ShortPayload),
         }
     }
 }

@@ -53,6 +53,7 @@ impl Ack {
 }
 
 /// Decodes the fields of `Ack`.
+#[tactic(auto, using(amqp_types::proofs::Judged::refuses_next), unfolding(amqp_values::proofs::OneMethod::read_one_by_one))]
 pub fn parse_ack(_alloc: Global, i: &[u8]) -> Result<(usize, Ack), ParserError>
     ensures parsed { Parses ack_method result i.now (judge_method 60 80) }
     ensures memory { NeedsNoMemory result }
@@ -68,6 +69,7 @@ pub fn parse_ack(_alloc: Global, i: &[u8]) -> Result<(usize, Ack), ParserError>
 }
 
 /// Its ids and fields, in order.
+#[tactic(auto, unfolding(amqp_values::proofs::OneMethod::listed))]
 pub(super) fn ack_fields(method: &Ack) -> [Field<'_>; 4]
     ensures { ListsMethod result (ack_method method.now) }
 {
@@ -80,7 +82,6 @@ pub(super) fn ack_fields(method: &Ack) -> [Field<'_>; 4]
 }
 
 /// The size in bytes of the method id and the fields of `Ack`.
-#[tactic(auto)]
 pub fn size_ack(method: &Ack) -> Result<u64, GenError>
     ensures { Measures result (method_size (ack_method method.now)) }
 {
@@ -88,7 +89,6 @@ pub fn size_ack(method: &Ack) -> Result<u64, GenError>
 }
 
 /// Puts the method id and the fields of `Ack` at a place of a slice, and returns the place after.
-#[tactic(auto)]
 pub fn put_ack(buf: &mut [u8], at: usize, method: &Ack) -> usize
     requires { HasRoom buf.old at (method_size (ack_method method.now)) (method_bytes (ack_method method.now)) }
     ensures { Puts buf.old buf.new at (method_bytes (ack_method method.now)) result }
@@ -97,7 +97,6 @@ pub fn put_ack(buf: &mut [u8], at: usize, method: &Ack) -> usize
 }
 
 /// Appends the method id and the fields of `Ack` to a vector.
-#[tactic(auto)]
 pub fn gen_ack(_alloc: Global, out: &mut Vec<u8>, method: &Ack) -> Result<(), GenError>
     ensures { Appends out.old.items out.new.items (method_size (ack_method method.now)) (method_bytes (ack_method method.now)) result }
 {
@@ -143,6 +142,7 @@ impl Reject {
 }
 
 /// Decodes the fields of `Reject`.
+#[tactic(auto, using(amqp_types::proofs::Judged::refuses_next), unfolding(amqp_values::proofs::OneMethod::read_one_by_one))]
 pub fn parse_reject(_alloc: Global, i: &[u8]) -> Result<(usize, Reject), ParserError>
     ensures parsed { Parses reject_method result i.now (judge_method 60 90) }
     ensures memory { NeedsNoMemory result }
@@ -158,6 +158,7 @@ pub fn parse_reject(_alloc: Global, i: &[u8]) -> Result<(usize, Reject), ParserE
 }
 
 /// Its ids and fields, in order.
+#[tactic(auto, unfolding(amqp_values::proofs::OneMethod::listed))]
 pub(super) fn reject_fields(method: &Reject) -> [Field<'_>; 4]
     ensures { ListsMethod result (reject_method method.now) }
 {
@@ -170,7 +171,6 @@ pub(super) fn reject_fields(method: &Reject) -> [Field<'_>; 4]
 }
 
 /// The size in bytes of the method id and the fields of `Reject`.
-#[tactic(auto)]
 pub fn size_reject(method: &Reject) -> Result<u64, GenError>
     ensures { Measures result (method_size (reject_method method.now)) }
 {
@@ -178,7 +178,6 @@ pub fn size_reject(method: &Reject) -> Result<u64, GenError>
 }
 
 /// Puts the method id and the fields of `Reject` at a place of a slice, and returns the place after.
-#[tactic(auto)]
 pub fn put_reject(buf: &mut [u8], at: usize, method: &Reject) -> usize
     requires { HasRoom buf.old at (method_size (reject_method method.now)) (method_bytes (reject_method method.now)) }
     ensures { Puts buf.old buf.new at (method_bytes (reject_method method.now)) result }
@@ -187,7 +186,6 @@ pub fn put_reject(buf: &mut [u8], at: usize, method: &Reject) -> usize
 }
 
 /// Appends the method id and the fields of `Reject` to a vector.
-#[tactic(auto)]
 pub fn gen_reject(_alloc: Global, out: &mut Vec<u8>, method: &Reject) -> Result<(), GenError>
     ensures { Appends out.old.items out.new.items (method_size (reject_method method.now)) (method_bytes (reject_method method.now)) result }
 {
@@ -227,6 +225,7 @@ impl RecoverAsync {
 }
 
 /// Decodes the fields of `RecoverAsync`.
+#[tactic(auto, using(amqp_types::proofs::Judged::refuses_next), unfolding(amqp_values::proofs::OneMethod::read_one_by_one))]
 pub fn parse_recover_async(_alloc: Global, i: &[u8]) -> Result<(usize, RecoverAsync), ParserError>
     ensures parsed { Parses recover_async_method result i.now (judge_method 60 100) }
     ensures memory { NeedsNoMemory result }
@@ -240,6 +239,7 @@ pub fn parse_recover_async(_alloc: Global, i: &[u8]) -> Result<(usize, RecoverAs
 }
 
 /// Its ids and fields, in order.
+#[tactic(auto, unfolding(amqp_values::proofs::OneMethod::listed))]
 pub(super) fn recover_async_fields(method: &RecoverAsync) -> [Field<'_>; 3]
     ensures { ListsMethod result (recover_async_method method.now) }
 {
@@ -251,7 +251,6 @@ pub(super) fn recover_async_fields(method: &RecoverAsync) -> [Field<'_>; 3]
 }
 
 /// The size in bytes of the method id and the fields of `RecoverAsync`.
-#[tactic(auto)]
 pub fn size_recover_async(method: &RecoverAsync) -> Result<u64, GenError>
     ensures { Measures result (method_size (recover_async_method method.now)) }
 {
@@ -259,7 +258,6 @@ pub fn size_recover_async(method: &RecoverAsync) -> Result<u64, GenError>
 }
 
 /// Puts the method id and the fields of `RecoverAsync` at a place of a slice, and returns the place after.
-#[tactic(auto)]
 pub fn put_recover_async(buf: &mut [u8], at: usize, method: &RecoverAsync) -> usize
     requires { HasRoom buf.old at (method_size (recover_async_method method.now)) (method_bytes (recover_async_method method.now)) }
     ensures { Puts buf.old buf.new at (method_bytes (recover_async_method method.now)) result }
@@ -268,7 +266,6 @@ pub fn put_recover_async(buf: &mut [u8], at: usize, method: &RecoverAsync) -> us
 }
 
 /// Appends the method id and the fields of `RecoverAsync` to a vector.
-#[tactic(auto)]
 pub fn gen_recover_async(
     _alloc: Global,
     out: &mut Vec<u8>,
@@ -312,6 +309,7 @@ impl Recover {
 }
 
 /// Decodes the fields of `Recover`.
+#[tactic(auto, using(amqp_types::proofs::Judged::refuses_next), unfolding(amqp_values::proofs::OneMethod::read_one_by_one))]
 pub fn parse_recover(_alloc: Global, i: &[u8]) -> Result<(usize, Recover), ParserError>
     ensures parsed { Parses recover_method result i.now (judge_method 60 110) }
     ensures memory { NeedsNoMemory result }
@@ -325,6 +323,7 @@ pub fn parse_recover(_alloc: Global, i: &[u8]) -> Result<(usize, Recover), Parse
 }
 
 /// Its ids and fields, in order.
+#[tactic(auto, unfolding(amqp_values::proofs::OneMethod::listed))]
 pub(super) fn recover_fields(method: &Recover) -> [Field<'_>; 3]
     ensures { ListsMethod result (recover_method method.now) }
 {
@@ -336,7 +335,6 @@ pub(super) fn recover_fields(method: &Recover) -> [Field<'_>; 3]
 }
 
 /// The size in bytes of the method id and the fields of `Recover`.
-#[tactic(auto)]
 pub fn size_recover(method: &Recover) -> Result<u64, GenError>
     ensures { Measures result (method_size (recover_method method.now)) }
 {
@@ -344,7 +342,6 @@ pub fn size_recover(method: &Recover) -> Result<u64, GenError>
 }
 
 /// Puts the method id and the fields of `Recover` at a place of a slice, and returns the place after.
-#[tactic(auto)]
 pub fn put_recover(buf: &mut [u8], at: usize, method: &Recover) -> usize
     requires { HasRoom buf.old at (method_size (recover_method method.now)) (method_bytes (recover_method method.now)) }
     ensures { Puts buf.old buf.new at (method_bytes (recover_method method.now)) result }
@@ -353,7 +350,6 @@ pub fn put_recover(buf: &mut [u8], at: usize, method: &Recover) -> usize
 }
 
 /// Appends the method id and the fields of `Recover` to a vector.
-#[tactic(auto)]
 pub fn gen_recover(_alloc: Global, out: &mut Vec<u8>, method: &Recover) -> Result<(), GenError>
     ensures { Appends out.old.items out.new.items (method_size (recover_method method.now)) (method_bytes (recover_method method.now)) result }
 {
@@ -381,6 +377,7 @@ impl RecoverOk {
 }
 
 /// Decodes the fields of `RecoverOk`.
+#[tactic(auto, using(amqp_types::proofs::Judged::refuses_next), unfolding(amqp_values::proofs::OneMethod::read_one_by_one))]
 pub fn parse_recover_ok(_alloc: Global, i: &[u8]) -> Result<(usize, RecoverOk), ParserError>
     ensures parsed { Parses recover_ok_method result i.now (judge_method 60 111) }
     ensures memory { NeedsNoMemory result }
@@ -390,6 +387,7 @@ pub fn parse_recover_ok(_alloc: Global, i: &[u8]) -> Result<(usize, RecoverOk), 
 }
 
 /// Its ids and fields, in order.
+#[tactic(auto, unfolding(amqp_values::proofs::OneMethod::listed))]
 pub(super) fn recover_ok_fields(_method: &RecoverOk) -> [Field<'_>; 2]
     ensures { ListsMethod result (recover_ok_method _method.now) }
 {
@@ -397,7 +395,6 @@ pub(super) fn recover_ok_fields(_method: &RecoverOk) -> [Field<'_>; 2]
 }
 
 /// The size in bytes of the method id and the fields of `RecoverOk`.
-#[tactic(auto)]
 pub fn size_recover_ok(method: &RecoverOk) -> Result<u64, GenError>
     ensures { Measures result (method_size (recover_ok_method method.now)) }
 {
@@ -405,7 +402,6 @@ pub fn size_recover_ok(method: &RecoverOk) -> Result<u64, GenError>
 }
 
 /// Puts the method id and the fields of `RecoverOk` at a place of a slice, and returns the place after.
-#[tactic(auto)]
 pub fn put_recover_ok(buf: &mut [u8], at: usize, method: &RecoverOk) -> usize
     requires { HasRoom buf.old at (method_size (recover_ok_method method.now)) (method_bytes (recover_ok_method method.now)) }
     ensures { Puts buf.old buf.new at (method_bytes (recover_ok_method method.now)) result }
@@ -414,7 +410,6 @@ pub fn put_recover_ok(buf: &mut [u8], at: usize, method: &RecoverOk) -> usize
 }
 
 /// Appends the method id and the fields of `RecoverOk` to a vector.
-#[tactic(auto)]
 pub fn gen_recover_ok(_alloc: Global, out: &mut Vec<u8>, method: &RecoverOk) -> Result<(), GenError>
     ensures { Appends out.old.items out.new.items (method_size (recover_ok_method method.now)) (method_bytes (recover_ok_method method.now)) result }
 {
@@ -464,6 +459,7 @@ impl Nack {
 }
 
 /// Decodes the fields of `Nack`.
+#[tactic(auto, using(amqp_types::proofs::Judged::refuses_next), unfolding(amqp_values::proofs::OneMethod::read_one_by_one))]
 pub fn parse_nack(_alloc: Global, i: &[u8]) -> Result<(usize, Nack), ParserError>
     ensures parsed { Parses nack_method result i.now (judge_method 60 120) }
     ensures memory { NeedsNoMemory result }
@@ -480,6 +476,7 @@ pub fn parse_nack(_alloc: Global, i: &[u8]) -> Result<(usize, Nack), ParserError
 }
 
 /// Its ids and fields, in order.
+#[tactic(auto, unfolding(amqp_values::proofs::OneMethod::listed))]
 pub(super) fn nack_fields(method: &Nack) -> [Field<'_>; 4]
     ensures { ListsMethod result (nack_method method.now) }
 {
@@ -492,7 +489,6 @@ pub(super) fn nack_fields(method: &Nack) -> [Field<'_>; 4]
 }
 
 /// The size in bytes of the method id and the fields of `Nack`.
-#[tactic(auto)]
 pub fn size_nack(method: &Nack) -> Result<u64, GenError>
     ensures { Measures result (method_size (nack_method method.now)) }
 {
@@ -500,7 +496,6 @@ pub fn size_nack(method: &Nack) -> Result<u64, GenError>
 }
 
 /// Puts the method id and the fields of `Nack` at a place of a slice, and returns the place after.
-#[tactic(auto)]
 pub fn put_nack(buf: &mut [u8], at: usize, method: &Nack) -> usize
     requires { HasRoom buf.old at (method_size (nack_method method.now)) (method_bytes (nack_method method.now)) }
     ensures { Puts buf.old buf.new at (method_bytes (nack_method method.now)) result }
@@ -509,7 +504,6 @@ pub fn put_nack(buf: &mut [u8], at: usize, method: &Nack) -> usize
 }
 
 /// Appends the method id and the fields of `Nack` to a vector.
-#[tactic(auto)]
 pub fn gen_nack(_alloc: Global, out: &mut Vec<u8>, method: &Nack) -> Result<(), GenError>
     ensures { Appends out.old.items out.new.items (method_size (nack_method method.now)) (method_bytes (nack_method method.now)) result }
 {

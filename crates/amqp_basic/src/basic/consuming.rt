@@ -9,8 +9,9 @@ ghost use Rattle.amqp_values.specs.MethodFields.{ListsMethod};
 ghost use Rattle.amqp_basic.specs.Basic.{qos_method, qos_ok_method, consume_method, consume_ok_method, cancel_method, cancel_ok_method};
 
 use amqp_values::{
-    Boolean, Field, FieldTable, GenError, Identifier, NoMemory, ParserError, ShortString,
-    ShortUInt, SlotReader, byte_of_flags, flag_of_byte, gen_fields, put_fields, size_fields,
+    Boolean, Field, FieldTable, Flags, GenError, Identifier, NoMemory, ParserError,
+    ReservedShortUInt, ShortString, ShortUInt, SlotReader, byte_of_flags, flag_of_byte, gen_fields,
+    put_fields, size_fields,
 };
 use std::alloc::Global;
 
@@ -54,6 +55,7 @@ impl Qos {
 }
 
 /// Decodes the fields of `Qos`.
+#[tactic(auto, using(amqp_types::proofs::Judged::refuses_next), unfolding(amqp_values::proofs::OneMethod::read_one_by_one))]
 pub fn parse_qos(_alloc: Global, i: &[u8]) -> Result<(usize, Qos), ParserError>
     ensures parsed { Parses qos_method result i.now (judge_method 60 10) }
     ensures memory { NeedsNoMemory result }
@@ -70,6 +72,7 @@ pub fn parse_qos(_alloc: Global, i: &[u8]) -> Result<(usize, Qos), ParserError>
 }
 
 /// Its ids and fields, in order.
+#[tactic(auto, unfolding(amqp_values::proofs::OneMethod::listed))]
 pub(super) fn qos_fields(method: &Qos) -> [Field<'_>; 5]
     ensures { ListsMethod result (qos_method method.now) }
 {
@@ -83,7 +86,6 @@ pub(super) fn qos_fields(method: &Qos) -> [Field<'_>; 5]
 }
 
 /// The size in bytes of the method id and the fields of `Qos`.
-#[tactic(auto)]
 pub fn size_qos(method: &Qos) -> Result<u64, GenError>
     ensures { Measures result (method_size (qos_method method.now)) }
 {
@@ -91,7 +93,6 @@ pub fn size_qos(method: &Qos) -> Result<u64, GenError>
 }
 
 /// Puts the method id and the fields of `Qos` at a place of a slice, and returns the place after.
-#[tactic(auto)]
 pub fn put_qos(buf: &mut [u8], at: usize, method: &Qos) -> usize
     requires { HasRoom buf.old at (method_size (qos_method method.now)) (method_bytes (qos_method method.now)) }
     ensures { Puts buf.old buf.new at (method_bytes (qos_method method.now)) result }
@@ -100,7 +101,6 @@ pub fn put_qos(buf: &mut [u8], at: usize, method: &Qos) -> usize
 }
 
 /// Appends the method id and the fields of `Qos` to a vector.
-#[tactic(auto)]
 pub fn gen_qos(_alloc: Global, out: &mut Vec<u8>, method: &Qos) -> Result<(), GenError>
     ensures { Appends out.old.items out.new.items (method_size (qos_method method.now)) (method_bytes (qos_method method.now)) result }
 {
@@ -128,6 +128,7 @@ impl QosOk {
 }
 
 /// Decodes the fields of `QosOk`.
+#[tactic(auto, using(amqp_types::proofs::Judged::refuses_next), unfolding(amqp_values::proofs::OneMethod::read_one_by_one))]
 pub fn parse_qos_ok(_alloc: Global, i: &[u8]) -> Result<(usize, QosOk), ParserError>
     ensures parsed { Parses qos_ok_method result i.now (judge_method 60 11) }
     ensures memory { NeedsNoMemory result }
@@ -137,6 +138,7 @@ pub fn parse_qos_ok(_alloc: Global, i: &[u8]) -> Result<(usize, QosOk), ParserEr
 }
 
 /// Its ids and fields, in order.
+#[tactic(auto, unfolding(amqp_values::proofs::OneMethod::listed))]
 pub(super) fn qos_ok_fields(_method: &QosOk) -> [Field<'_>; 2]
     ensures { ListsMethod result (qos_ok_method _method.now) }
 {
@@ -144,7 +146,6 @@ pub(super) fn qos_ok_fields(_method: &QosOk) -> [Field<'_>; 2]
 }
 
 /// The size in bytes of the method id and the fields of `QosOk`.
-#[tactic(auto)]
 pub fn size_qos_ok(method: &QosOk) -> Result<u64, GenError>
     ensures { Measures result (method_size (qos_ok_method method.now)) }
 {
@@ -152,7 +153,6 @@ pub fn size_qos_ok(method: &QosOk) -> Result<u64, GenError>
 }
 
 /// Puts the method id and the fields of `QosOk` at a place of a slice, and returns the place after.
-#[tactic(auto)]
 pub fn put_qos_ok(buf: &mut [u8], at: usize, method: &QosOk) -> usize
     requires { HasRoom buf.old at (method_size (qos_ok_method method.now)) (method_bytes (qos_ok_method method.now)) }
     ensures { Puts buf.old buf.new at (method_bytes (qos_ok_method method.now)) result }
@@ -161,7 +161,6 @@ pub fn put_qos_ok(buf: &mut [u8], at: usize, method: &QosOk) -> usize
 }
 
 /// Appends the method id and the fields of `QosOk` to a vector.
-#[tactic(auto)]
 pub fn gen_qos_ok(_alloc: Global, out: &mut Vec<u8>, method: &QosOk) -> Result<(), GenError>
     ensures { Appends out.old.items out.new.items (method_size (qos_ok_method method.now)) (method_bytes (qos_ok_method method.now)) result }
 {
@@ -241,28 +240,28 @@ impl Consume {
 }
 
 /// Decodes the fields of `Consume`.
+#[tactic(auto, using(amqp_types::proofs::Judged::refuses_next), unfolding(amqp_values::proofs::OneMethod::read_at_once))]
 pub fn parse_consume(alloc: Global, i: &[u8]) -> Result<(usize, Consume), ParserError>
     ensures { Parses consume_method result i.now (judge_method 60 20) }
 {
     let mut slots = SlotReader::new(i);
-    slots.skip_short_uint()?;
-    let queue = slots.short_string(alloc)?;
-    let consumer_tag = slots.short_string(alloc)?;
-    let flags = slots.flags::<4>()?;
-    let arguments = slots.table(alloc)?;
+    let (_, queue, consumer_tag, flags, arguments) = slots.read::<
+        (ReservedShortUInt, _, _, Flags<4>, _),
+    >(alloc)?;
     let method = Consume {
         queue,
         consumer_tag,
-        no_local: flag_of_byte(flags, 0),
-        no_ack: flag_of_byte(flags, 1),
-        exclusive: flag_of_byte(flags, 2),
-        nowait: flag_of_byte(flags, 3),
+        no_local: flag_of_byte(flags.byte, 0),
+        no_ack: flag_of_byte(flags.byte, 1),
+        exclusive: flag_of_byte(flags.byte, 2),
+        nowait: flag_of_byte(flags.byte, 3),
         arguments,
     };
     Ok((slots.used(i), method))
 }
 
 /// Its ids and fields, in order.
+#[tactic(auto, unfolding(amqp_values::proofs::OneMethod::listed))]
 pub(super) fn consume_fields(method: &Consume) -> [Field<'_>; 7]
     ensures { ListsMethod result (consume_method method.now) }
 {
@@ -283,7 +282,6 @@ pub(super) fn consume_fields(method: &Consume) -> [Field<'_>; 7]
 }
 
 /// The size in bytes of the method id and the fields of `Consume`.
-#[tactic(auto)]
 pub fn size_consume(method: &Consume) -> Result<u64, GenError>
     ensures { Measures result (method_size (consume_method method.now)) }
 {
@@ -291,7 +289,6 @@ pub fn size_consume(method: &Consume) -> Result<u64, GenError>
 }
 
 /// Puts the method id and the fields of `Consume` at a place of a slice, and returns the place after.
-#[tactic(auto)]
 pub fn put_consume(buf: &mut [u8], at: usize, method: &Consume) -> usize
     requires { HasRoom buf.old at (method_size (consume_method method.now)) (method_bytes (consume_method method.now)) }
     ensures { Puts buf.old buf.new at (method_bytes (consume_method method.now)) result }
@@ -300,7 +297,6 @@ pub fn put_consume(buf: &mut [u8], at: usize, method: &Consume) -> usize
 }
 
 /// Appends the method id and the fields of `Consume` to a vector.
-#[tactic(auto)]
 pub fn gen_consume(_alloc: Global, out: &mut Vec<u8>, method: &Consume) -> Result<(), GenError>
     ensures { Appends out.old.items out.new.items (method_size (consume_method method.now)) (method_bytes (consume_method method.now)) result }
 {
@@ -349,6 +345,7 @@ impl ConsumeOk {
 }
 
 /// Decodes the fields of `ConsumeOk`.
+#[tactic(auto, using(amqp_types::proofs::Judged::refuses_next), unfolding(amqp_values::proofs::OneMethod::read_one_by_one))]
 pub fn parse_consume_ok(alloc: Global, i: &[u8]) -> Result<(usize, ConsumeOk), ParserError>
     ensures { Parses consume_ok_method result i.now (judge_method 60 21) }
 {
@@ -359,6 +356,7 @@ pub fn parse_consume_ok(alloc: Global, i: &[u8]) -> Result<(usize, ConsumeOk), P
 }
 
 /// Its ids and fields, in order.
+#[tactic(auto, unfolding(amqp_values::proofs::OneMethod::listed))]
 pub(super) fn consume_ok_fields(method: &ConsumeOk) -> [Field<'_>; 3]
     ensures { ListsMethod result (consume_ok_method method.now) }
 {
@@ -370,7 +368,6 @@ pub(super) fn consume_ok_fields(method: &ConsumeOk) -> [Field<'_>; 3]
 }
 
 /// The size in bytes of the method id and the fields of `ConsumeOk`.
-#[tactic(auto)]
 pub fn size_consume_ok(method: &ConsumeOk) -> Result<u64, GenError>
     ensures { Measures result (method_size (consume_ok_method method.now)) }
 {
@@ -378,7 +375,6 @@ pub fn size_consume_ok(method: &ConsumeOk) -> Result<u64, GenError>
 }
 
 /// Puts the method id and the fields of `ConsumeOk` at a place of a slice, and returns the place after.
-#[tactic(auto)]
 pub fn put_consume_ok(buf: &mut [u8], at: usize, method: &ConsumeOk) -> usize
     requires { HasRoom buf.old at (method_size (consume_ok_method method.now)) (method_bytes (consume_ok_method method.now)) }
     ensures { Puts buf.old buf.new at (method_bytes (consume_ok_method method.now)) result }
@@ -387,7 +383,6 @@ pub fn put_consume_ok(buf: &mut [u8], at: usize, method: &ConsumeOk) -> usize
 }
 
 /// Appends the method id and the fields of `ConsumeOk` to a vector.
-#[tactic(auto)]
 pub fn gen_consume_ok(_alloc: Global, out: &mut Vec<u8>, method: &ConsumeOk) -> Result<(), GenError>
     ensures { Appends out.old.items out.new.items (method_size (consume_ok_method method.now)) (method_bytes (consume_ok_method method.now)) result }
 {
@@ -441,20 +436,21 @@ impl Cancel {
 }
 
 /// Decodes the fields of `Cancel`.
+#[tactic(auto, using(amqp_types::proofs::Judged::refuses_next), unfolding(amqp_values::proofs::OneMethod::read_at_once))]
 pub fn parse_cancel(alloc: Global, i: &[u8]) -> Result<(usize, Cancel), ParserError>
     ensures { Parses cancel_method result i.now (judge_method 60 30) }
 {
     let mut slots = SlotReader::new(i);
-    let consumer_tag = slots.short_string(alloc)?;
-    let flags = slots.flags::<1>()?;
+    let (consumer_tag, flags) = slots.read::<(_, Flags<1>)>(alloc)?;
     let method = Cancel {
         consumer_tag,
-        nowait: flag_of_byte(flags, 0),
+        nowait: flag_of_byte(flags.byte, 0),
     };
     Ok((slots.used(i), method))
 }
 
 /// Its ids and fields, in order.
+#[tactic(auto, unfolding(amqp_values::proofs::OneMethod::listed))]
 pub(super) fn cancel_fields(method: &Cancel) -> [Field<'_>; 4]
     ensures { ListsMethod result (cancel_method method.now) }
 {
@@ -467,7 +463,6 @@ pub(super) fn cancel_fields(method: &Cancel) -> [Field<'_>; 4]
 }
 
 /// The size in bytes of the method id and the fields of `Cancel`.
-#[tactic(auto)]
 pub fn size_cancel(method: &Cancel) -> Result<u64, GenError>
     ensures { Measures result (method_size (cancel_method method.now)) }
 {
@@ -475,7 +470,6 @@ pub fn size_cancel(method: &Cancel) -> Result<u64, GenError>
 }
 
 /// Puts the method id and the fields of `Cancel` at a place of a slice, and returns the place after.
-#[tactic(auto)]
 pub fn put_cancel(buf: &mut [u8], at: usize, method: &Cancel) -> usize
     requires { HasRoom buf.old at (method_size (cancel_method method.now)) (method_bytes (cancel_method method.now)) }
     ensures { Puts buf.old buf.new at (method_bytes (cancel_method method.now)) result }
@@ -484,7 +478,6 @@ pub fn put_cancel(buf: &mut [u8], at: usize, method: &Cancel) -> usize
 }
 
 /// Appends the method id and the fields of `Cancel` to a vector.
-#[tactic(auto)]
 pub fn gen_cancel(_alloc: Global, out: &mut Vec<u8>, method: &Cancel) -> Result<(), GenError>
     ensures { Appends out.old.items out.new.items (method_size (cancel_method method.now)) (method_bytes (cancel_method method.now)) result }
 {
@@ -533,6 +526,7 @@ impl CancelOk {
 }
 
 /// Decodes the fields of `CancelOk`.
+#[tactic(auto, using(amqp_types::proofs::Judged::refuses_next), unfolding(amqp_values::proofs::OneMethod::read_one_by_one))]
 pub fn parse_cancel_ok(alloc: Global, i: &[u8]) -> Result<(usize, CancelOk), ParserError>
     ensures { Parses cancel_ok_method result i.now (judge_method 60 31) }
 {
@@ -543,6 +537,7 @@ pub fn parse_cancel_ok(alloc: Global, i: &[u8]) -> Result<(usize, CancelOk), Par
 }
 
 /// Its ids and fields, in order.
+#[tactic(auto, unfolding(amqp_values::proofs::OneMethod::listed))]
 pub(super) fn cancel_ok_fields(method: &CancelOk) -> [Field<'_>; 3]
     ensures { ListsMethod result (cancel_ok_method method.now) }
 {
@@ -554,7 +549,6 @@ pub(super) fn cancel_ok_fields(method: &CancelOk) -> [Field<'_>; 3]
 }
 
 /// The size in bytes of the method id and the fields of `CancelOk`.
-#[tactic(auto)]
 pub fn size_cancel_ok(method: &CancelOk) -> Result<u64, GenError>
     ensures { Measures result (method_size (cancel_ok_method method.now)) }
 {
@@ -562,7 +556,6 @@ pub fn size_cancel_ok(method: &CancelOk) -> Result<u64, GenError>
 }
 
 /// Puts the method id and the fields of `CancelOk` at a place of a slice, and returns the place after.
-#[tactic(auto)]
 pub fn put_cancel_ok(buf: &mut [u8], at: usize, method: &CancelOk) -> usize
     requires { HasRoom buf.old at (method_size (cancel_ok_method method.now)) (method_bytes (cancel_ok_method method.now)) }
     ensures { Puts buf.old buf.new at (method_bytes (cancel_ok_method method.now)) result }
@@ -571,7 +564,6 @@ pub fn put_cancel_ok(buf: &mut [u8], at: usize, method: &CancelOk) -> usize
 }
 
 /// Appends the method id and the fields of `CancelOk` to a vector.
-#[tactic(auto)]
 pub fn gen_cancel_ok(_alloc: Global, out: &mut Vec<u8>, method: &CancelOk) -> Result<(), GenError>
     ensures { Appends out.old.items out.new.items (method_size (cancel_ok_method method.now)) (method_bytes (cancel_ok_method method.now)) result }
 {

@@ -9,9 +9,9 @@ ghost use Rattle.amqp_values.specs.MethodFields.{ListsMethod};
 ghost use Rattle.amqp_basic.specs.Basic.{publish_method, return_method, deliver_method, get_method, get_ok_method, get_empty_method};
 
 use amqp_values::{
-    Boolean, Field, GenError, Identifier, LongLongUInt, LongUInt, NoMemory, ParserError,
-    ShortString, ShortUInt, SlotReader, byte_of_flags, flag_of_byte, gen_fields, put_fields,
-    size_fields,
+    Boolean, Field, Flags, GenError, Identifier, LongLongUInt, LongUInt, NoMemory, ParserError,
+    ReservedShortUInt, ShortString, ShortUInt, SlotReader, byte_of_flags, flag_of_byte, gen_fields,
+    put_fields, size_fields,
 };
 use std::alloc::Global;
 
@@ -72,24 +72,25 @@ impl Publish {
 }
 
 /// Decodes the fields of `Publish`.
+#[tactic(auto, using(amqp_types::proofs::Judged::refuses_next), unfolding(amqp_values::proofs::OneMethod::read_at_once))]
 pub fn parse_publish(alloc: Global, i: &[u8]) -> Result<(usize, Publish), ParserError>
     ensures { Parses publish_method result i.now (judge_method 60 40) }
 {
     let mut slots = SlotReader::new(i);
-    slots.skip_short_uint()?;
-    let exchange = slots.short_string(alloc)?;
-    let routing_key = slots.short_string(alloc)?;
-    let flags = slots.flags::<2>()?;
+    let (_, exchange, routing_key, flags) = slots.read::<(ReservedShortUInt, _, _, Flags<2>)>(
+        alloc,
+    )?;
     let method = Publish {
         exchange,
         routing_key,
-        mandatory: flag_of_byte(flags, 0),
-        immediate: flag_of_byte(flags, 1),
+        mandatory: flag_of_byte(flags.byte, 0),
+        immediate: flag_of_byte(flags.byte, 1),
     };
     Ok((slots.used(i), method))
 }
 
 /// Its ids and fields, in order.
+#[tactic(auto, unfolding(amqp_values::proofs::OneMethod::listed))]
 pub(super) fn publish_fields(method: &Publish) -> [Field<'_>; 6]
     ensures { ListsMethod result (publish_method method.now) }
 {
@@ -104,7 +105,6 @@ pub(super) fn publish_fields(method: &Publish) -> [Field<'_>; 6]
 }
 
 /// The size in bytes of the method id and the fields of `Publish`.
-#[tactic(auto)]
 pub fn size_publish(method: &Publish) -> Result<u64, GenError>
     ensures { Measures result (method_size (publish_method method.now)) }
 {
@@ -112,7 +112,6 @@ pub fn size_publish(method: &Publish) -> Result<u64, GenError>
 }
 
 /// Puts the method id and the fields of `Publish` at a place of a slice, and returns the place after.
-#[tactic(auto)]
 pub fn put_publish(buf: &mut [u8], at: usize, method: &Publish) -> usize
     requires { HasRoom buf.old at (method_size (publish_method method.now)) (method_bytes (publish_method method.now)) }
     ensures { Puts buf.old buf.new at (method_bytes (publish_method method.now)) result }
@@ -121,7 +120,6 @@ pub fn put_publish(buf: &mut [u8], at: usize, method: &Publish) -> usize
 }
 
 /// Appends the method id and the fields of `Publish` to a vector.
-#[tactic(auto)]
 pub fn gen_publish(_alloc: Global, out: &mut Vec<u8>, method: &Publish) -> Result<(), GenError>
     ensures { Appends out.old.items out.new.items (method_size (publish_method method.now)) (method_bytes (publish_method method.now)) result }
 {
@@ -185,14 +183,12 @@ impl Return {
 }
 
 /// Decodes the fields of `Return`.
+#[tactic(auto, using(amqp_types::proofs::Judged::refuses_next), unfolding(amqp_values::proofs::OneMethod::read_at_once))]
 pub fn parse_return(alloc: Global, i: &[u8]) -> Result<(usize, Return), ParserError>
     ensures { Parses return_method result i.now (judge_method 60 50) }
 {
     let mut slots = SlotReader::new(i);
-    let reply_code = slots.short_uint()?;
-    let reply_text = slots.short_string(alloc)?;
-    let exchange = slots.short_string(alloc)?;
-    let routing_key = slots.short_string(alloc)?;
+    let (reply_code, reply_text, exchange, routing_key) = slots.read(alloc)?;
     let method = Return {
         reply_code,
         reply_text,
@@ -203,6 +199,7 @@ pub fn parse_return(alloc: Global, i: &[u8]) -> Result<(usize, Return), ParserEr
 }
 
 /// Its ids and fields, in order.
+#[tactic(auto, unfolding(amqp_values::proofs::OneMethod::listed))]
 pub(super) fn return_fields(method: &Return) -> [Field<'_>; 6]
     ensures { ListsMethod result (return_method method.now) }
 {
@@ -217,7 +214,6 @@ pub(super) fn return_fields(method: &Return) -> [Field<'_>; 6]
 }
 
 /// The size in bytes of the method id and the fields of `Return`.
-#[tactic(auto)]
 pub fn size_return(method: &Return) -> Result<u64, GenError>
     ensures { Measures result (method_size (return_method method.now)) }
 {
@@ -225,7 +221,6 @@ pub fn size_return(method: &Return) -> Result<u64, GenError>
 }
 
 /// Puts the method id and the fields of `Return` at a place of a slice, and returns the place after.
-#[tactic(auto)]
 pub fn put_return(buf: &mut [u8], at: usize, method: &Return) -> usize
     requires { HasRoom buf.old at (method_size (return_method method.now)) (method_bytes (return_method method.now)) }
     ensures { Puts buf.old buf.new at (method_bytes (return_method method.now)) result }
@@ -234,7 +229,6 @@ pub fn put_return(buf: &mut [u8], at: usize, method: &Return) -> usize
 }
 
 /// Appends the method id and the fields of `Return` to a vector.
-#[tactic(auto)]
 pub fn gen_return(_alloc: Global, out: &mut Vec<u8>, method: &Return) -> Result<(), GenError>
     ensures { Appends out.old.items out.new.items (method_size (return_method method.now)) (method_bytes (return_method method.now)) result }
 {
@@ -303,19 +297,18 @@ impl Deliver {
 }
 
 /// Decodes the fields of `Deliver`.
+#[tactic(auto, using(amqp_types::proofs::Judged::refuses_next), unfolding(amqp_values::proofs::OneMethod::read_at_once))]
 pub fn parse_deliver(alloc: Global, i: &[u8]) -> Result<(usize, Deliver), ParserError>
     ensures { Parses deliver_method result i.now (judge_method 60 60) }
 {
     let mut slots = SlotReader::new(i);
-    let consumer_tag = slots.short_string(alloc)?;
-    let delivery_tag = slots.long_long_uint()?;
-    let flags = slots.flags::<1>()?;
-    let exchange = slots.short_string(alloc)?;
-    let routing_key = slots.short_string(alloc)?;
+    let (consumer_tag, delivery_tag, flags, exchange, routing_key) = slots.read::<
+        (_, _, Flags<1>, _, _),
+    >(alloc)?;
     let method = Deliver {
         consumer_tag,
         delivery_tag,
-        redelivered: flag_of_byte(flags, 0),
+        redelivered: flag_of_byte(flags.byte, 0),
         exchange,
         routing_key,
     };
@@ -323,6 +316,7 @@ pub fn parse_deliver(alloc: Global, i: &[u8]) -> Result<(usize, Deliver), Parser
 }
 
 /// Its ids and fields, in order.
+#[tactic(auto, unfolding(amqp_values::proofs::OneMethod::listed))]
 pub(super) fn deliver_fields(method: &Deliver) -> [Field<'_>; 7]
     ensures { ListsMethod result (deliver_method method.now) }
 {
@@ -338,7 +332,6 @@ pub(super) fn deliver_fields(method: &Deliver) -> [Field<'_>; 7]
 }
 
 /// The size in bytes of the method id and the fields of `Deliver`.
-#[tactic(auto)]
 pub fn size_deliver(method: &Deliver) -> Result<u64, GenError>
     ensures { Measures result (method_size (deliver_method method.now)) }
 {
@@ -346,7 +339,6 @@ pub fn size_deliver(method: &Deliver) -> Result<u64, GenError>
 }
 
 /// Puts the method id and the fields of `Deliver` at a place of a slice, and returns the place after.
-#[tactic(auto)]
 pub fn put_deliver(buf: &mut [u8], at: usize, method: &Deliver) -> usize
     requires { HasRoom buf.old at (method_size (deliver_method method.now)) (method_bytes (deliver_method method.now)) }
     ensures { Puts buf.old buf.new at (method_bytes (deliver_method method.now)) result }
@@ -355,7 +347,6 @@ pub fn put_deliver(buf: &mut [u8], at: usize, method: &Deliver) -> usize
 }
 
 /// Appends the method id and the fields of `Deliver` to a vector.
-#[tactic(auto)]
 pub fn gen_deliver(_alloc: Global, out: &mut Vec<u8>, method: &Deliver) -> Result<(), GenError>
     ensures { Appends out.old.items out.new.items (method_size (deliver_method method.now)) (method_bytes (deliver_method method.now)) result }
 {
@@ -409,21 +400,21 @@ impl Get {
 }
 
 /// Decodes the fields of `Get`.
+#[tactic(auto, using(amqp_types::proofs::Judged::refuses_next), unfolding(amqp_values::proofs::OneMethod::read_at_once))]
 pub fn parse_get(alloc: Global, i: &[u8]) -> Result<(usize, Get), ParserError>
     ensures { Parses get_method result i.now (judge_method 60 70) }
 {
     let mut slots = SlotReader::new(i);
-    slots.skip_short_uint()?;
-    let queue = slots.short_string(alloc)?;
-    let flags = slots.flags::<1>()?;
+    let (_, queue, flags) = slots.read::<(ReservedShortUInt, _, Flags<1>)>(alloc)?;
     let method = Get {
         queue,
-        no_ack: flag_of_byte(flags, 0),
+        no_ack: flag_of_byte(flags.byte, 0),
     };
     Ok((slots.used(i), method))
 }
 
 /// Its ids and fields, in order.
+#[tactic(auto, unfolding(amqp_values::proofs::OneMethod::listed))]
 pub(super) fn get_fields(method: &Get) -> [Field<'_>; 5]
     ensures { ListsMethod result (get_method method.now) }
 {
@@ -437,7 +428,6 @@ pub(super) fn get_fields(method: &Get) -> [Field<'_>; 5]
 }
 
 /// The size in bytes of the method id and the fields of `Get`.
-#[tactic(auto)]
 pub fn size_get(method: &Get) -> Result<u64, GenError>
     ensures { Measures result (method_size (get_method method.now)) }
 {
@@ -445,7 +435,6 @@ pub fn size_get(method: &Get) -> Result<u64, GenError>
 }
 
 /// Puts the method id and the fields of `Get` at a place of a slice, and returns the place after.
-#[tactic(auto)]
 pub fn put_get(buf: &mut [u8], at: usize, method: &Get) -> usize
     requires { HasRoom buf.old at (method_size (get_method method.now)) (method_bytes (get_method method.now)) }
     ensures { Puts buf.old buf.new at (method_bytes (get_method method.now)) result }
@@ -454,7 +443,6 @@ pub fn put_get(buf: &mut [u8], at: usize, method: &Get) -> usize
 }
 
 /// Appends the method id and the fields of `Get` to a vector.
-#[tactic(auto)]
 pub fn gen_get(_alloc: Global, out: &mut Vec<u8>, method: &Get) -> Result<(), GenError>
     ensures { Appends out.old.items out.new.items (method_size (get_method method.now)) (method_bytes (get_method method.now)) result }
 {
@@ -523,18 +511,17 @@ impl GetOk {
 }
 
 /// Decodes the fields of `GetOk`.
+#[tactic(auto, using(amqp_types::proofs::Judged::refuses_next), unfolding(amqp_values::proofs::OneMethod::read_at_once))]
 pub fn parse_get_ok(alloc: Global, i: &[u8]) -> Result<(usize, GetOk), ParserError>
     ensures { Parses get_ok_method result i.now (judge_method 60 71) }
 {
     let mut slots = SlotReader::new(i);
-    let delivery_tag = slots.long_long_uint()?;
-    let flags = slots.flags::<1>()?;
-    let exchange = slots.short_string(alloc)?;
-    let routing_key = slots.short_string(alloc)?;
-    let message_count = slots.long_uint()?;
+    let (delivery_tag, flags, exchange, routing_key, message_count) = slots.read::<
+        (_, Flags<1>, _, _, _),
+    >(alloc)?;
     let method = GetOk {
         delivery_tag,
-        redelivered: flag_of_byte(flags, 0),
+        redelivered: flag_of_byte(flags.byte, 0),
         exchange,
         routing_key,
         message_count,
@@ -543,6 +530,7 @@ pub fn parse_get_ok(alloc: Global, i: &[u8]) -> Result<(usize, GetOk), ParserErr
 }
 
 /// Its ids and fields, in order.
+#[tactic(auto, unfolding(amqp_values::proofs::OneMethod::listed))]
 pub(super) fn get_ok_fields(method: &GetOk) -> [Field<'_>; 7]
     ensures { ListsMethod result (get_ok_method method.now) }
 {
@@ -558,7 +546,6 @@ pub(super) fn get_ok_fields(method: &GetOk) -> [Field<'_>; 7]
 }
 
 /// The size in bytes of the method id and the fields of `GetOk`.
-#[tactic(auto)]
 pub fn size_get_ok(method: &GetOk) -> Result<u64, GenError>
     ensures { Measures result (method_size (get_ok_method method.now)) }
 {
@@ -566,7 +553,6 @@ pub fn size_get_ok(method: &GetOk) -> Result<u64, GenError>
 }
 
 /// Puts the method id and the fields of `GetOk` at a place of a slice, and returns the place after.
-#[tactic(auto)]
 pub fn put_get_ok(buf: &mut [u8], at: usize, method: &GetOk) -> usize
     requires { HasRoom buf.old at (method_size (get_ok_method method.now)) (method_bytes (get_ok_method method.now)) }
     ensures { Puts buf.old buf.new at (method_bytes (get_ok_method method.now)) result }
@@ -575,7 +561,6 @@ pub fn put_get_ok(buf: &mut [u8], at: usize, method: &GetOk) -> usize
 }
 
 /// Appends the method id and the fields of `GetOk` to a vector.
-#[tactic(auto)]
 pub fn gen_get_ok(_alloc: Global, out: &mut Vec<u8>, method: &GetOk) -> Result<(), GenError>
     ensures { Appends out.old.items out.new.items (method_size (get_ok_method method.now)) (method_bytes (get_ok_method method.now)) result }
 {
@@ -603,6 +588,7 @@ impl GetEmpty {
 }
 
 /// Decodes the fields of `GetEmpty`.
+#[tactic(auto, using(amqp_types::proofs::Judged::refuses_next), unfolding(amqp_values::proofs::OneMethod::read_one_by_one))]
 pub fn parse_get_empty(_alloc: Global, i: &[u8]) -> Result<(usize, GetEmpty), ParserError>
     ensures parsed { Parses get_empty_method result i.now (judge_method 60 72) }
     ensures memory { NeedsNoMemory result }
@@ -613,6 +599,7 @@ pub fn parse_get_empty(_alloc: Global, i: &[u8]) -> Result<(usize, GetEmpty), Pa
 }
 
 /// Its ids and fields, in order.
+#[tactic(auto, unfolding(amqp_values::proofs::OneMethod::listed))]
 pub(super) fn get_empty_fields(_method: &GetEmpty) -> [Field<'_>; 3]
     ensures { ListsMethod result (get_empty_method _method.now) }
 {
@@ -624,7 +611,6 @@ pub(super) fn get_empty_fields(_method: &GetEmpty) -> [Field<'_>; 3]
 }
 
 /// The size in bytes of the method id and the fields of `GetEmpty`.
-#[tactic(auto)]
 pub fn size_get_empty(method: &GetEmpty) -> Result<u64, GenError>
     ensures { Measures result (method_size (get_empty_method method.now)) }
 {
@@ -632,7 +618,6 @@ pub fn size_get_empty(method: &GetEmpty) -> Result<u64, GenError>
 }
 
 /// Puts the method id and the fields of `GetEmpty` at a place of a slice, and returns the place after.
-#[tactic(auto)]
 pub fn put_get_empty(buf: &mut [u8], at: usize, method: &GetEmpty) -> usize
     requires { HasRoom buf.old at (method_size (get_empty_method method.now)) (method_bytes (get_empty_method method.now)) }
     ensures { Puts buf.old buf.new at (method_bytes (get_empty_method method.now)) result }
@@ -641,7 +626,6 @@ pub fn put_get_empty(buf: &mut [u8], at: usize, method: &GetEmpty) -> usize
 }
 
 /// Appends the method id and the fields of `GetEmpty` to a vector.
-#[tactic(auto)]
 pub fn gen_get_empty(_alloc: Global, out: &mut Vec<u8>, method: &GetEmpty) -> Result<(), GenError>
     ensures { Appends out.old.items out.new.items (method_size (get_empty_method method.now)) (method_bytes (get_empty_method method.now)) result }
 {

@@ -1,4 +1,5 @@
 //! The methods of the class channel, 20.
+//! Its `parse_` calls return Incomplete, NotUtf8 and NoMemory; `parse_channel` also UnknownMethod.
 
 ghost use Rattle.std.specs.Prelude.{◌≡◌, ◌∷◌, [], IfOk, false};
 ghost use Rattle.amqp_types.specs.Slots.{number_item, text_item, flag_item};
@@ -35,6 +36,7 @@ impl Open {
 }
 
 /// Decodes the fields of `Open`.
+#[tactic(auto, using(amqp_types::proofs::Judged::refuses_next), unfolding(amqp_values::proofs::OneMethod::read_one_by_one))]
 pub fn parse_open(_alloc: Global, i: &[u8]) -> Result<(usize, Open), ParserError>
     ensures parsed { Parses open_method result i.now (judge_method 20 10) }
     ensures memory { NeedsNoMemory result }
@@ -45,6 +47,7 @@ pub fn parse_open(_alloc: Global, i: &[u8]) -> Result<(usize, Open), ParserError
 }
 
 /// Its ids and fields, in order.
+#[tactic(auto, unfolding(amqp_values::proofs::OneMethod::listed))]
 fn open_fields(_method: &Open) -> [Field<'_>; 3]
     ensures { ListsMethod result (open_method _method.now) }
 {
@@ -56,7 +59,6 @@ fn open_fields(_method: &Open) -> [Field<'_>; 3]
 }
 
 /// The size in bytes of the method id and the fields of `Open`.
-#[tactic(auto)]
 pub fn size_open(method: &Open) -> Result<u64, GenError>
     ensures { Measures result (method_size (open_method method.now)) }
 {
@@ -64,7 +66,6 @@ pub fn size_open(method: &Open) -> Result<u64, GenError>
 }
 
 /// Puts the method id and the fields of `Open` at a place of a slice, and returns the place after.
-#[tactic(auto)]
 pub fn put_open(buf: &mut [u8], at: usize, method: &Open) -> usize
     requires { HasRoom buf.old at (method_size (open_method method.now)) (method_bytes (open_method method.now)) }
     ensures { Puts buf.old buf.new at (method_bytes (open_method method.now)) result }
@@ -73,7 +74,6 @@ pub fn put_open(buf: &mut [u8], at: usize, method: &Open) -> usize
 }
 
 /// Appends the method id and the fields of `Open` to a vector.
-#[tactic(auto)]
 pub fn gen_open(_alloc: Global, out: &mut Vec<u8>, method: &Open) -> Result<(), GenError>
     ensures { Appends out.old.items out.new.items (method_size (open_method method.now)) (method_bytes (open_method method.now)) result }
 {
@@ -101,6 +101,7 @@ impl OpenOk {
 }
 
 /// Decodes the fields of `OpenOk`.
+#[tactic(auto, using(amqp_types::proofs::Judged::refuses_next), unfolding(amqp_values::proofs::OneMethod::read_one_by_one))]
 pub fn parse_open_ok(_alloc: Global, i: &[u8]) -> Result<(usize, OpenOk), ParserError>
     ensures parsed { Parses open_ok_method result i.now (judge_method 20 11) }
     ensures memory { NeedsNoMemory result }
@@ -111,6 +112,7 @@ pub fn parse_open_ok(_alloc: Global, i: &[u8]) -> Result<(usize, OpenOk), Parser
 }
 
 /// Its ids and fields, in order.
+#[tactic(auto, unfolding(amqp_values::proofs::OneMethod::listed))]
 fn open_ok_fields(_method: &OpenOk) -> [Field<'_>; 3]
     ensures { ListsMethod result (open_ok_method _method.now) }
 {
@@ -122,7 +124,6 @@ fn open_ok_fields(_method: &OpenOk) -> [Field<'_>; 3]
 }
 
 /// The size in bytes of the method id and the fields of `OpenOk`.
-#[tactic(auto)]
 pub fn size_open_ok(method: &OpenOk) -> Result<u64, GenError>
     ensures { Measures result (method_size (open_ok_method method.now)) }
 {
@@ -130,7 +131,6 @@ pub fn size_open_ok(method: &OpenOk) -> Result<u64, GenError>
 }
 
 /// Puts the method id and the fields of `OpenOk` at a place of a slice, and returns the place after.
-#[tactic(auto)]
 pub fn put_open_ok(buf: &mut [u8], at: usize, method: &OpenOk) -> usize
     requires { HasRoom buf.old at (method_size (open_ok_method method.now)) (method_bytes (open_ok_method method.now)) }
     ensures { Puts buf.old buf.new at (method_bytes (open_ok_method method.now)) result }
@@ -139,7 +139,6 @@ pub fn put_open_ok(buf: &mut [u8], at: usize, method: &OpenOk) -> usize
 }
 
 /// Appends the method id and the fields of `OpenOk` to a vector.
-#[tactic(auto)]
 pub fn gen_open_ok(_alloc: Global, out: &mut Vec<u8>, method: &OpenOk) -> Result<(), GenError>
     ensures { Appends out.old.items out.new.items (method_size (open_ok_method method.now)) (method_bytes (open_ok_method method.now)) result }
 {
@@ -179,6 +178,7 @@ impl Flow {
 }
 
 /// Decodes the fields of `Flow`.
+#[tactic(auto, using(amqp_types::proofs::Judged::refuses_next), unfolding(amqp_values::proofs::OneMethod::read_one_by_one))]
 pub fn parse_flow(_alloc: Global, i: &[u8]) -> Result<(usize, Flow), ParserError>
     ensures parsed { Parses flow_method result i.now (judge_method 20 20) }
     ensures memory { NeedsNoMemory result }
@@ -192,6 +192,7 @@ pub fn parse_flow(_alloc: Global, i: &[u8]) -> Result<(usize, Flow), ParserError
 }
 
 /// Its ids and fields, in order.
+#[tactic(auto, unfolding(amqp_values::proofs::OneMethod::listed))]
 fn flow_fields(method: &Flow) -> [Field<'_>; 3]
     ensures { ListsMethod result (flow_method method.now) }
 {
@@ -203,7 +204,6 @@ fn flow_fields(method: &Flow) -> [Field<'_>; 3]
 }
 
 /// The size in bytes of the method id and the fields of `Flow`.
-#[tactic(auto)]
 pub fn size_flow(method: &Flow) -> Result<u64, GenError>
     ensures { Measures result (method_size (flow_method method.now)) }
 {
@@ -211,7 +211,6 @@ pub fn size_flow(method: &Flow) -> Result<u64, GenError>
 }
 
 /// Puts the method id and the fields of `Flow` at a place of a slice, and returns the place after.
-#[tactic(auto)]
 pub fn put_flow(buf: &mut [u8], at: usize, method: &Flow) -> usize
     requires { HasRoom buf.old at (method_size (flow_method method.now)) (method_bytes (flow_method method.now)) }
     ensures { Puts buf.old buf.new at (method_bytes (flow_method method.now)) result }
@@ -220,7 +219,6 @@ pub fn put_flow(buf: &mut [u8], at: usize, method: &Flow) -> usize
 }
 
 /// Appends the method id and the fields of `Flow` to a vector.
-#[tactic(auto)]
 pub fn gen_flow(_alloc: Global, out: &mut Vec<u8>, method: &Flow) -> Result<(), GenError>
     ensures { Appends out.old.items out.new.items (method_size (flow_method method.now)) (method_bytes (flow_method method.now)) result }
 {
@@ -260,6 +258,7 @@ impl FlowOk {
 }
 
 /// Decodes the fields of `FlowOk`.
+#[tactic(auto, using(amqp_types::proofs::Judged::refuses_next), unfolding(amqp_values::proofs::OneMethod::read_one_by_one))]
 pub fn parse_flow_ok(_alloc: Global, i: &[u8]) -> Result<(usize, FlowOk), ParserError>
     ensures parsed { Parses flow_ok_method result i.now (judge_method 20 21) }
     ensures memory { NeedsNoMemory result }
@@ -273,6 +272,7 @@ pub fn parse_flow_ok(_alloc: Global, i: &[u8]) -> Result<(usize, FlowOk), Parser
 }
 
 /// Its ids and fields, in order.
+#[tactic(auto, unfolding(amqp_values::proofs::OneMethod::listed))]
 fn flow_ok_fields(method: &FlowOk) -> [Field<'_>; 3]
     ensures { ListsMethod result (flow_ok_method method.now) }
 {
@@ -284,7 +284,6 @@ fn flow_ok_fields(method: &FlowOk) -> [Field<'_>; 3]
 }
 
 /// The size in bytes of the method id and the fields of `FlowOk`.
-#[tactic(auto)]
 pub fn size_flow_ok(method: &FlowOk) -> Result<u64, GenError>
     ensures { Measures result (method_size (flow_ok_method method.now)) }
 {
@@ -292,7 +291,6 @@ pub fn size_flow_ok(method: &FlowOk) -> Result<u64, GenError>
 }
 
 /// Puts the method id and the fields of `FlowOk` at a place of a slice, and returns the place after.
-#[tactic(auto)]
 pub fn put_flow_ok(buf: &mut [u8], at: usize, method: &FlowOk) -> usize
     requires { HasRoom buf.old at (method_size (flow_ok_method method.now)) (method_bytes (flow_ok_method method.now)) }
     ensures { Puts buf.old buf.new at (method_bytes (flow_ok_method method.now)) result }
@@ -301,7 +299,6 @@ pub fn put_flow_ok(buf: &mut [u8], at: usize, method: &FlowOk) -> usize
 }
 
 /// Appends the method id and the fields of `FlowOk` to a vector.
-#[tactic(auto)]
 pub fn gen_flow_ok(_alloc: Global, out: &mut Vec<u8>, method: &FlowOk) -> Result<(), GenError>
     ensures { Appends out.old.items out.new.items (method_size (flow_ok_method method.now)) (method_bytes (flow_ok_method method.now)) result }
 {
@@ -365,14 +362,12 @@ impl Close {
 }
 
 /// Decodes the fields of `Close`.
+#[tactic(auto, using(amqp_types::proofs::Judged::refuses_next), unfolding(amqp_values::proofs::OneMethod::read_at_once))]
 pub fn parse_close(alloc: Global, i: &[u8]) -> Result<(usize, Close), ParserError>
     ensures { Parses close_method result i.now (judge_method 20 40) }
 {
     let mut slots = SlotReader::new(i);
-    let reply_code = slots.short_uint()?;
-    let reply_text = slots.short_string(alloc)?;
-    let class_id = slots.short_uint()?;
-    let method_id = slots.short_uint()?;
+    let (reply_code, reply_text, class_id, method_id) = slots.read(alloc)?;
     let method = Close {
         reply_code,
         reply_text,
@@ -383,6 +378,7 @@ pub fn parse_close(alloc: Global, i: &[u8]) -> Result<(usize, Close), ParserErro
 }
 
 /// Its ids and fields, in order.
+#[tactic(auto, unfolding(amqp_values::proofs::OneMethod::listed))]
 fn close_fields(method: &Close) -> [Field<'_>; 6]
     ensures { ListsMethod result (close_method method.now) }
 {
@@ -397,7 +393,6 @@ fn close_fields(method: &Close) -> [Field<'_>; 6]
 }
 
 /// The size in bytes of the method id and the fields of `Close`.
-#[tactic(auto)]
 pub fn size_close(method: &Close) -> Result<u64, GenError>
     ensures { Measures result (method_size (close_method method.now)) }
 {
@@ -405,7 +400,6 @@ pub fn size_close(method: &Close) -> Result<u64, GenError>
 }
 
 /// Puts the method id and the fields of `Close` at a place of a slice, and returns the place after.
-#[tactic(auto)]
 pub fn put_close(buf: &mut [u8], at: usize, method: &Close) -> usize
     requires { HasRoom buf.old at (method_size (close_method method.now)) (method_bytes (close_method method.now)) }
     ensures { Puts buf.old buf.new at (method_bytes (close_method method.now)) result }
@@ -414,7 +408,6 @@ pub fn put_close(buf: &mut [u8], at: usize, method: &Close) -> usize
 }
 
 /// Appends the method id and the fields of `Close` to a vector.
-#[tactic(auto)]
 pub fn gen_close(_alloc: Global, out: &mut Vec<u8>, method: &Close) -> Result<(), GenError>
     ensures { Appends out.old.items out.new.items (method_size (close_method method.now)) (method_bytes (close_method method.now)) result }
 {
@@ -442,6 +435,7 @@ impl CloseOk {
 }
 
 /// Decodes the fields of `CloseOk`.
+#[tactic(auto, using(amqp_types::proofs::Judged::refuses_next), unfolding(amqp_values::proofs::OneMethod::read_one_by_one))]
 pub fn parse_close_ok(_alloc: Global, i: &[u8]) -> Result<(usize, CloseOk), ParserError>
     ensures parsed { Parses close_ok_method result i.now (judge_method 20 41) }
     ensures memory { NeedsNoMemory result }
@@ -451,6 +445,7 @@ pub fn parse_close_ok(_alloc: Global, i: &[u8]) -> Result<(usize, CloseOk), Pars
 }
 
 /// Its ids and fields, in order.
+#[tactic(auto, unfolding(amqp_values::proofs::OneMethod::listed))]
 fn close_ok_fields(_method: &CloseOk) -> [Field<'_>; 2]
     ensures { ListsMethod result (close_ok_method _method.now) }
 {
@@ -458,7 +453,6 @@ fn close_ok_fields(_method: &CloseOk) -> [Field<'_>; 2]
 }
 
 /// The size in bytes of the method id and the fields of `CloseOk`.
-#[tactic(auto)]
 pub fn size_close_ok(method: &CloseOk) -> Result<u64, GenError>
     ensures { Measures result (method_size (close_ok_method method.now)) }
 {
@@ -466,7 +460,6 @@ pub fn size_close_ok(method: &CloseOk) -> Result<u64, GenError>
 }
 
 /// Puts the method id and the fields of `CloseOk` at a place of a slice, and returns the place after.
-#[tactic(auto)]
 pub fn put_close_ok(buf: &mut [u8], at: usize, method: &CloseOk) -> usize
     requires { HasRoom buf.old at (method_size (close_ok_method method.now)) (method_bytes (close_ok_method method.now)) }
     ensures { Puts buf.old buf.new at (method_bytes (close_ok_method method.now)) result }
@@ -475,7 +468,6 @@ pub fn put_close_ok(buf: &mut [u8], at: usize, method: &CloseOk) -> usize
 }
 
 /// Appends the method id and the fields of `CloseOk` to a vector.
-#[tactic(auto)]
 pub fn gen_close_ok(_alloc: Global, out: &mut Vec<u8>, method: &CloseOk) -> Result<(), GenError>
     ensures { Appends out.old.items out.new.items (method_size (close_ok_method method.now)) (method_bytes (close_ok_method method.now)) result }
 {
@@ -600,7 +592,6 @@ macro_rules! with_fields {
 }
 
 /// The size in bytes of the class id, the method id and the fields.
-#[tactic(auto)]
 pub fn size_channel(method: &AMQPMethod) -> Result<u64, GenError>
     ensures { Measures result (payload_size (method_of method.now)) }
 {
@@ -608,7 +599,6 @@ pub fn size_channel(method: &AMQPMethod) -> Result<u64, GenError>
 }
 
 /// Puts the class id, the method id and the fields at a place of a slice, and returns the place after.
-#[tactic(auto)]
 pub fn put_channel(buf: &mut [u8], at: usize, method: &AMQPMethod) -> usize
     requires { HasRoom buf.old at (payload_size (method_of method.now)) (payload_bytes (method_of method.now)) }
     ensures { Puts buf.old buf.new at (payload_bytes (method_of method.now)) result }
@@ -617,7 +607,6 @@ pub fn put_channel(buf: &mut [u8], at: usize, method: &AMQPMethod) -> usize
 }
 
 /// Appends the class id, the method id and the fields to a vector.
-#[tactic(auto)]
 pub fn gen_channel(_alloc: Global, out: &mut Vec<u8>, method: &AMQPMethod) -> Result<(), GenError>
     ensures { Appends out.old.items out.new.items (payload_size (method_of method.now)) (payload_bytes (method_of method.now)) result }
 {

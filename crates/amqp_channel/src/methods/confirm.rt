@@ -1,4 +1,5 @@
 //! The methods of the class confirm, 85.
+//! Its `parse_` calls return Incomplete; `parse_confirm` also UnknownMethod.
 
 ghost use Rattle.std.specs.Prelude.{◌≡◌, IfOk, ◌∷◌, [], false};
 ghost use Rattle.amqp_types.specs.Slots.{flag_item};
@@ -47,6 +48,7 @@ impl Select {
 }
 
 /// Decodes the fields of `Select`.
+#[tactic(auto, using(amqp_types::proofs::Judged::refuses_next), unfolding(amqp_values::proofs::OneMethod::read_one_by_one))]
 pub fn parse_select(_alloc: Global, i: &[u8]) -> Result<(usize, Select), ParserError>
     ensures parsed { Parses select_method result i.now (judge_method 85 10) }
     ensures memory { NeedsNoMemory result }
@@ -60,6 +62,7 @@ pub fn parse_select(_alloc: Global, i: &[u8]) -> Result<(usize, Select), ParserE
 }
 
 /// Its ids and fields, in order.
+#[tactic(auto, unfolding(amqp_values::proofs::OneMethod::listed))]
 fn select_fields(method: &Select) -> [Field<'_>; 3]
     ensures { ListsMethod result (select_method method.now) }
 {
@@ -71,7 +74,6 @@ fn select_fields(method: &Select) -> [Field<'_>; 3]
 }
 
 /// The size in bytes of the method id and the fields of `Select`.
-#[tactic(auto)]
 pub fn size_select(method: &Select) -> Result<u64, GenError>
     ensures { Measures result (method_size (select_method method.now)) }
 {
@@ -79,7 +81,6 @@ pub fn size_select(method: &Select) -> Result<u64, GenError>
 }
 
 /// Puts the method id and the fields of `Select` at a place of a slice, and returns the place after.
-#[tactic(auto)]
 pub fn put_select(buf: &mut [u8], at: usize, method: &Select) -> usize
     requires { HasRoom buf.old at (method_size (select_method method.now)) (method_bytes (select_method method.now)) }
     ensures { Puts buf.old buf.new at (method_bytes (select_method method.now)) result }
@@ -88,7 +89,6 @@ pub fn put_select(buf: &mut [u8], at: usize, method: &Select) -> usize
 }
 
 /// Appends the method id and the fields of `Select` to a vector.
-#[tactic(auto)]
 pub fn gen_select(_alloc: Global, out: &mut Vec<u8>, method: &Select) -> Result<(), GenError>
     ensures { Appends out.old.items out.new.items (method_size (select_method method.now)) (method_bytes (select_method method.now)) result }
 {
@@ -116,6 +116,7 @@ impl SelectOk {
 }
 
 /// Decodes the fields of `SelectOk`.
+#[tactic(auto, using(amqp_types::proofs::Judged::refuses_next), unfolding(amqp_values::proofs::OneMethod::read_one_by_one))]
 pub fn parse_select_ok(_alloc: Global, i: &[u8]) -> Result<(usize, SelectOk), ParserError>
     ensures parsed { Parses select_ok_method result i.now (judge_method 85 11) }
     ensures memory { NeedsNoMemory result }
@@ -125,6 +126,7 @@ pub fn parse_select_ok(_alloc: Global, i: &[u8]) -> Result<(usize, SelectOk), Pa
 }
 
 /// Its ids and fields, in order.
+#[tactic(auto, unfolding(amqp_values::proofs::OneMethod::listed))]
 fn select_ok_fields(_method: &SelectOk) -> [Field<'_>; 2]
     ensures { ListsMethod result (select_ok_method _method.now) }
 {
@@ -132,7 +134,6 @@ fn select_ok_fields(_method: &SelectOk) -> [Field<'_>; 2]
 }
 
 /// The size in bytes of the method id and the fields of `SelectOk`.
-#[tactic(auto)]
 pub fn size_select_ok(method: &SelectOk) -> Result<u64, GenError>
     ensures { Measures result (method_size (select_ok_method method.now)) }
 {
@@ -140,7 +141,6 @@ pub fn size_select_ok(method: &SelectOk) -> Result<u64, GenError>
 }
 
 /// Puts the method id and the fields of `SelectOk` at a place of a slice, and returns the place after.
-#[tactic(auto)]
 pub fn put_select_ok(buf: &mut [u8], at: usize, method: &SelectOk) -> usize
     requires { HasRoom buf.old at (method_size (select_ok_method method.now)) (method_bytes (select_ok_method method.now)) }
     ensures { Puts buf.old buf.new at (method_bytes (select_ok_method method.now)) result }
@@ -149,7 +149,6 @@ pub fn put_select_ok(buf: &mut [u8], at: usize, method: &SelectOk) -> usize
 }
 
 /// Appends the method id and the fields of `SelectOk` to a vector.
-#[tactic(auto)]
 pub fn gen_select_ok(_alloc: Global, out: &mut Vec<u8>, method: &SelectOk) -> Result<(), GenError>
     ensures { Appends out.old.items out.new.items (method_size (select_ok_method method.now)) (method_bytes (select_ok_method method.now)) result }
 {
@@ -236,7 +235,6 @@ macro_rules! with_fields {
 }
 
 /// The size in bytes of the class id, the method id and the fields.
-#[tactic(auto)]
 pub fn size_confirm(method: &AMQPMethod) -> Result<u64, GenError>
     ensures { Measures result (payload_size (method_of method.now)) }
 {
@@ -244,7 +242,6 @@ pub fn size_confirm(method: &AMQPMethod) -> Result<u64, GenError>
 }
 
 /// Puts the class id, the method id and the fields at a place of a slice, and returns the place after.
-#[tactic(auto)]
 pub fn put_confirm(buf: &mut [u8], at: usize, method: &AMQPMethod) -> usize
     requires { HasRoom buf.old at (payload_size (method_of method.now)) (payload_bytes (method_of method.now)) }
     ensures { Puts buf.old buf.new at (payload_bytes (method_of method.now)) result }
@@ -253,7 +250,6 @@ pub fn put_confirm(buf: &mut [u8], at: usize, method: &AMQPMethod) -> usize
 }
 
 /// Appends the class id, the method id and the fields to a vector.
-#[tactic(auto)]
 pub fn gen_confirm(_alloc: Global, out: &mut Vec<u8>, method: &AMQPMethod) -> Result<(), GenError>
     ensures { Appends out.old.items out.new.items (payload_size (method_of method.now)) (payload_bytes (method_of method.now)) result }
 {

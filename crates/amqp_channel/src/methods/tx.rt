@@ -1,4 +1,5 @@
 //! The methods of the class tx, 90.
+//! Its `parse_` calls do not fail; `parse_tx` returns Incomplete and UnknownMethod.
 
 ghost use Rattle.std.specs.Prelude.{◌≡◌, IfOk};
 ghost use Rattle.amqp_types.specs.Calls.{Parses, NeedsNoMemory, Measures, HasRoom};
@@ -34,6 +35,7 @@ impl Select {
 }
 
 /// Decodes the fields of `Select`.
+#[tactic(auto, using(amqp_types::proofs::Judged::refuses_next), unfolding(amqp_values::proofs::OneMethod::read_one_by_one))]
 pub fn parse_select(_alloc: Global, i: &[u8]) -> Result<(usize, Select), ParserError>
     ensures parsed { Parses select_method result i.now (judge_method 90 10) }
     ensures memory { NeedsNoMemory result }
@@ -43,6 +45,7 @@ pub fn parse_select(_alloc: Global, i: &[u8]) -> Result<(usize, Select), ParserE
 }
 
 /// Its ids and fields, in order.
+#[tactic(auto, unfolding(amqp_values::proofs::OneMethod::listed))]
 fn select_fields(_method: &Select) -> [Field<'_>; 2]
     ensures { ListsMethod result (select_method _method.now) }
 {
@@ -50,7 +53,6 @@ fn select_fields(_method: &Select) -> [Field<'_>; 2]
 }
 
 /// The size in bytes of the method id and the fields of `Select`.
-#[tactic(auto)]
 pub fn size_select(method: &Select) -> Result<u64, GenError>
     ensures { Measures result (method_size (select_method method.now)) }
 {
@@ -58,7 +60,6 @@ pub fn size_select(method: &Select) -> Result<u64, GenError>
 }
 
 /// Puts the method id and the fields of `Select` at a place of a slice, and returns the place after.
-#[tactic(auto)]
 pub fn put_select(buf: &mut [u8], at: usize, method: &Select) -> usize
     requires { HasRoom buf.old at (method_size (select_method method.now)) (method_bytes (select_method method.now)) }
     ensures { Puts buf.old buf.new at (method_bytes (select_method method.now)) result }
@@ -67,7 +68,6 @@ pub fn put_select(buf: &mut [u8], at: usize, method: &Select) -> usize
 }
 
 /// Appends the method id and the fields of `Select` to a vector.
-#[tactic(auto)]
 pub fn gen_select(_alloc: Global, out: &mut Vec<u8>, method: &Select) -> Result<(), GenError>
     ensures { Appends out.old.items out.new.items (method_size (select_method method.now)) (method_bytes (select_method method.now)) result }
 {
@@ -95,6 +95,7 @@ impl SelectOk {
 }
 
 /// Decodes the fields of `SelectOk`.
+#[tactic(auto, using(amqp_types::proofs::Judged::refuses_next), unfolding(amqp_values::proofs::OneMethod::read_one_by_one))]
 pub fn parse_select_ok(_alloc: Global, i: &[u8]) -> Result<(usize, SelectOk), ParserError>
     ensures parsed { Parses select_ok_method result i.now (judge_method 90 11) }
     ensures memory { NeedsNoMemory result }
@@ -104,6 +105,7 @@ pub fn parse_select_ok(_alloc: Global, i: &[u8]) -> Result<(usize, SelectOk), Pa
 }
 
 /// Its ids and fields, in order.
+#[tactic(auto, unfolding(amqp_values::proofs::OneMethod::listed))]
 fn select_ok_fields(_method: &SelectOk) -> [Field<'_>; 2]
     ensures { ListsMethod result (select_ok_method _method.now) }
 {
@@ -111,7 +113,6 @@ fn select_ok_fields(_method: &SelectOk) -> [Field<'_>; 2]
 }
 
 /// The size in bytes of the method id and the fields of `SelectOk`.
-#[tactic(auto)]
 pub fn size_select_ok(method: &SelectOk) -> Result<u64, GenError>
     ensures { Measures result (method_size (select_ok_method method.now)) }
 {
@@ -119,7 +120,6 @@ pub fn size_select_ok(method: &SelectOk) -> Result<u64, GenError>
 }
 
 /// Puts the method id and the fields of `SelectOk` at a place of a slice, and returns the place after.
-#[tactic(auto)]
 pub fn put_select_ok(buf: &mut [u8], at: usize, method: &SelectOk) -> usize
     requires { HasRoom buf.old at (method_size (select_ok_method method.now)) (method_bytes (select_ok_method method.now)) }
     ensures { Puts buf.old buf.new at (method_bytes (select_ok_method method.now)) result }
@@ -128,7 +128,6 @@ pub fn put_select_ok(buf: &mut [u8], at: usize, method: &SelectOk) -> usize
 }
 
 /// Appends the method id and the fields of `SelectOk` to a vector.
-#[tactic(auto)]
 pub fn gen_select_ok(_alloc: Global, out: &mut Vec<u8>, method: &SelectOk) -> Result<(), GenError>
     ensures { Appends out.old.items out.new.items (method_size (select_ok_method method.now)) (method_bytes (select_ok_method method.now)) result }
 {
@@ -156,6 +155,7 @@ impl Commit {
 }
 
 /// Decodes the fields of `Commit`.
+#[tactic(auto, using(amqp_types::proofs::Judged::refuses_next), unfolding(amqp_values::proofs::OneMethod::read_one_by_one))]
 pub fn parse_commit(_alloc: Global, i: &[u8]) -> Result<(usize, Commit), ParserError>
     ensures parsed { Parses commit_method result i.now (judge_method 90 20) }
     ensures memory { NeedsNoMemory result }
@@ -165,6 +165,7 @@ pub fn parse_commit(_alloc: Global, i: &[u8]) -> Result<(usize, Commit), ParserE
 }
 
 /// Its ids and fields, in order.
+#[tactic(auto, unfolding(amqp_values::proofs::OneMethod::listed))]
 fn commit_fields(_method: &Commit) -> [Field<'_>; 2]
     ensures { ListsMethod result (commit_method _method.now) }
 {
@@ -172,7 +173,6 @@ fn commit_fields(_method: &Commit) -> [Field<'_>; 2]
 }
 
 /// The size in bytes of the method id and the fields of `Commit`.
-#[tactic(auto)]
 pub fn size_commit(method: &Commit) -> Result<u64, GenError>
     ensures { Measures result (method_size (commit_method method.now)) }
 {
@@ -180,7 +180,6 @@ pub fn size_commit(method: &Commit) -> Result<u64, GenError>
 }
 
 /// Puts the method id and the fields of `Commit` at a place of a slice, and returns the place after.
-#[tactic(auto)]
 pub fn put_commit(buf: &mut [u8], at: usize, method: &Commit) -> usize
     requires { HasRoom buf.old at (method_size (commit_method method.now)) (method_bytes (commit_method method.now)) }
     ensures { Puts buf.old buf.new at (method_bytes (commit_method method.now)) result }
@@ -189,7 +188,6 @@ pub fn put_commit(buf: &mut [u8], at: usize, method: &Commit) -> usize
 }
 
 /// Appends the method id and the fields of `Commit` to a vector.
-#[tactic(auto)]
 pub fn gen_commit(_alloc: Global, out: &mut Vec<u8>, method: &Commit) -> Result<(), GenError>
     ensures { Appends out.old.items out.new.items (method_size (commit_method method.now)) (method_bytes (commit_method method.now)) result }
 {
@@ -217,6 +215,7 @@ impl CommitOk {
 }
 
 /// Decodes the fields of `CommitOk`.
+#[tactic(auto, using(amqp_types::proofs::Judged::refuses_next), unfolding(amqp_values::proofs::OneMethod::read_one_by_one))]
 pub fn parse_commit_ok(_alloc: Global, i: &[u8]) -> Result<(usize, CommitOk), ParserError>
     ensures parsed { Parses commit_ok_method result i.now (judge_method 90 21) }
     ensures memory { NeedsNoMemory result }
@@ -226,6 +225,7 @@ pub fn parse_commit_ok(_alloc: Global, i: &[u8]) -> Result<(usize, CommitOk), Pa
 }
 
 /// Its ids and fields, in order.
+#[tactic(auto, unfolding(amqp_values::proofs::OneMethod::listed))]
 fn commit_ok_fields(_method: &CommitOk) -> [Field<'_>; 2]
     ensures { ListsMethod result (commit_ok_method _method.now) }
 {
@@ -233,7 +233,6 @@ fn commit_ok_fields(_method: &CommitOk) -> [Field<'_>; 2]
 }
 
 /// The size in bytes of the method id and the fields of `CommitOk`.
-#[tactic(auto)]
 pub fn size_commit_ok(method: &CommitOk) -> Result<u64, GenError>
     ensures { Measures result (method_size (commit_ok_method method.now)) }
 {
@@ -241,7 +240,6 @@ pub fn size_commit_ok(method: &CommitOk) -> Result<u64, GenError>
 }
 
 /// Puts the method id and the fields of `CommitOk` at a place of a slice, and returns the place after.
-#[tactic(auto)]
 pub fn put_commit_ok(buf: &mut [u8], at: usize, method: &CommitOk) -> usize
     requires { HasRoom buf.old at (method_size (commit_ok_method method.now)) (method_bytes (commit_ok_method method.now)) }
     ensures { Puts buf.old buf.new at (method_bytes (commit_ok_method method.now)) result }
@@ -250,7 +248,6 @@ pub fn put_commit_ok(buf: &mut [u8], at: usize, method: &CommitOk) -> usize
 }
 
 /// Appends the method id and the fields of `CommitOk` to a vector.
-#[tactic(auto)]
 pub fn gen_commit_ok(_alloc: Global, out: &mut Vec<u8>, method: &CommitOk) -> Result<(), GenError>
     ensures { Appends out.old.items out.new.items (method_size (commit_ok_method method.now)) (method_bytes (commit_ok_method method.now)) result }
 {
@@ -278,6 +275,7 @@ impl Rollback {
 }
 
 /// Decodes the fields of `Rollback`.
+#[tactic(auto, using(amqp_types::proofs::Judged::refuses_next), unfolding(amqp_values::proofs::OneMethod::read_one_by_one))]
 pub fn parse_rollback(_alloc: Global, i: &[u8]) -> Result<(usize, Rollback), ParserError>
     ensures parsed { Parses rollback_method result i.now (judge_method 90 30) }
     ensures memory { NeedsNoMemory result }
@@ -287,6 +285,7 @@ pub fn parse_rollback(_alloc: Global, i: &[u8]) -> Result<(usize, Rollback), Par
 }
 
 /// Its ids and fields, in order.
+#[tactic(auto, unfolding(amqp_values::proofs::OneMethod::listed))]
 fn rollback_fields(_method: &Rollback) -> [Field<'_>; 2]
     ensures { ListsMethod result (rollback_method _method.now) }
 {
@@ -294,7 +293,6 @@ fn rollback_fields(_method: &Rollback) -> [Field<'_>; 2]
 }
 
 /// The size in bytes of the method id and the fields of `Rollback`.
-#[tactic(auto)]
 pub fn size_rollback(method: &Rollback) -> Result<u64, GenError>
     ensures { Measures result (method_size (rollback_method method.now)) }
 {
@@ -302,7 +300,6 @@ pub fn size_rollback(method: &Rollback) -> Result<u64, GenError>
 }
 
 /// Puts the method id and the fields of `Rollback` at a place of a slice, and returns the place after.
-#[tactic(auto)]
 pub fn put_rollback(buf: &mut [u8], at: usize, method: &Rollback) -> usize
     requires { HasRoom buf.old at (method_size (rollback_method method.now)) (method_bytes (rollback_method method.now)) }
     ensures { Puts buf.old buf.new at (method_bytes (rollback_method method.now)) result }
@@ -311,7 +308,6 @@ pub fn put_rollback(buf: &mut [u8], at: usize, method: &Rollback) -> usize
 }
 
 /// Appends the method id and the fields of `Rollback` to a vector.
-#[tactic(auto)]
 pub fn gen_rollback(_alloc: Global, out: &mut Vec<u8>, method: &Rollback) -> Result<(), GenError>
     ensures { Appends out.old.items out.new.items (method_size (rollback_method method.now)) (method_bytes (rollback_method method.now)) result }
 {
@@ -339,6 +335,7 @@ impl RollbackOk {
 }
 
 /// Decodes the fields of `RollbackOk`.
+#[tactic(auto, using(amqp_types::proofs::Judged::refuses_next), unfolding(amqp_values::proofs::OneMethod::read_one_by_one))]
 pub fn parse_rollback_ok(_alloc: Global, i: &[u8]) -> Result<(usize, RollbackOk), ParserError>
     ensures parsed { Parses rollback_ok_method result i.now (judge_method 90 31) }
     ensures memory { NeedsNoMemory result }
@@ -348,6 +345,7 @@ pub fn parse_rollback_ok(_alloc: Global, i: &[u8]) -> Result<(usize, RollbackOk)
 }
 
 /// Its ids and fields, in order.
+#[tactic(auto, unfolding(amqp_values::proofs::OneMethod::listed))]
 fn rollback_ok_fields(_method: &RollbackOk) -> [Field<'_>; 2]
     ensures { ListsMethod result (rollback_ok_method _method.now) }
 {
@@ -355,7 +353,6 @@ fn rollback_ok_fields(_method: &RollbackOk) -> [Field<'_>; 2]
 }
 
 /// The size in bytes of the method id and the fields of `RollbackOk`.
-#[tactic(auto)]
 pub fn size_rollback_ok(method: &RollbackOk) -> Result<u64, GenError>
     ensures { Measures result (method_size (rollback_ok_method method.now)) }
 {
@@ -363,7 +360,6 @@ pub fn size_rollback_ok(method: &RollbackOk) -> Result<u64, GenError>
 }
 
 /// Puts the method id and the fields of `RollbackOk` at a place of a slice, and returns the place after.
-#[tactic(auto)]
 pub fn put_rollback_ok(buf: &mut [u8], at: usize, method: &RollbackOk) -> usize
     requires { HasRoom buf.old at (method_size (rollback_ok_method method.now)) (method_bytes (rollback_ok_method method.now)) }
     ensures { Puts buf.old buf.new at (method_bytes (rollback_ok_method method.now)) result }
@@ -372,7 +368,6 @@ pub fn put_rollback_ok(buf: &mut [u8], at: usize, method: &RollbackOk) -> usize
 }
 
 /// Appends the method id and the fields of `RollbackOk` to a vector.
-#[tactic(auto)]
 pub fn gen_rollback_ok(
     _alloc: Global,
     out: &mut Vec<u8>,
@@ -503,7 +498,6 @@ macro_rules! with_fields {
 }
 
 /// The size in bytes of the class id, the method id and the fields.
-#[tactic(auto)]
 pub fn size_tx(method: &AMQPMethod) -> Result<u64, GenError>
     ensures { Measures result (payload_size (method_of method.now)) }
 {
@@ -511,7 +505,6 @@ pub fn size_tx(method: &AMQPMethod) -> Result<u64, GenError>
 }
 
 /// Puts the class id, the method id and the fields at a place of a slice, and returns the place after.
-#[tactic(auto)]
 pub fn put_tx(buf: &mut [u8], at: usize, method: &AMQPMethod) -> usize
     requires { HasRoom buf.old at (payload_size (method_of method.now)) (payload_bytes (method_of method.now)) }
     ensures { Puts buf.old buf.new at (payload_bytes (method_of method.now)) result }
@@ -520,7 +513,6 @@ pub fn put_tx(buf: &mut [u8], at: usize, method: &AMQPMethod) -> usize
 }
 
 /// Appends the class id, the method id and the fields to a vector.
-#[tactic(auto)]
 pub fn gen_tx(_alloc: Global, out: &mut Vec<u8>, method: &AMQPMethod) -> Result<(), GenError>
     ensures { Appends out.old.items out.new.items (payload_size (method_of method.now)) (payload_bytes (method_of method.now)) result }
 {

@@ -1,4 +1,5 @@
 //! The methods of the class access, 30.
+//! Its `parse_` calls return Incomplete, NotUtf8 and NoMemory; `parse_access` also UnknownMethod.
 
 ghost use Rattle.std.specs.Prelude.{◌≡◌, ◌∷◌, [], false, IfOk};
 ghost use Rattle.amqp_types.specs.Slots.{flag_item, text_item};
@@ -9,7 +10,7 @@ ghost use Rattle.amqp_values.specs.MethodFields.{ListsMethod};
 ghost use Rattle.amqp_connection.specs.Access.{request_method, request_ok_method, method_of};
 
 use amqp_values::{
-    Boolean, Field, GenError, Identifier, NoMemory, ParserError, ShortString, SlotReader,
+    Boolean, Field, Flags, GenError, Identifier, NoMemory, ParserError, ShortString, SlotReader,
     byte_of_flags, flag_of_byte, gen_fields, parse_id, put_fields, size_fields,
 };
 use std::alloc::Global;
@@ -82,24 +83,25 @@ impl Request {
 }
 
 /// Decodes the fields of `Request`.
+#[tactic(auto, using(amqp_types::proofs::Judged::refuses_next), unfolding(amqp_values::proofs::OneMethod::read_at_once))]
 pub fn parse_request(alloc: Global, i: &[u8]) -> Result<(usize, Request), ParserError>
     ensures { Parses request_method result i.now (judge_method 30 10) }
 {
     let mut slots = SlotReader::new(i);
-    let realm = slots.short_string(alloc)?;
-    let flags = slots.flags::<5>()?;
+    let (realm, flags) = slots.read::<(_, Flags<5>)>(alloc)?;
     let method = Request {
         realm,
-        exclusive: flag_of_byte(flags, 0),
-        passive: flag_of_byte(flags, 1),
-        active: flag_of_byte(flags, 2),
-        write: flag_of_byte(flags, 3),
-        read: flag_of_byte(flags, 4),
+        exclusive: flag_of_byte(flags.byte, 0),
+        passive: flag_of_byte(flags.byte, 1),
+        active: flag_of_byte(flags.byte, 2),
+        write: flag_of_byte(flags.byte, 3),
+        read: flag_of_byte(flags.byte, 4),
     };
     Ok((slots.used(i), method))
 }
 
 /// Its ids and fields, in order.
+#[tactic(auto, unfolding(amqp_values::proofs::OneMethod::listed))]
 fn request_fields(method: &Request) -> [Field<'_>; 4]
     ensures { ListsMethod result (request_method method.now) }
 {
@@ -118,7 +120,6 @@ fn request_fields(method: &Request) -> [Field<'_>; 4]
 }
 
 /// The size in bytes of the method id and the fields of `Request`.
-#[tactic(auto)]
 pub fn size_request(method: &Request) -> Result<u64, GenError>
     ensures { Measures result (method_size (request_method method.now)) }
 {
@@ -126,7 +127,6 @@ pub fn size_request(method: &Request) -> Result<u64, GenError>
 }
 
 /// Puts the method id and the fields of `Request` at a place of a slice, and returns the place after.
-#[tactic(auto)]
 pub fn put_request(buf: &mut [u8], at: usize, method: &Request) -> usize
     requires { HasRoom buf.old at (method_size (request_method method.now)) (method_bytes (request_method method.now)) }
     ensures { Puts buf.old buf.new at (method_bytes (request_method method.now)) result }
@@ -135,7 +135,6 @@ pub fn put_request(buf: &mut [u8], at: usize, method: &Request) -> usize
 }
 
 /// Appends the method id and the fields of `Request` to a vector.
-#[tactic(auto)]
 pub fn gen_request(_alloc: Global, out: &mut Vec<u8>, method: &Request) -> Result<(), GenError>
     ensures { Appends out.old.items out.new.items (method_size (request_method method.now)) (method_bytes (request_method method.now)) result }
 {
@@ -163,6 +162,7 @@ impl RequestOk {
 }
 
 /// Decodes the fields of `RequestOk`.
+#[tactic(auto, using(amqp_types::proofs::Judged::refuses_next), unfolding(amqp_values::proofs::OneMethod::read_one_by_one))]
 pub fn parse_request_ok(_alloc: Global, i: &[u8]) -> Result<(usize, RequestOk), ParserError>
     ensures parsed { Parses request_ok_method result i.now (judge_method 30 11) }
     ensures memory { NeedsNoMemory result }
@@ -173,6 +173,7 @@ pub fn parse_request_ok(_alloc: Global, i: &[u8]) -> Result<(usize, RequestOk), 
 }
 
 /// Its ids and fields, in order.
+#[tactic(auto, unfolding(amqp_values::proofs::OneMethod::listed))]
 fn request_ok_fields(_method: &RequestOk) -> [Field<'_>; 3]
     ensures { ListsMethod result (request_ok_method _method.now) }
 {
@@ -184,7 +185,6 @@ fn request_ok_fields(_method: &RequestOk) -> [Field<'_>; 3]
 }
 
 /// The size in bytes of the method id and the fields of `RequestOk`.
-#[tactic(auto)]
 pub fn size_request_ok(method: &RequestOk) -> Result<u64, GenError>
     ensures { Measures result (method_size (request_ok_method method.now)) }
 {
@@ -192,7 +192,6 @@ pub fn size_request_ok(method: &RequestOk) -> Result<u64, GenError>
 }
 
 /// Puts the method id and the fields of `RequestOk` at a place of a slice, and returns the place after.
-#[tactic(auto)]
 pub fn put_request_ok(buf: &mut [u8], at: usize, method: &RequestOk) -> usize
     requires { HasRoom buf.old at (method_size (request_ok_method method.now)) (method_bytes (request_ok_method method.now)) }
     ensures { Puts buf.old buf.new at (method_bytes (request_ok_method method.now)) result }
@@ -201,7 +200,6 @@ pub fn put_request_ok(buf: &mut [u8], at: usize, method: &RequestOk) -> usize
 }
 
 /// Appends the method id and the fields of `RequestOk` to a vector.
-#[tactic(auto)]
 pub fn gen_request_ok(_alloc: Global, out: &mut Vec<u8>, method: &RequestOk) -> Result<(), GenError>
     ensures { Appends out.old.items out.new.items (method_size (request_ok_method method.now)) (method_bytes (request_ok_method method.now)) result }
 {
@@ -286,7 +284,6 @@ macro_rules! with_fields {
 }
 
 /// The size in bytes of the class id, the method id and the fields.
-#[tactic(auto)]
 pub fn size_access(method: &AMQPMethod) -> Result<u64, GenError>
     ensures { Measures result (payload_size (method_of method.now)) }
 {
@@ -294,7 +291,6 @@ pub fn size_access(method: &AMQPMethod) -> Result<u64, GenError>
 }
 
 /// Puts the class id, the method id and the fields at a place of a slice, and returns the place after.
-#[tactic(auto)]
 pub fn put_access(buf: &mut [u8], at: usize, method: &AMQPMethod) -> usize
     requires { HasRoom buf.old at (payload_size (method_of method.now)) (payload_bytes (method_of method.now)) }
     ensures { Puts buf.old buf.new at (payload_bytes (method_of method.now)) result }
@@ -303,7 +299,6 @@ pub fn put_access(buf: &mut [u8], at: usize, method: &AMQPMethod) -> usize
 }
 
 /// Appends the class id, the method id and the fields to a vector.
-#[tactic(auto)]
 pub fn gen_access(_alloc: Global, out: &mut Vec<u8>, method: &AMQPMethod) -> Result<(), GenError>
     ensures { Appends out.old.items out.new.items (payload_size (method_of method.now)) (payload_bytes (method_of method.now)) result }
 {

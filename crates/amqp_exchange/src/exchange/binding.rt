@@ -9,8 +9,9 @@ ghost use Rattle.amqp_values.specs.MethodFields.{ListsMethod};
 ghost use Rattle.amqp_exchange.specs.Exchange.{bind_method, bind_ok_method, unbind_method, unbind_ok_method};
 
 use amqp_values::{
-    Boolean, Field, FieldTable, GenError, Identifier, NoMemory, ParserError, ShortString,
-    SlotReader, byte_of_flags, flag_of_byte, gen_fields, put_fields, size_fields,
+    Boolean, Field, FieldTable, Flags, GenError, Identifier, NoMemory, ParserError,
+    ReservedShortUInt, ShortString, SlotReader, byte_of_flags, flag_of_byte, gen_fields,
+    put_fields, size_fields,
 };
 use std::alloc::Global;
 
@@ -76,27 +77,26 @@ impl Bind {
 }
 
 /// Decodes the fields of `Bind`.
+#[tactic(auto, using(amqp_types::proofs::Judged::refuses_next), unfolding(amqp_values::proofs::OneMethod::read_at_once))]
 pub fn parse_bind(alloc: Global, i: &[u8]) -> Result<(usize, Bind), ParserError>
     ensures { Parses bind_method result i.now (judge_method 40 30) }
 {
     let mut slots = SlotReader::new(i);
-    slots.skip_short_uint()?;
-    let destination = slots.short_string(alloc)?;
-    let source = slots.short_string(alloc)?;
-    let routing_key = slots.short_string(alloc)?;
-    let flags = slots.flags::<1>()?;
-    let arguments = slots.table(alloc)?;
+    let (_, destination, source, routing_key, flags, arguments) = slots.read::<
+        (ReservedShortUInt, _, _, _, Flags<1>, _),
+    >(alloc)?;
     let method = Bind {
         destination,
         source,
         routing_key,
-        nowait: flag_of_byte(flags, 0),
+        nowait: flag_of_byte(flags.byte, 0),
         arguments,
     };
     Ok((slots.used(i), method))
 }
 
 /// Its ids and fields, in order.
+#[tactic(auto, unfolding(amqp_values::proofs::OneMethod::listed))]
 pub(super) fn bind_fields(method: &Bind) -> [Field<'_>; 8]
     ensures { ListsMethod result (bind_method method.now) }
 {
@@ -113,7 +113,6 @@ pub(super) fn bind_fields(method: &Bind) -> [Field<'_>; 8]
 }
 
 /// The size in bytes of the method id and the fields of `Bind`.
-#[tactic(auto)]
 pub fn size_bind(method: &Bind) -> Result<u64, GenError>
     ensures { Measures result (method_size (bind_method method.now)) }
 {
@@ -121,7 +120,6 @@ pub fn size_bind(method: &Bind) -> Result<u64, GenError>
 }
 
 /// Puts the method id and the fields of `Bind` at a place of a slice, and returns the place after.
-#[tactic(auto)]
 pub fn put_bind(buf: &mut [u8], at: usize, method: &Bind) -> usize
     requires { HasRoom buf.old at (method_size (bind_method method.now)) (method_bytes (bind_method method.now)) }
     ensures { Puts buf.old buf.new at (method_bytes (bind_method method.now)) result }
@@ -130,7 +128,6 @@ pub fn put_bind(buf: &mut [u8], at: usize, method: &Bind) -> usize
 }
 
 /// Appends the method id and the fields of `Bind` to a vector.
-#[tactic(auto)]
 pub fn gen_bind(_alloc: Global, out: &mut Vec<u8>, method: &Bind) -> Result<(), GenError>
     ensures { Appends out.old.items out.new.items (method_size (bind_method method.now)) (method_bytes (bind_method method.now)) result }
 {
@@ -158,6 +155,7 @@ impl BindOk {
 }
 
 /// Decodes the fields of `BindOk`.
+#[tactic(auto, using(amqp_types::proofs::Judged::refuses_next), unfolding(amqp_values::proofs::OneMethod::read_one_by_one))]
 pub fn parse_bind_ok(_alloc: Global, i: &[u8]) -> Result<(usize, BindOk), ParserError>
     ensures parsed { Parses bind_ok_method result i.now (judge_method 40 31) }
     ensures memory { NeedsNoMemory result }
@@ -167,6 +165,7 @@ pub fn parse_bind_ok(_alloc: Global, i: &[u8]) -> Result<(usize, BindOk), Parser
 }
 
 /// Its ids and fields, in order.
+#[tactic(auto, unfolding(amqp_values::proofs::OneMethod::listed))]
 pub(super) fn bind_ok_fields(_method: &BindOk) -> [Field<'_>; 2]
     ensures { ListsMethod result (bind_ok_method _method.now) }
 {
@@ -174,7 +173,6 @@ pub(super) fn bind_ok_fields(_method: &BindOk) -> [Field<'_>; 2]
 }
 
 /// The size in bytes of the method id and the fields of `BindOk`.
-#[tactic(auto)]
 pub fn size_bind_ok(method: &BindOk) -> Result<u64, GenError>
     ensures { Measures result (method_size (bind_ok_method method.now)) }
 {
@@ -182,7 +180,6 @@ pub fn size_bind_ok(method: &BindOk) -> Result<u64, GenError>
 }
 
 /// Puts the method id and the fields of `BindOk` at a place of a slice, and returns the place after.
-#[tactic(auto)]
 pub fn put_bind_ok(buf: &mut [u8], at: usize, method: &BindOk) -> usize
     requires { HasRoom buf.old at (method_size (bind_ok_method method.now)) (method_bytes (bind_ok_method method.now)) }
     ensures { Puts buf.old buf.new at (method_bytes (bind_ok_method method.now)) result }
@@ -191,7 +188,6 @@ pub fn put_bind_ok(buf: &mut [u8], at: usize, method: &BindOk) -> usize
 }
 
 /// Appends the method id and the fields of `BindOk` to a vector.
-#[tactic(auto)]
 pub fn gen_bind_ok(_alloc: Global, out: &mut Vec<u8>, method: &BindOk) -> Result<(), GenError>
     ensures { Appends out.old.items out.new.items (method_size (bind_ok_method method.now)) (method_bytes (bind_ok_method method.now)) result }
 {
@@ -260,27 +256,26 @@ impl Unbind {
 }
 
 /// Decodes the fields of `Unbind`.
+#[tactic(auto, using(amqp_types::proofs::Judged::refuses_next), unfolding(amqp_values::proofs::OneMethod::read_at_once))]
 pub fn parse_unbind(alloc: Global, i: &[u8]) -> Result<(usize, Unbind), ParserError>
     ensures { Parses unbind_method result i.now (judge_method 40 40) }
 {
     let mut slots = SlotReader::new(i);
-    slots.skip_short_uint()?;
-    let destination = slots.short_string(alloc)?;
-    let source = slots.short_string(alloc)?;
-    let routing_key = slots.short_string(alloc)?;
-    let flags = slots.flags::<1>()?;
-    let arguments = slots.table(alloc)?;
+    let (_, destination, source, routing_key, flags, arguments) = slots.read::<
+        (ReservedShortUInt, _, _, _, Flags<1>, _),
+    >(alloc)?;
     let method = Unbind {
         destination,
         source,
         routing_key,
-        nowait: flag_of_byte(flags, 0),
+        nowait: flag_of_byte(flags.byte, 0),
         arguments,
     };
     Ok((slots.used(i), method))
 }
 
 /// Its ids and fields, in order.
+#[tactic(auto, unfolding(amqp_values::proofs::OneMethod::listed))]
 pub(super) fn unbind_fields(method: &Unbind) -> [Field<'_>; 8]
     ensures { ListsMethod result (unbind_method method.now) }
 {
@@ -297,7 +292,6 @@ pub(super) fn unbind_fields(method: &Unbind) -> [Field<'_>; 8]
 }
 
 /// The size in bytes of the method id and the fields of `Unbind`.
-#[tactic(auto)]
 pub fn size_unbind(method: &Unbind) -> Result<u64, GenError>
     ensures { Measures result (method_size (unbind_method method.now)) }
 {
@@ -305,7 +299,6 @@ pub fn size_unbind(method: &Unbind) -> Result<u64, GenError>
 }
 
 /// Puts the method id and the fields of `Unbind` at a place of a slice, and returns the place after.
-#[tactic(auto)]
 pub fn put_unbind(buf: &mut [u8], at: usize, method: &Unbind) -> usize
     requires { HasRoom buf.old at (method_size (unbind_method method.now)) (method_bytes (unbind_method method.now)) }
     ensures { Puts buf.old buf.new at (method_bytes (unbind_method method.now)) result }
@@ -314,7 +307,6 @@ pub fn put_unbind(buf: &mut [u8], at: usize, method: &Unbind) -> usize
 }
 
 /// Appends the method id and the fields of `Unbind` to a vector.
-#[tactic(auto)]
 pub fn gen_unbind(_alloc: Global, out: &mut Vec<u8>, method: &Unbind) -> Result<(), GenError>
     ensures { Appends out.old.items out.new.items (method_size (unbind_method method.now)) (method_bytes (unbind_method method.now)) result }
 {
@@ -342,6 +334,7 @@ impl UnbindOk {
 }
 
 /// Decodes the fields of `UnbindOk`.
+#[tactic(auto, using(amqp_types::proofs::Judged::refuses_next), unfolding(amqp_values::proofs::OneMethod::read_one_by_one))]
 pub fn parse_unbind_ok(_alloc: Global, i: &[u8]) -> Result<(usize, UnbindOk), ParserError>
     ensures parsed { Parses unbind_ok_method result i.now (judge_method 40 51) }
     ensures memory { NeedsNoMemory result }
@@ -351,6 +344,7 @@ pub fn parse_unbind_ok(_alloc: Global, i: &[u8]) -> Result<(usize, UnbindOk), Pa
 }
 
 /// Its ids and fields, in order.
+#[tactic(auto, unfolding(amqp_values::proofs::OneMethod::listed))]
 pub(super) fn unbind_ok_fields(_method: &UnbindOk) -> [Field<'_>; 2]
     ensures { ListsMethod result (unbind_ok_method _method.now) }
 {
@@ -358,7 +352,6 @@ pub(super) fn unbind_ok_fields(_method: &UnbindOk) -> [Field<'_>; 2]
 }
 
 /// The size in bytes of the method id and the fields of `UnbindOk`.
-#[tactic(auto)]
 pub fn size_unbind_ok(method: &UnbindOk) -> Result<u64, GenError>
     ensures { Measures result (method_size (unbind_ok_method method.now)) }
 {
@@ -366,7 +359,6 @@ pub fn size_unbind_ok(method: &UnbindOk) -> Result<u64, GenError>
 }
 
 /// Puts the method id and the fields of `UnbindOk` at a place of a slice, and returns the place after.
-#[tactic(auto)]
 pub fn put_unbind_ok(buf: &mut [u8], at: usize, method: &UnbindOk) -> usize
     requires { HasRoom buf.old at (method_size (unbind_ok_method method.now)) (method_bytes (unbind_ok_method method.now)) }
     ensures { Puts buf.old buf.new at (method_bytes (unbind_ok_method method.now)) result }
@@ -375,7 +367,6 @@ pub fn put_unbind_ok(buf: &mut [u8], at: usize, method: &UnbindOk) -> usize
 }
 
 /// Appends the method id and the fields of `UnbindOk` to a vector.
-#[tactic(auto)]
 pub fn gen_unbind_ok(_alloc: Global, out: &mut Vec<u8>, method: &UnbindOk) -> Result<(), GenError>
     ensures { Appends out.old.items out.new.items (method_size (unbind_ok_method method.now)) (method_bytes (unbind_ok_method method.now)) result }
 {

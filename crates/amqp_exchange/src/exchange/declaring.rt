@@ -9,8 +9,9 @@ ghost use Rattle.amqp_values.specs.MethodFields.{ListsMethod};
 ghost use Rattle.amqp_exchange.specs.Exchange.{declare_method, declare_ok_method, delete_method, delete_ok_method};
 
 use amqp_values::{
-    Boolean, Field, FieldTable, GenError, Identifier, NoMemory, ParserError, ShortString,
-    SlotReader, byte_of_flags, flag_of_byte, gen_fields, put_fields, size_fields,
+    Boolean, Field, FieldTable, Flags, GenError, Identifier, NoMemory, ParserError,
+    ReservedShortUInt, ShortString, SlotReader, byte_of_flags, flag_of_byte, gen_fields,
+    put_fields, size_fields,
 };
 use std::alloc::Global;
 
@@ -92,29 +93,29 @@ impl Declare {
 }
 
 /// Decodes the fields of `Declare`.
+#[tactic(auto, using(amqp_types::proofs::Judged::refuses_next), unfolding(amqp_values::proofs::OneMethod::read_at_once))]
 pub fn parse_declare(alloc: Global, i: &[u8]) -> Result<(usize, Declare), ParserError>
     ensures { Parses declare_method result i.now (judge_method 40 10) }
 {
     let mut slots = SlotReader::new(i);
-    slots.skip_short_uint()?;
-    let exchange = slots.short_string(alloc)?;
-    let kind = slots.short_string(alloc)?;
-    let flags = slots.flags::<5>()?;
-    let arguments = slots.table(alloc)?;
+    let (_, exchange, kind, flags, arguments) = slots.read::<
+        (ReservedShortUInt, _, _, Flags<5>, _),
+    >(alloc)?;
     let method = Declare {
         exchange,
         kind,
-        passive: flag_of_byte(flags, 0),
-        durable: flag_of_byte(flags, 1),
-        auto_delete: flag_of_byte(flags, 2),
-        internal: flag_of_byte(flags, 3),
-        nowait: flag_of_byte(flags, 4),
+        passive: flag_of_byte(flags.byte, 0),
+        durable: flag_of_byte(flags.byte, 1),
+        auto_delete: flag_of_byte(flags.byte, 2),
+        internal: flag_of_byte(flags.byte, 3),
+        nowait: flag_of_byte(flags.byte, 4),
         arguments,
     };
     Ok((slots.used(i), method))
 }
 
 /// Its ids and fields, in order.
+#[tactic(auto, unfolding(amqp_values::proofs::OneMethod::listed))]
 pub(super) fn declare_fields(method: &Declare) -> [Field<'_>; 7]
     ensures { ListsMethod result (declare_method method.now) }
 {
@@ -136,7 +137,6 @@ pub(super) fn declare_fields(method: &Declare) -> [Field<'_>; 7]
 }
 
 /// The size in bytes of the method id and the fields of `Declare`.
-#[tactic(auto)]
 pub fn size_declare(method: &Declare) -> Result<u64, GenError>
     ensures { Measures result (method_size (declare_method method.now)) }
 {
@@ -144,7 +144,6 @@ pub fn size_declare(method: &Declare) -> Result<u64, GenError>
 }
 
 /// Puts the method id and the fields of `Declare` at a place of a slice, and returns the place after.
-#[tactic(auto)]
 pub fn put_declare(buf: &mut [u8], at: usize, method: &Declare) -> usize
     requires { HasRoom buf.old at (method_size (declare_method method.now)) (method_bytes (declare_method method.now)) }
     ensures { Puts buf.old buf.new at (method_bytes (declare_method method.now)) result }
@@ -153,7 +152,6 @@ pub fn put_declare(buf: &mut [u8], at: usize, method: &Declare) -> usize
 }
 
 /// Appends the method id and the fields of `Declare` to a vector.
-#[tactic(auto)]
 pub fn gen_declare(_alloc: Global, out: &mut Vec<u8>, method: &Declare) -> Result<(), GenError>
     ensures { Appends out.old.items out.new.items (method_size (declare_method method.now)) (method_bytes (declare_method method.now)) result }
 {
@@ -181,6 +179,7 @@ impl DeclareOk {
 }
 
 /// Decodes the fields of `DeclareOk`.
+#[tactic(auto, using(amqp_types::proofs::Judged::refuses_next), unfolding(amqp_values::proofs::OneMethod::read_one_by_one))]
 pub fn parse_declare_ok(_alloc: Global, i: &[u8]) -> Result<(usize, DeclareOk), ParserError>
     ensures parsed { Parses declare_ok_method result i.now (judge_method 40 11) }
     ensures memory { NeedsNoMemory result }
@@ -190,6 +189,7 @@ pub fn parse_declare_ok(_alloc: Global, i: &[u8]) -> Result<(usize, DeclareOk), 
 }
 
 /// Its ids and fields, in order.
+#[tactic(auto, unfolding(amqp_values::proofs::OneMethod::listed))]
 pub(super) fn declare_ok_fields(_method: &DeclareOk) -> [Field<'_>; 2]
     ensures { ListsMethod result (declare_ok_method _method.now) }
 {
@@ -197,7 +197,6 @@ pub(super) fn declare_ok_fields(_method: &DeclareOk) -> [Field<'_>; 2]
 }
 
 /// The size in bytes of the method id and the fields of `DeclareOk`.
-#[tactic(auto)]
 pub fn size_declare_ok(method: &DeclareOk) -> Result<u64, GenError>
     ensures { Measures result (method_size (declare_ok_method method.now)) }
 {
@@ -205,7 +204,6 @@ pub fn size_declare_ok(method: &DeclareOk) -> Result<u64, GenError>
 }
 
 /// Puts the method id and the fields of `DeclareOk` at a place of a slice, and returns the place after.
-#[tactic(auto)]
 pub fn put_declare_ok(buf: &mut [u8], at: usize, method: &DeclareOk) -> usize
     requires { HasRoom buf.old at (method_size (declare_ok_method method.now)) (method_bytes (declare_ok_method method.now)) }
     ensures { Puts buf.old buf.new at (method_bytes (declare_ok_method method.now)) result }
@@ -214,7 +212,6 @@ pub fn put_declare_ok(buf: &mut [u8], at: usize, method: &DeclareOk) -> usize
 }
 
 /// Appends the method id and the fields of `DeclareOk` to a vector.
-#[tactic(auto)]
 pub fn gen_declare_ok(_alloc: Global, out: &mut Vec<u8>, method: &DeclareOk) -> Result<(), GenError>
     ensures { Appends out.old.items out.new.items (method_size (declare_ok_method method.now)) (method_bytes (declare_ok_method method.now)) result }
 {
@@ -273,22 +270,22 @@ impl Delete {
 }
 
 /// Decodes the fields of `Delete`.
+#[tactic(auto, using(amqp_types::proofs::Judged::refuses_next), unfolding(amqp_values::proofs::OneMethod::read_at_once))]
 pub fn parse_delete(alloc: Global, i: &[u8]) -> Result<(usize, Delete), ParserError>
     ensures { Parses delete_method result i.now (judge_method 40 20) }
 {
     let mut slots = SlotReader::new(i);
-    slots.skip_short_uint()?;
-    let exchange = slots.short_string(alloc)?;
-    let flags = slots.flags::<2>()?;
+    let (_, exchange, flags) = slots.read::<(ReservedShortUInt, _, Flags<2>)>(alloc)?;
     let method = Delete {
         exchange,
-        if_unused: flag_of_byte(flags, 0),
-        nowait: flag_of_byte(flags, 1),
+        if_unused: flag_of_byte(flags.byte, 0),
+        nowait: flag_of_byte(flags.byte, 1),
     };
     Ok((slots.used(i), method))
 }
 
 /// Its ids and fields, in order.
+#[tactic(auto, unfolding(amqp_values::proofs::OneMethod::listed))]
 pub(super) fn delete_fields(method: &Delete) -> [Field<'_>; 5]
     ensures { ListsMethod result (delete_method method.now) }
 {
@@ -302,7 +299,6 @@ pub(super) fn delete_fields(method: &Delete) -> [Field<'_>; 5]
 }
 
 /// The size in bytes of the method id and the fields of `Delete`.
-#[tactic(auto)]
 pub fn size_delete(method: &Delete) -> Result<u64, GenError>
     ensures { Measures result (method_size (delete_method method.now)) }
 {
@@ -310,7 +306,6 @@ pub fn size_delete(method: &Delete) -> Result<u64, GenError>
 }
 
 /// Puts the method id and the fields of `Delete` at a place of a slice, and returns the place after.
-#[tactic(auto)]
 pub fn put_delete(buf: &mut [u8], at: usize, method: &Delete) -> usize
     requires { HasRoom buf.old at (method_size (delete_method method.now)) (method_bytes (delete_method method.now)) }
     ensures { Puts buf.old buf.new at (method_bytes (delete_method method.now)) result }
@@ -319,7 +314,6 @@ pub fn put_delete(buf: &mut [u8], at: usize, method: &Delete) -> usize
 }
 
 /// Appends the method id and the fields of `Delete` to a vector.
-#[tactic(auto)]
 pub fn gen_delete(_alloc: Global, out: &mut Vec<u8>, method: &Delete) -> Result<(), GenError>
     ensures { Appends out.old.items out.new.items (method_size (delete_method method.now)) (method_bytes (delete_method method.now)) result }
 {
@@ -347,6 +341,7 @@ impl DeleteOk {
 }
 
 /// Decodes the fields of `DeleteOk`.
+#[tactic(auto, using(amqp_types::proofs::Judged::refuses_next), unfolding(amqp_values::proofs::OneMethod::read_one_by_one))]
 pub fn parse_delete_ok(_alloc: Global, i: &[u8]) -> Result<(usize, DeleteOk), ParserError>
     ensures parsed { Parses delete_ok_method result i.now (judge_method 40 21) }
     ensures memory { NeedsNoMemory result }
@@ -356,6 +351,7 @@ pub fn parse_delete_ok(_alloc: Global, i: &[u8]) -> Result<(usize, DeleteOk), Pa
 }
 
 /// Its ids and fields, in order.
+#[tactic(auto, unfolding(amqp_values::proofs::OneMethod::listed))]
 pub(super) fn delete_ok_fields(_method: &DeleteOk) -> [Field<'_>; 2]
     ensures { ListsMethod result (delete_ok_method _method.now) }
 {
@@ -363,7 +359,6 @@ pub(super) fn delete_ok_fields(_method: &DeleteOk) -> [Field<'_>; 2]
 }
 
 /// The size in bytes of the method id and the fields of `DeleteOk`.
-#[tactic(auto)]
 pub fn size_delete_ok(method: &DeleteOk) -> Result<u64, GenError>
     ensures { Measures result (method_size (delete_ok_method method.now)) }
 {
@@ -371,7 +366,6 @@ pub fn size_delete_ok(method: &DeleteOk) -> Result<u64, GenError>
 }
 
 /// Puts the method id and the fields of `DeleteOk` at a place of a slice, and returns the place after.
-#[tactic(auto)]
 pub fn put_delete_ok(buf: &mut [u8], at: usize, method: &DeleteOk) -> usize
     requires { HasRoom buf.old at (method_size (delete_ok_method method.now)) (method_bytes (delete_ok_method method.now)) }
     ensures { Puts buf.old buf.new at (method_bytes (delete_ok_method method.now)) result }
@@ -380,7 +374,6 @@ pub fn put_delete_ok(buf: &mut [u8], at: usize, method: &DeleteOk) -> usize
 }
 
 /// Appends the method id and the fields of `DeleteOk` to a vector.
-#[tactic(auto)]
 pub fn gen_delete_ok(_alloc: Global, out: &mut Vec<u8>, method: &DeleteOk) -> Result<(), GenError>
     ensures { Appends out.old.items out.new.items (method_size (delete_ok_method method.now)) (method_bytes (delete_ok_method method.now)) result }
 {

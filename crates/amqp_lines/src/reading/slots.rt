@@ -1,11 +1,11 @@
 //! The fields of methods and the properties of messages read back from text, as their bytes.
 #![tactic(auto, using(crate::proofs::ReadSteps::memory_gone, crate::proofs::SlotSteps::set_memory))]
 
-ghost use Rattle.std.specs.Prelude.{◌≡◌, ◌%◌, ◌^◌, ◌++◌, ◌∷◌, [], ℕ, List, map, length};
+ghost use Rattle.std.specs.Prelude.{◌≡◌, ◌%◌, ◌^◌, ◌++◌, ◌∷◌, [], ℕ, true, List, map, length};
 ghost use Rattle.amqp_types.specs.Numbers.{bytes2, number_bytes};
-ghost use Rattle.amqp_canonical.specs.Shapes.{form_of, property_of, slot_of, slots_of};
+ghost use Rattle.amqp_canonical.specs.Shapes.{form_of, property_of, slot_of, has_constant, slots_of, have_constants};
 ghost use Rattle.amqp_lines.specs.Rendering.{AppendsText};
-ghost use Rattle.amqp_lines.specs.Reading.{FindsText, ReadsWord, ReadsSet, constant_bytes, named, read_form, read_option, read_properties, read_set, read_slot, read_slots, strip};
+ghost use Rattle.amqp_lines.specs.Reading.{FindsText, ReadsWord, ReadsSet, named, read_form, read_option, read_properties, read_set, read_slot, read_slots, strip};
 
 use crate::errors::TextError;
 use crate::reading::values::read_table;
@@ -13,72 +13,49 @@ use crate::reading::words::{
     begins_with, content_size, keep_place, read_flags, read_long, read_long_long, read_long_string,
     read_octet, read_short, read_short_string,
 };
-use crate::slots::{is_reserved, property_name};
+use crate::slots::property_name;
 use crate::words::write_bytes;
-use amqp_canonical::{Shape, bytes_from, property_shapes};
+use amqp_canonical::{Form, Slot, bytes_from, property_shapes};
 use amqp_types::{INNER_DEPTH, NoMemory, put_short_uint};
 
-/// What stands at the front as this shape.
+/// What stands at the front, encoded so.
 #[tactic(auto, unfolding(crate::specs::Reading::read_form))]
-fn read_form<'a>(out: &mut Vec<u8>, shape: Shape, i: &'a [u8]) -> Result<&'a [u8], TextError>
-    ensures { ReadsWord (λ rest. rest.now) (read_form (form_of shape) i.now) out.old.items out.new.items result }
+fn read_form<'a>(out: &mut Vec<u8>, form: Form, i: &'a [u8]) -> Result<&'a [u8], TextError>
+    ensures { ReadsWord (λ rest. rest.now) (read_form (form_of form) i.now) out.old.items out.new.items result }
 {
-    match shape {
-        Shape::Octet => read_octet(out, i),
-        Shape::Short => read_short(out, i),
-        Shape::ReservedShort(_) => read_short(out, i),
-        Shape::Long => read_long(out, i),
-        Shape::ReservedLong(_) => read_long(out, i),
-        Shape::LongLong => read_long_long(out, i),
-        Shape::Flags(count) => read_flags(out, count, i),
-        Shape::ReservedFlag => read_flags(out, 1, i),
-        Shape::ShortString => read_short_string(out, i),
-        Shape::ReservedShortString => read_short_string(out, i),
-        Shape::LongString => read_long_string(out, i),
-        Shape::ReservedLongString => read_long_string(out, i),
-        Shape::Table => read_table(out, i, INNER_DEPTH),
-    }
-}
-
-/// Appends the constant of a reserved field.
-#[tactic(auto, unfolding(amqp_types::specs::SlotBytes::form_bytes))]
-fn write_constant(out: &mut Vec<u8>, shape: Shape) -> Result<(), NoMemory>
-    ensures { AppendsText out.old.items out.new.items (constant_bytes (slot_of shape)) result }
-{
-    match shape {
-        Shape::ReservedShort(number) => write_bytes(out, &number.to_be_bytes()),
-        Shape::ReservedLong(number) => write_bytes(out, &number.to_be_bytes()),
-        Shape::ReservedFlag => write_bytes(out, &[0]),
-        Shape::ReservedShortString => write_bytes(out, &[0]),
-        Shape::ReservedLongString => write_bytes(out, &[0, 0, 0, 0]),
-        Shape::Octet => Ok(()),
-        Shape::Short => Ok(()),
-        Shape::Long => Ok(()),
-        Shape::LongLong => Ok(()),
-        Shape::Flags(_) => Ok(()),
-        Shape::ShortString => Ok(()),
-        Shape::LongString => Ok(()),
-        Shape::Table => Ok(()),
+    match form {
+        Form::Octet => read_octet(out, i),
+        Form::Short => read_short(out, i),
+        Form::Long => read_long(out, i),
+        Form::LongLong => read_long_long(out, i),
+        Form::Flags(count) => read_flags(out, count, i),
+        Form::ShortString => read_short_string(out, i),
+        Form::LongString => read_long_string(out, i),
+        Form::Table => read_table(out, i, INNER_DEPTH),
     }
 }
 
 /// A word after a space, or the constant of a reserved field, which is not written.
-fn read_slot<'a>(out: &mut Vec<u8>, shape: Shape, i: &'a [u8]) -> Result<&'a [u8], TextError>
-    ensures { ReadsWord (λ rest. rest.now) (read_slot (slot_of shape) i.now) out.old.items out.new.items result }
+fn read_slot<'a>(out: &mut Vec<u8>, slot: Slot, i: &'a [u8]) -> Result<&'a [u8], TextError>
+    requires constant { has_constant slot ≡ true }
+    ensures { ReadsWord (λ rest. rest.now) (read_slot (slot_of slot) i.now) out.old.items out.new.items result }
 {
-    if is_reserved(shape) {
-        write_constant(out, shape)?;
-        return Ok(i);
+    match slot {
+        Slot::Reserved(_, constant) => {
+            write_bytes(out, constant)?;
+            Ok(i)
+        }
+        Slot::Kept(form) => read_form(out, form, bytes_from(i, 1)),
     }
-    read_form(out, shape, bytes_from(i, 1))
 }
 
 /// Appends the bytes of fields of these shapes, one after another.
 pub(crate) fn read_slots<'a>(
     out: &mut Vec<u8>,
-    shapes: &[Shape],
+    shapes: &[Slot],
     i: &'a [u8],
 ) -> Result<&'a [u8], TextError>
+    requires constants { have_constants shapes.now ≡ true }
     ensures { ReadsWord (λ rest. rest.now) (read_slots (slots_of shapes.now) i.now) out.old.items out.new.items result }
 {
     match shapes {
@@ -132,15 +109,15 @@ fn mask_bit(bit: u16) -> u16
 fn read_option<'a>(
     out: &mut Vec<u8>,
     bit: u16,
-    shape: Shape,
+    form: Form,
     i: &'a [u8],
 ) -> Result<(u16, &'a [u8]), TextError>
-    ensures { ReadsSet (λ n. n) (λ rest. rest.now) (read_option (property_of (bit, shape)) (strip (named bit) i.now) i.now) out.old.items out.new.items result }
+    ensures { ReadsSet (λ n. n) (λ rest. rest.now) (read_option (property_of (bit, form)) (strip (named bit) i.now) i.now) out.old.items out.new.items result }
 {
     let worth = mask_bit(bit);
     match after_name(i, bit) {
         None => Ok((0, i)),
-        Some(after) => match read_form(out, shape, after) {
+        Some(after) => match read_form(out, form, after) {
             Ok(rest) => Ok((worth, rest)),
             Err(error) => Err(error),
         },
@@ -150,7 +127,7 @@ fn read_option<'a>(
 /// Appends the bytes of the properties of these bits and shapes that are there, and returns their mask.
 fn read_set<'a>(
     out: &mut Vec<u8>,
-    shapes: &[(u16, Shape)],
+    shapes: &[(u16, Form)],
     i: &'a [u8],
 ) -> Result<(u16, &'a [u8]), TextError>
     ensures { ReadsSet (λ n. n) (λ rest. rest.now) (read_set (map property_of shapes.now) i.now) out.old.items out.new.items result }

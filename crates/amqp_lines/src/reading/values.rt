@@ -45,15 +45,15 @@ fn after_colon(tag: FieldTag, i: &[u8]) -> &[u8]
     }
 }
 
-/// Appends the bytes of a value at the front, and returns the text after it. Tables and arrays may nest `room` deep in
+/// Appends the bytes of a value at the front, and returns the text after it. Tables and arrays may nest `depth_left` deep in
 /// it.
 #[cycle(read)]
 pub(crate) fn read_value<'a>(
     out: &mut Vec<u8>,
     i: &'a [u8],
-    room: usize,
+    depth_left: usize,
 ) -> Result<&'a [u8], TextError>
-    ensures read { ReadsWord (λ rest. rest.now) (read_value room i.now) out.old.items out.new.items result }
+    ensures read { ReadsWord (λ rest. rest.now) (read_value depth_left i.now) out.old.items out.new.items result }
     ensures shorter { IfOk result (λ rest. length rest.now < length i.now) }
 {
     match i {
@@ -61,7 +61,7 @@ pub(crate) fn read_value<'a>(
         [letter, ..] => match FieldTag::from_byte(*letter) {
             Some(tag) => {
                 out.push(tag.to_byte())?;
-                read_after_tag(out, tag, after_colon(tag, bytes_from(i, 1)), room)
+                read_after_tag(out, tag, after_colon(tag, bytes_from(i, 1)), depth_left)
             }
             None => Err(TextError::BadText),
         },
@@ -74,9 +74,9 @@ fn read_after_tag<'a>(
     out: &mut Vec<u8>,
     tag: FieldTag,
     i: &'a [u8],
-    room: usize,
+    depth_left: usize,
 ) -> Result<&'a [u8], TextError>
-    ensures read { ReadsWord (λ rest. rest.now) (read_behind (read_nested room) tag i.now) out.old.items out.new.items result }
+    ensures read { ReadsWord (λ rest. rest.now) (read_behind (read_nested depth_left) tag i.now) out.old.items out.new.items result }
     ensures shorter { IfOk result (λ rest. length rest.now ≤ length i.now) }
 {
     match tag {
@@ -88,40 +88,40 @@ fn read_after_tag<'a>(
         FieldTag::DecimalValue => read_decimal(out, i),
         FieldTag::LongString => read_long_string(out, i),
         FieldTag::ByteArray => read_byte_array(out, i),
-        FieldTag::FieldArray if room == 0 => Err(TextError::BadText),
-        FieldTag::FieldArray => read_array(out, i, room - 1),
-        FieldTag::FieldTable if room == 0 => Err(TextError::BadText),
-        FieldTag::FieldTable => read_table(out, i, room - 1),
+        FieldTag::FieldArray if depth_left == 0 => Err(TextError::BadText),
+        FieldTag::FieldArray => read_array(out, i, depth_left - 1),
+        FieldTag::FieldTable if depth_left == 0 => Err(TextError::BadText),
+        FieldTag::FieldTable => read_table(out, i, depth_left - 1),
         FieldTag::Void => Ok(i),
     }
 }
 
 /// An array.
 #[cycle(read)]
-fn read_array<'a>(out: &mut Vec<u8>, i: &'a [u8], room: usize) -> Result<&'a [u8], TextError>
-    ensures read { ReadsWord (λ rest. rest.now) (read_array (read_value room) i.now) out.old.items out.new.items result }
+fn read_array<'a>(out: &mut Vec<u8>, i: &'a [u8], depth_left: usize) -> Result<&'a [u8], TextError>
+    ensures read { ReadsWord (λ rest. rest.now) (read_array (read_value depth_left) i.now) out.old.items out.new.items result }
     ensures shorter { IfOk result (λ rest. length rest.now ≤ length i.now) }
 {
     let place = keep_place(out, 4)?;
-    match read_values(out, i, room) {
+    match read_values(out, i, depth_left) {
         Ok(rest) => set_long(out, place, rest),
         Err(error) => Err(error),
     }
 }
 
-/// Appends the bytes of a table at the front, and returns the text after it. Tables and arrays may nest `room` deep in
+/// Appends the bytes of a table at the front, and returns the text after it. Tables and arrays may nest `depth_left` deep in
 /// its values.
 #[cycle(read)]
 pub(crate) fn read_table<'a>(
     out: &mut Vec<u8>,
     i: &'a [u8],
-    room: usize,
+    depth_left: usize,
 ) -> Result<&'a [u8], TextError>
-    ensures read { ReadsWord (λ rest. rest.now) (read_table (read_value room) i.now) out.old.items out.new.items result }
+    ensures read { ReadsWord (λ rest. rest.now) (read_table (read_value depth_left) i.now) out.old.items out.new.items result }
     ensures shorter { IfOk result (λ rest. length rest.now ≤ length i.now) }
 {
     let place = keep_place(out, 4)?;
-    match read_entries(out, i, room) {
+    match read_entries(out, i, depth_left) {
         Ok(rest) => set_long(out, place, rest),
         Err(error) => Err(error),
     }
@@ -129,13 +129,13 @@ pub(crate) fn read_table<'a>(
 
 /// The values after an array's bracket, up to its end.
 #[cycle(read)]
-fn read_values<'a>(out: &mut Vec<u8>, i: &'a [u8], room: usize) -> Result<&'a [u8], TextError>
-    ensures read { ReadsWord (λ rest. rest.now) (inside (or_comma (read_value room)) 93 i.now) out.old.items out.new.items result }
+fn read_values<'a>(out: &mut Vec<u8>, i: &'a [u8], depth_left: usize) -> Result<&'a [u8], TextError>
+    ensures read { ReadsWord (λ rest. rest.now) (inside (or_comma (read_value depth_left)) 93 i.now) out.old.items out.new.items result }
     ensures shorter { IfOk result (λ rest. length rest.now ≤ length i.now) }
 {
     let mut rest = bytes_from(i, 1);
     'values: while !begins_with(rest, b']') {
-        match read_next_value(out, rest, room) {
+        match read_next_value(out, rest, depth_left) {
             Ok(after) => rest = after,
             Err(error) => return Err(error),
         }
@@ -145,25 +145,33 @@ fn read_values<'a>(out: &mut Vec<u8>, i: &'a [u8], room: usize) -> Result<&'a [u
 
 /// A comma, which is passed, or a value.
 #[cycle(read)]
-fn read_next_value<'a>(out: &mut Vec<u8>, i: &'a [u8], room: usize) -> Result<&'a [u8], TextError>
-    ensures read { ReadsWord (λ rest. rest.now) (or_comma (read_value room) i.now) out.old.items out.new.items result }
+fn read_next_value<'a>(
+    out: &mut Vec<u8>,
+    i: &'a [u8],
+    depth_left: usize,
+) -> Result<&'a [u8], TextError>
+    ensures read { ReadsWord (λ rest. rest.now) (or_comma (read_value depth_left) i.now) out.old.items out.new.items result }
     ensures shorter { IfOk result (λ rest. length rest.now < length i.now) }
 {
     if begins_with(i, b',') {
         return Ok(bytes_from(i, 1));
     }
-    read_value(out, i, room)
+    read_value(out, i, depth_left)
 }
 
 /// The entries after a table's bracket, up to its end.
 #[cycle(read)]
-fn read_entries<'a>(out: &mut Vec<u8>, i: &'a [u8], room: usize) -> Result<&'a [u8], TextError>
-    ensures read { ReadsWord (λ rest. rest.now) (inside (or_comma (read_entry (read_value room))) 125 i.now) out.old.items out.new.items result }
+fn read_entries<'a>(
+    out: &mut Vec<u8>,
+    i: &'a [u8],
+    depth_left: usize,
+) -> Result<&'a [u8], TextError>
+    ensures read { ReadsWord (λ rest. rest.now) (inside (or_comma (read_entry (read_value depth_left))) 125 i.now) out.old.items out.new.items result }
     ensures shorter { IfOk result (λ rest. length rest.now ≤ length i.now) }
 {
     let mut rest = bytes_from(i, 1);
     'entries: while !begins_with(rest, b'}') {
-        match read_next_entry(out, rest, room) {
+        match read_next_entry(out, rest, depth_left) {
             Ok(after) => rest = after,
             Err(error) => return Err(error),
         }
@@ -173,24 +181,28 @@ fn read_entries<'a>(out: &mut Vec<u8>, i: &'a [u8], room: usize) -> Result<&'a [
 
 /// A comma, which is passed, or an entry.
 #[cycle(read)]
-fn read_next_entry<'a>(out: &mut Vec<u8>, i: &'a [u8], room: usize) -> Result<&'a [u8], TextError>
-    ensures read { ReadsWord (λ rest. rest.now) (or_comma (read_entry (read_value room)) i.now) out.old.items out.new.items result }
+fn read_next_entry<'a>(
+    out: &mut Vec<u8>,
+    i: &'a [u8],
+    depth_left: usize,
+) -> Result<&'a [u8], TextError>
+    ensures read { ReadsWord (λ rest. rest.now) (or_comma (read_entry (read_value depth_left)) i.now) out.old.items out.new.items result }
     ensures shorter { IfOk result (λ rest. length rest.now < length i.now) }
 {
     if begins_with(i, b',') {
         return Ok(bytes_from(i, 1));
     }
-    read_entry(out, i, room)
+    read_entry(out, i, depth_left)
 }
 
 /// An entry: a key, a character and a value.
 #[cycle(read)]
-fn read_entry<'a>(out: &mut Vec<u8>, i: &'a [u8], room: usize) -> Result<&'a [u8], TextError>
-    ensures read { ReadsWord (λ rest. rest.now) (read_entry (read_value room) i.now) out.old.items out.new.items result }
+fn read_entry<'a>(out: &mut Vec<u8>, i: &'a [u8], depth_left: usize) -> Result<&'a [u8], TextError>
+    ensures read { ReadsWord (λ rest. rest.now) (read_entry (read_value depth_left) i.now) out.old.items out.new.items result }
     ensures shorter { IfOk result (λ rest. length rest.now < length i.now) }
 {
     match read_short_string(out, i) {
-        Ok(rest) => read_value(out, bytes_from(rest, 1), room),
+        Ok(rest) => read_value(out, bytes_from(rest, 1), depth_left),
         Err(error) => Err(error),
     }
 }

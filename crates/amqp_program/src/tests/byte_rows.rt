@@ -1,4 +1,4 @@
-//! Runs over bytes that write bytes: `raw`, `lent`, `select` and `recut`.
+//! Runs over bytes that write bytes: `raw`, `lent`, `select`, `filter` and `recut`.
 
 use super::Row;
 use super::frames::{BODIES, BODY, CAPABILITIES, HEADER, PRODUCT, PUBLISH, START, START_END};
@@ -44,6 +44,20 @@ pub const ROWS: &[Row] = &[
         0,
     ),
     (&["select", "drop"], &[HEARTBEAT, b"\x09"], &[], 10),
+    (
+        &["filter", "drop,class=60,method=40", "keep"],
+        &[HEARTBEAT, PUBLISH, HEADER, BODIES, LOUD],
+        &[HEARTBEAT, HEARTBEAT],
+        0,
+    ),
+    (
+        &["filter", "keep,kind=method"],
+        &[PUBLISH, HEADER, BODIES, LOUD],
+        &[PUBLISH, HEADER, BODIES],
+        0,
+    ),
+    (&["filter", "drop"], &[PUBLISH, HEADER], &[], 25),
+    (&["filter", "drop"], &[PUBLISH, BODY], &[], 24),
     (
         &["recut", "2"],
         &[PUBLISH, HEADER, BODY],

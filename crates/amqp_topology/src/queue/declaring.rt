@@ -9,8 +9,9 @@ ghost use Rattle.amqp_values.specs.MethodFields.{ListsMethod};
 ghost use Rattle.amqp_topology.specs.Queue.{declare_method, declare_ok_method, purge_method, purge_ok_method, delete_method, delete_ok_method};
 
 use amqp_values::{
-    Boolean, Field, FieldTable, GenError, Identifier, LongUInt, NoMemory, ParserError, ShortString,
-    SlotReader, byte_of_flags, flag_of_byte, gen_fields, put_fields, size_fields,
+    Boolean, Field, FieldTable, Flags, GenError, Identifier, LongUInt, NoMemory, ParserError,
+    ReservedShortUInt, ShortString, SlotReader, byte_of_flags, flag_of_byte, gen_fields,
+    put_fields, size_fields,
 };
 use std::alloc::Global;
 
@@ -87,27 +88,26 @@ impl Declare {
 }
 
 /// Decodes the fields of `Declare`.
+#[tactic(auto, using(amqp_types::proofs::Judged::refuses_next), unfolding(amqp_values::proofs::OneMethod::read_at_once))]
 pub fn parse_declare(alloc: Global, i: &[u8]) -> Result<(usize, Declare), ParserError>
     ensures { Parses declare_method result i.now (judge_method 50 10) }
 {
     let mut slots = SlotReader::new(i);
-    slots.skip_short_uint()?;
-    let queue = slots.short_string(alloc)?;
-    let flags = slots.flags::<5>()?;
-    let arguments = slots.table(alloc)?;
+    let (_, queue, flags, arguments) = slots.read::<(ReservedShortUInt, _, Flags<5>, _)>(alloc)?;
     let method = Declare {
         queue,
-        passive: flag_of_byte(flags, 0),
-        durable: flag_of_byte(flags, 1),
-        exclusive: flag_of_byte(flags, 2),
-        auto_delete: flag_of_byte(flags, 3),
-        nowait: flag_of_byte(flags, 4),
+        passive: flag_of_byte(flags.byte, 0),
+        durable: flag_of_byte(flags.byte, 1),
+        exclusive: flag_of_byte(flags.byte, 2),
+        auto_delete: flag_of_byte(flags.byte, 3),
+        nowait: flag_of_byte(flags.byte, 4),
         arguments,
     };
     Ok((slots.used(i), method))
 }
 
 /// Its ids and fields, in order.
+#[tactic(auto, unfolding(amqp_values::proofs::OneMethod::listed))]
 pub(super) fn declare_fields(method: &Declare) -> [Field<'_>; 6]
     ensures { ListsMethod result (declare_method method.now) }
 {
@@ -128,7 +128,6 @@ pub(super) fn declare_fields(method: &Declare) -> [Field<'_>; 6]
 }
 
 /// The size in bytes of the method id and the fields of `Declare`.
-#[tactic(auto)]
 pub fn size_declare(method: &Declare) -> Result<u64, GenError>
     ensures { Measures result (method_size (declare_method method.now)) }
 {
@@ -136,7 +135,6 @@ pub fn size_declare(method: &Declare) -> Result<u64, GenError>
 }
 
 /// Puts the method id and the fields of `Declare` at a place of a slice, and returns the place after.
-#[tactic(auto)]
 pub fn put_declare(buf: &mut [u8], at: usize, method: &Declare) -> usize
     requires { HasRoom buf.old at (method_size (declare_method method.now)) (method_bytes (declare_method method.now)) }
     ensures { Puts buf.old buf.new at (method_bytes (declare_method method.now)) result }
@@ -145,7 +143,6 @@ pub fn put_declare(buf: &mut [u8], at: usize, method: &Declare) -> usize
 }
 
 /// Appends the method id and the fields of `Declare` to a vector.
-#[tactic(auto)]
 pub fn gen_declare(_alloc: Global, out: &mut Vec<u8>, method: &Declare) -> Result<(), GenError>
     ensures { Appends out.old.items out.new.items (method_size (declare_method method.now)) (method_bytes (declare_method method.now)) result }
 {
@@ -204,13 +201,12 @@ impl DeclareOk {
 }
 
 /// Decodes the fields of `DeclareOk`.
+#[tactic(auto, using(amqp_types::proofs::Judged::refuses_next), unfolding(amqp_values::proofs::OneMethod::read_at_once))]
 pub fn parse_declare_ok(alloc: Global, i: &[u8]) -> Result<(usize, DeclareOk), ParserError>
     ensures { Parses declare_ok_method result i.now (judge_method 50 11) }
 {
     let mut slots = SlotReader::new(i);
-    let queue = slots.short_string(alloc)?;
-    let message_count = slots.long_uint()?;
-    let consumer_count = slots.long_uint()?;
+    let (queue, message_count, consumer_count) = slots.read(alloc)?;
     let method = DeclareOk {
         queue,
         message_count,
@@ -220,6 +216,7 @@ pub fn parse_declare_ok(alloc: Global, i: &[u8]) -> Result<(usize, DeclareOk), P
 }
 
 /// Its ids and fields, in order.
+#[tactic(auto, unfolding(amqp_values::proofs::OneMethod::listed))]
 pub(super) fn declare_ok_fields(method: &DeclareOk) -> [Field<'_>; 5]
     ensures { ListsMethod result (declare_ok_method method.now) }
 {
@@ -233,7 +230,6 @@ pub(super) fn declare_ok_fields(method: &DeclareOk) -> [Field<'_>; 5]
 }
 
 /// The size in bytes of the method id and the fields of `DeclareOk`.
-#[tactic(auto)]
 pub fn size_declare_ok(method: &DeclareOk) -> Result<u64, GenError>
     ensures { Measures result (method_size (declare_ok_method method.now)) }
 {
@@ -241,7 +237,6 @@ pub fn size_declare_ok(method: &DeclareOk) -> Result<u64, GenError>
 }
 
 /// Puts the method id and the fields of `DeclareOk` at a place of a slice, and returns the place after.
-#[tactic(auto)]
 pub fn put_declare_ok(buf: &mut [u8], at: usize, method: &DeclareOk) -> usize
     requires { HasRoom buf.old at (method_size (declare_ok_method method.now)) (method_bytes (declare_ok_method method.now)) }
     ensures { Puts buf.old buf.new at (method_bytes (declare_ok_method method.now)) result }
@@ -250,7 +245,6 @@ pub fn put_declare_ok(buf: &mut [u8], at: usize, method: &DeclareOk) -> usize
 }
 
 /// Appends the method id and the fields of `DeclareOk` to a vector.
-#[tactic(auto)]
 pub fn gen_declare_ok(_alloc: Global, out: &mut Vec<u8>, method: &DeclareOk) -> Result<(), GenError>
     ensures { Appends out.old.items out.new.items (method_size (declare_ok_method method.now)) (method_bytes (declare_ok_method method.now)) result }
 {
@@ -304,21 +298,21 @@ impl Purge {
 }
 
 /// Decodes the fields of `Purge`.
+#[tactic(auto, using(amqp_types::proofs::Judged::refuses_next), unfolding(amqp_values::proofs::OneMethod::read_at_once))]
 pub fn parse_purge(alloc: Global, i: &[u8]) -> Result<(usize, Purge), ParserError>
     ensures { Parses purge_method result i.now (judge_method 50 30) }
 {
     let mut slots = SlotReader::new(i);
-    slots.skip_short_uint()?;
-    let queue = slots.short_string(alloc)?;
-    let flags = slots.flags::<1>()?;
+    let (_, queue, flags) = slots.read::<(ReservedShortUInt, _, Flags<1>)>(alloc)?;
     let method = Purge {
         queue,
-        nowait: flag_of_byte(flags, 0),
+        nowait: flag_of_byte(flags.byte, 0),
     };
     Ok((slots.used(i), method))
 }
 
 /// Its ids and fields, in order.
+#[tactic(auto, unfolding(amqp_values::proofs::OneMethod::listed))]
 pub(super) fn purge_fields(method: &Purge) -> [Field<'_>; 5]
     ensures { ListsMethod result (purge_method method.now) }
 {
@@ -332,7 +326,6 @@ pub(super) fn purge_fields(method: &Purge) -> [Field<'_>; 5]
 }
 
 /// The size in bytes of the method id and the fields of `Purge`.
-#[tactic(auto)]
 pub fn size_purge(method: &Purge) -> Result<u64, GenError>
     ensures { Measures result (method_size (purge_method method.now)) }
 {
@@ -340,7 +333,6 @@ pub fn size_purge(method: &Purge) -> Result<u64, GenError>
 }
 
 /// Puts the method id and the fields of `Purge` at a place of a slice, and returns the place after.
-#[tactic(auto)]
 pub fn put_purge(buf: &mut [u8], at: usize, method: &Purge) -> usize
     requires { HasRoom buf.old at (method_size (purge_method method.now)) (method_bytes (purge_method method.now)) }
     ensures { Puts buf.old buf.new at (method_bytes (purge_method method.now)) result }
@@ -349,7 +341,6 @@ pub fn put_purge(buf: &mut [u8], at: usize, method: &Purge) -> usize
 }
 
 /// Appends the method id and the fields of `Purge` to a vector.
-#[tactic(auto)]
 pub fn gen_purge(_alloc: Global, out: &mut Vec<u8>, method: &Purge) -> Result<(), GenError>
     ensures { Appends out.old.items out.new.items (method_size (purge_method method.now)) (method_bytes (purge_method method.now)) result }
 {
@@ -389,6 +380,7 @@ impl PurgeOk {
 }
 
 /// Decodes the fields of `PurgeOk`.
+#[tactic(auto, using(amqp_types::proofs::Judged::refuses_next), unfolding(amqp_values::proofs::OneMethod::read_one_by_one))]
 pub fn parse_purge_ok(_alloc: Global, i: &[u8]) -> Result<(usize, PurgeOk), ParserError>
     ensures parsed { Parses purge_ok_method result i.now (judge_method 50 31) }
     ensures memory { NeedsNoMemory result }
@@ -400,6 +392,7 @@ pub fn parse_purge_ok(_alloc: Global, i: &[u8]) -> Result<(usize, PurgeOk), Pars
 }
 
 /// Its ids and fields, in order.
+#[tactic(auto, unfolding(amqp_values::proofs::OneMethod::listed))]
 pub(super) fn purge_ok_fields(method: &PurgeOk) -> [Field<'_>; 3]
     ensures { ListsMethod result (purge_ok_method method.now) }
 {
@@ -411,7 +404,6 @@ pub(super) fn purge_ok_fields(method: &PurgeOk) -> [Field<'_>; 3]
 }
 
 /// The size in bytes of the method id and the fields of `PurgeOk`.
-#[tactic(auto)]
 pub fn size_purge_ok(method: &PurgeOk) -> Result<u64, GenError>
     ensures { Measures result (method_size (purge_ok_method method.now)) }
 {
@@ -419,7 +411,6 @@ pub fn size_purge_ok(method: &PurgeOk) -> Result<u64, GenError>
 }
 
 /// Puts the method id and the fields of `PurgeOk` at a place of a slice, and returns the place after.
-#[tactic(auto)]
 pub fn put_purge_ok(buf: &mut [u8], at: usize, method: &PurgeOk) -> usize
     requires { HasRoom buf.old at (method_size (purge_ok_method method.now)) (method_bytes (purge_ok_method method.now)) }
     ensures { Puts buf.old buf.new at (method_bytes (purge_ok_method method.now)) result }
@@ -428,7 +419,6 @@ pub fn put_purge_ok(buf: &mut [u8], at: usize, method: &PurgeOk) -> usize
 }
 
 /// Appends the method id and the fields of `PurgeOk` to a vector.
-#[tactic(auto)]
 pub fn gen_purge_ok(_alloc: Global, out: &mut Vec<u8>, method: &PurgeOk) -> Result<(), GenError>
     ensures { Appends out.old.items out.new.items (method_size (purge_ok_method method.now)) (method_bytes (purge_ok_method method.now)) result }
 {
@@ -492,23 +482,23 @@ impl Delete {
 }
 
 /// Decodes the fields of `Delete`.
+#[tactic(auto, using(amqp_types::proofs::Judged::refuses_next), unfolding(amqp_values::proofs::OneMethod::read_at_once))]
 pub fn parse_delete(alloc: Global, i: &[u8]) -> Result<(usize, Delete), ParserError>
     ensures { Parses delete_method result i.now (judge_method 50 40) }
 {
     let mut slots = SlotReader::new(i);
-    slots.skip_short_uint()?;
-    let queue = slots.short_string(alloc)?;
-    let flags = slots.flags::<3>()?;
+    let (_, queue, flags) = slots.read::<(ReservedShortUInt, _, Flags<3>)>(alloc)?;
     let method = Delete {
         queue,
-        if_unused: flag_of_byte(flags, 0),
-        if_empty: flag_of_byte(flags, 1),
-        nowait: flag_of_byte(flags, 2),
+        if_unused: flag_of_byte(flags.byte, 0),
+        if_empty: flag_of_byte(flags.byte, 1),
+        nowait: flag_of_byte(flags.byte, 2),
     };
     Ok((slots.used(i), method))
 }
 
 /// Its ids and fields, in order.
+#[tactic(auto, unfolding(amqp_values::proofs::OneMethod::listed))]
 pub(super) fn delete_fields(method: &Delete) -> [Field<'_>; 5]
     ensures { ListsMethod result (delete_method method.now) }
 {
@@ -522,7 +512,6 @@ pub(super) fn delete_fields(method: &Delete) -> [Field<'_>; 5]
 }
 
 /// The size in bytes of the method id and the fields of `Delete`.
-#[tactic(auto)]
 pub fn size_delete(method: &Delete) -> Result<u64, GenError>
     ensures { Measures result (method_size (delete_method method.now)) }
 {
@@ -530,7 +519,6 @@ pub fn size_delete(method: &Delete) -> Result<u64, GenError>
 }
 
 /// Puts the method id and the fields of `Delete` at a place of a slice, and returns the place after.
-#[tactic(auto)]
 pub fn put_delete(buf: &mut [u8], at: usize, method: &Delete) -> usize
     requires { HasRoom buf.old at (method_size (delete_method method.now)) (method_bytes (delete_method method.now)) }
     ensures { Puts buf.old buf.new at (method_bytes (delete_method method.now)) result }
@@ -539,7 +527,6 @@ pub fn put_delete(buf: &mut [u8], at: usize, method: &Delete) -> usize
 }
 
 /// Appends the method id and the fields of `Delete` to a vector.
-#[tactic(auto)]
 pub fn gen_delete(_alloc: Global, out: &mut Vec<u8>, method: &Delete) -> Result<(), GenError>
     ensures { Appends out.old.items out.new.items (method_size (delete_method method.now)) (method_bytes (delete_method method.now)) result }
 {
@@ -579,6 +566,7 @@ impl DeleteOk {
 }
 
 /// Decodes the fields of `DeleteOk`.
+#[tactic(auto, using(amqp_types::proofs::Judged::refuses_next), unfolding(amqp_values::proofs::OneMethod::read_one_by_one))]
 pub fn parse_delete_ok(_alloc: Global, i: &[u8]) -> Result<(usize, DeleteOk), ParserError>
     ensures parsed { Parses delete_ok_method result i.now (judge_method 50 41) }
     ensures memory { NeedsNoMemory result }
@@ -590,6 +578,7 @@ pub fn parse_delete_ok(_alloc: Global, i: &[u8]) -> Result<(usize, DeleteOk), Pa
 }
 
 /// Its ids and fields, in order.
+#[tactic(auto, unfolding(amqp_values::proofs::OneMethod::listed))]
 pub(super) fn delete_ok_fields(method: &DeleteOk) -> [Field<'_>; 3]
     ensures { ListsMethod result (delete_ok_method method.now) }
 {
@@ -601,7 +590,6 @@ pub(super) fn delete_ok_fields(method: &DeleteOk) -> [Field<'_>; 3]
 }
 
 /// The size in bytes of the method id and the fields of `DeleteOk`.
-#[tactic(auto)]
 pub fn size_delete_ok(method: &DeleteOk) -> Result<u64, GenError>
     ensures { Measures result (method_size (delete_ok_method method.now)) }
 {
@@ -609,7 +597,6 @@ pub fn size_delete_ok(method: &DeleteOk) -> Result<u64, GenError>
 }
 
 /// Puts the method id and the fields of `DeleteOk` at a place of a slice, and returns the place after.
-#[tactic(auto)]
 pub fn put_delete_ok(buf: &mut [u8], at: usize, method: &DeleteOk) -> usize
     requires { HasRoom buf.old at (method_size (delete_ok_method method.now)) (method_bytes (delete_ok_method method.now)) }
     ensures { Puts buf.old buf.new at (method_bytes (delete_ok_method method.now)) result }
@@ -618,7 +605,6 @@ pub fn put_delete_ok(buf: &mut [u8], at: usize, method: &DeleteOk) -> usize
 }
 
 /// Appends the method id and the fields of `DeleteOk` to a vector.
-#[tactic(auto)]
 pub fn gen_delete_ok(_alloc: Global, out: &mut Vec<u8>, method: &DeleteOk) -> Result<(), GenError>
     ensures { Appends out.old.items out.new.items (method_size (delete_ok_method method.now)) (method_bytes (delete_ok_method method.now)) result }
 {

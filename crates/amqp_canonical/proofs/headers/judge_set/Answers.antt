@@ -5,8 +5,8 @@ use Rattle.amqp_types.specs.Flags.{flag_at}
 use Rattle.amqp_types.specs.Properties.{Property}
 use Rattle.amqp_types.specs.PropertyJudging.{judge_set}
 use Rattle.amqp_canonical.specs.Shapes.{form_of}
-use Rattle.amqp_canonical.specs.declared.shapes.Shape.{Shape}
-use Rattle.amqp_canonical.specs.declared.shapes.Shape.TheVariants as shapes
+use Rattle.amqp_canonical.specs.declared.shapes.Form.{Form}
+use Rattle.amqp_canonical.specs.declared.shapes.Form.TheVariants as forms
 use Rattle.amqp_canonical.proofs.Refusing.{Fails}
 use Rattle.amqp_canonical.proofs.Joining.{judgement}
 use Rattle.amqp_canonical.proofs.Properties.{as_present, properties_none, properties_more, properties_fail, properties_all, set_judged}
@@ -19,7 +19,7 @@ pub returns-in-Err-clause-judged : goal.returns-in-Err-clause-judged
 returns-in-Err-clause-judged c =
     let l = c.loop-shape in
     let ps = c.property_shapes-shapes.result.now in
-    let other : ℕ × Shape = (0, shapes.Octet) in
+    let other : ℕ × Form = (0, forms.Octet) in
     let p = get_or ps l.shape-index other in
     let here = as_present c.has_bit-present.result (flag_at c.args.mask p.0) (form_of p.1) (drop l.at c.args.i.now) (Err c.in-Err.error) c.has_bit-present.ensures (rw take_rest at c.in-Err.ensures.judged) in
     let P : List Property → Type 0 = λ xs. Fails c.in-Err.error (judge_set c.args.mask xs c.args.i.now) in
@@ -29,7 +29,7 @@ pub loop-shape-preserved : goal.loop-shape-preserved
 loop-shape-preserved c =
     let l = c.loop-shape in
     let ps = c.property_shapes-shapes.result.now in
-    let other : ℕ × Shape = (0, shapes.Octet) in
+    let other : ℕ × Form = (0, forms.Octet) in
     let p = get_or ps l.shape-index other in
     let used = c.in-Ok.ensures.used in
     let fits : c.in-Ok.property.used ≤ length (drop l.at c.args.i.now) = rw take_rest at used in

@@ -1,8 +1,8 @@
 -- `put_set`: what it ensures, what loops keep and what calls require.
 use Rattle.std.proofs.Common.{refl, ◌+◌, ℕ, List, get_or, drop, sym, ap, subst, ◌∙◌, arith}
 use Rattle.amqp_types.specs.Properties.{properties}
-use Rattle.amqp_canonical.specs.declared.shapes.Shape.{Shape}
-use Rattle.amqp_canonical.specs.declared.shapes.Shape.TheVariants as shapes
+use Rattle.amqp_canonical.specs.declared.shapes.Form.{Form}
+use Rattle.amqp_canonical.specs.declared.shapes.Form.TheVariants as forms
 use Rattle.amqp_canonical.specs.Shapes.{form_of, property_of}
 use Rattle.amqp_canonical.proofs.PayloadParts.{SetPut, set_none, set_end, property_here, property_past, property_from, properties_all, gives_one_at}
 use Rattle.amqp_types.specs.SlotJudging.{judge_form}
@@ -17,7 +17,7 @@ pub put_form-end-requires-clause-read : goal.put_form-end-requires-clause-read
 put_form-end-requires-clause-read c =
     let l = c.loop-shape in
     let ps = c.property_shapes-shapes.result.now in
-    let other : ℕ × Shape = (0, shapes.Octet) in
+    let other : ℕ × Form = (0, forms.Octet) in
     let shape = get_or ps l.shape-index other in
     let p = property_of shape in
     let is = property_from ps l.shape-index other c.property_shapes-shapes.ensures c.loop-shape-test.true in
@@ -29,7 +29,7 @@ pub put_form-end-requires-clause-room : goal.put_form-end-requires-clause-room
 put_form-end-requires-clause-room c =
     let l = c.loop-shape in
     let ps = c.property_shapes-shapes.result.now in
-    let other : ℕ × Shape = (0, shapes.Octet) in
+    let other : ℕ × Form = (0, forms.Octet) in
     let shape = get_or ps l.shape-index other in
     let p = property_of shape in
     let is = property_from ps l.shape-index other c.property_shapes-shapes.ensures c.loop-shape-test.true in
@@ -41,7 +41,7 @@ pub loop-shape-preserved : goal.loop-shape-preserved
 loop-shape-preserved c =
     let l = c.loop-shape in
     let ps = c.property_shapes-shapes.result.now in
-    let other : ℕ × Shape = (0, shapes.Octet) in
+    let other : ℕ × Form = (0, forms.Octet) in
     let shape = get_or ps l.shape-index other in
     let p = property_of shape in
     let is = property_from ps l.shape-index other c.property_shapes-shapes.ensures c.loop-shape-test.true in
@@ -49,7 +49,7 @@ loop-shape-preserved c =
     let P : List ℕ → Type 0 = λ rest. SetPut c.args.mask properties c.args.i.now rest (l.shape-index + 1) c.args.buf.now c.if-has_bit.buf c.args.at c.if-has_bit.end in
     elim c.if-has_bit.branch [
       | then-has_bit w ↦
-          let here = property_here c.args.mask properties p c.args.i.now l.rest.now l.shape-index w.slot_size.result c.args.buf.now l.buf c.args.at l.end is one (sym c.has_bit.ensures ∙ w.if-has_bit.true) w.slot_size.ensures.used c.requires.room l.invariant in
+          let here = property_here c.args.mask properties p c.args.i.now l.rest.now l.shape-index w.form_size.result c.args.buf.now l.buf c.args.at l.end is one (sym c.has_bit.ensures ∙ w.if-has_bit.true) w.form_size.ensures.used c.requires.room l.invariant in
           let next = here.next w.put_form-end.new.buf w.put_form-end.result w.put_form-end.ensures in
           subst P (sym w.bytes_from-rest.ensures ∙ sym (ap (λ r. r.now) w.rest-is)) (rw (w.buf-is, w.end-is) next)
       | else-has_bit w ↦

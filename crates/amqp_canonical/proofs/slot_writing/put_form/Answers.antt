@@ -4,79 +4,62 @@ use Rattle.std.proofs.lemmas.List.{length-take-le}
 use Rattle.amqp_types.specs.Flags.{flags_byte, flags_from}
 use Rattle.amqp_types.specs.ValueBytes.{table_bytes}
 use Rattle.amqp_types.specs.ValueJudging.{judge_field_table}
-use Rattle.amqp_canonical.specs.declared.shapes.Shape.TheVariants as shapes
+use Rattle.amqp_canonical.specs.declared.shapes.Form.TheVariants as forms
 use Rattle.amqp_canonical.specs.Shapes.{form_of}
 use Rattle.amqp_canonical.specs.Writes.{canonical_of}
 use Rattle.amqp_canonical.proofs.PutParts.{puts_as}
-use Rattle.amqp_canonical.proofs.SlotParts.{other_form, copied_form, flags_slot, table_slot, form_read_as, form_put_as}
+use Rattle.amqp_canonical.proofs.SlotParts.{other_form, copied_form, flags_slot, table_slot, read_as, put_as}
 use Rattle.amqp_canonical.proofs.slot_writing.put_form.Goals as goal
 
 pub put_table-requires-clause-read : goal.put_table-requires-clause-read
-put_table-requires-clause-read c = let h = table_slot c.args.i.now (form_read_as c.args.shape shapes.Table c.args.i.now c.in-Table.is c.requires.read) in h.0
+put_table-requires-clause-read c = let h = table_slot c.args.i.now (read_as c.args.form forms.Table c.args.i.now c.in-Table.is c.requires.read) in h.0
 
 pub put_table-requires-clause-room : goal.put_table-requires-clause-room
 put_table-requires-clause-room c =
-    let h = table_slot c.args.i.now (form_read_as c.args.shape shapes.Table c.args.i.now c.in-Table.is c.requires.read) in
-    let put = form_put_as c.args.shape shapes.Table c.args.i.now (canonical_of table_bytes (judge_field_table c.args.i.now)) c.in-Table.is h.1 in
+    let h = table_slot c.args.i.now (read_as c.args.form forms.Table c.args.i.now c.in-Table.is c.requires.read) in
+    let put = put_as c.args.form forms.Table c.args.i.now (canonical_of table_bytes (judge_field_table c.args.i.now)) c.in-Table.is h.1 in
     omega (arith, ap length put, c.requires.room)
 
 pub returns-in-Table : goal.returns-in-Table
 returns-in-Table c =
-    let h = table_slot c.args.i.now (form_read_as c.args.shape shapes.Table c.args.i.now c.in-Table.is c.requires.read) in
-    let put = form_put_as c.args.shape shapes.Table c.args.i.now (canonical_of table_bytes (judge_field_table c.args.i.now)) c.in-Table.is h.1 in
+    let h = table_slot c.args.i.now (read_as c.args.form forms.Table c.args.i.now c.in-Table.is c.requires.read) in
+    let put = put_as c.args.form forms.Table c.args.i.now (canonical_of table_bytes (judge_field_table c.args.i.now)) c.in-Table.is h.1 in
     puts_as c.args.buf.now c.put_table.new.buf c.args.at c.put_table.result _ _ (sym put) c.put_table.ensures
 
 pub bounds-i-0 : goal.bounds-i-0
 bounds-i-0 c =
-    let h = flags_slot c.in-Flags.count c.args.i.now (form_read_as c.args.shape (shapes.Flags c.in-Flags.count) c.args.i.now c.in-Flags.is c.requires.read) in
+    let h = flags_slot c.in-Flags.count c.args.i.now (read_as c.args.form (forms.Flags c.in-Flags.count) c.args.i.now c.in-Flags.is c.requires.read) in
     search (rules, h.0)
 
 pub put_bytes-requires : goal.put_bytes-requires
 put_bytes-requires c =
-    let h = flags_slot c.in-Flags.count c.args.i.now (form_read_as c.args.shape (shapes.Flags c.in-Flags.count) c.args.i.now c.in-Flags.is c.requires.read) in
-    let put = form_put_as c.args.shape (shapes.Flags c.in-Flags.count) c.args.i.now (flags_byte (flags_from c.in-Flags.count 0 (get_or c.args.i.now 0 0)) ∷ []) c.in-Flags.is h.1 in
+    let h = flags_slot c.in-Flags.count c.args.i.now (read_as c.args.form (forms.Flags c.in-Flags.count) c.args.i.now c.in-Flags.is c.requires.read) in
+    let put = put_as c.args.form (forms.Flags c.in-Flags.count) c.args.i.now (flags_byte (flags_from c.in-Flags.count 0 (get_or c.args.i.now 0 0)) ∷ []) c.in-Flags.is h.1 in
     record { room = omega (arith, ap length put, c.requires.room) }
 
 pub returns-in-Flags : goal.returns-in-Flags
 returns-in-Flags c =
-    let h = flags_slot c.in-Flags.count c.args.i.now (form_read_as c.args.shape (shapes.Flags c.in-Flags.count) c.args.i.now c.in-Flags.is c.requires.read) in
-    let put = form_put_as c.args.shape (shapes.Flags c.in-Flags.count) c.args.i.now (flags_byte (flags_from c.in-Flags.count 0 (get_or c.args.i.now 0 0)) ∷ []) c.in-Flags.is h.1 in
+    let h = flags_slot c.in-Flags.count c.args.i.now (read_as c.args.form (forms.Flags c.in-Flags.count) c.args.i.now c.in-Flags.is c.requires.read) in
+    let put = put_as c.args.form (forms.Flags c.in-Flags.count) c.args.i.now (flags_byte (flags_from c.in-Flags.count 0 (get_or c.args.i.now 0 0)) ∷ []) c.in-Flags.is h.1 in
     puts_as c.args.buf.now c.put_bytes.new.buf c.args.at c.put_bytes.result _ _ (ap (λ b. b ∷ []) c.lowest_bits.ensures ∙ sym put) c.put_bytes.ensures
-
-pub bounds-i-0-in-ReservedFlag : goal.bounds-i-0-in-ReservedFlag
-bounds-i-0-in-ReservedFlag c =
-    let h = flags_slot 1 c.args.i.now (form_read_as c.args.shape shapes.ReservedFlag c.args.i.now c.in-ReservedFlag.is c.requires.read) in
-    search (rules, h.0)
-
-pub put_bytes-requires-in-ReservedFlag : goal.put_bytes-requires-in-ReservedFlag
-put_bytes-requires-in-ReservedFlag c =
-    let h = flags_slot 1 c.args.i.now (form_read_as c.args.shape shapes.ReservedFlag c.args.i.now c.in-ReservedFlag.is c.requires.read) in
-    let put = form_put_as c.args.shape shapes.ReservedFlag c.args.i.now (flags_byte (flags_from 1 0 (get_or c.args.i.now 0 0)) ∷ []) c.in-ReservedFlag.is h.1 in
-    record { room = omega (arith, ap length put, c.requires.room) }
-
-pub returns-in-ReservedFlag : goal.returns-in-ReservedFlag
-returns-in-ReservedFlag c =
-    let h = flags_slot 1 c.args.i.now (form_read_as c.args.shape shapes.ReservedFlag c.args.i.now c.in-ReservedFlag.is c.requires.read) in
-    let put = form_put_as c.args.shape shapes.ReservedFlag c.args.i.now (flags_byte (flags_from 1 0 (get_or c.args.i.now 0 0)) ∷ []) c.in-ReservedFlag.is h.1 in
-    puts_as c.args.buf.now c.put_bytes-in-ReservedFlag.new.buf c.args.at c.put_bytes-in-ReservedFlag.result _ _ (ap (λ b. b ∷ []) c.lowest_bits-in-ReservedFlag.ensures ∙ sym put) c.put_bytes-in-ReservedFlag.ensures
 
 pub slice_bounds-put_bytes-end-in_default : goal.slice_bounds-put_bytes-end-in_default
 slice_bounds-put_bytes-end-in_default c =
     let d = c.in_default in
-    let other = other_form c.args.shape d.not-Table d.not-Flags d.not-ReservedFlag in
-    let h = copied_form (form_of c.args.shape) c.args.i.now c.slot_size.result other (λ k. omega (arith, c.type_inv.i k)) c.requires.read (c.slot_size.ensures.used c.requires.read) in
-    sym (length-take-le c.slot_size.result c.args.i.now h.within)
+    let other = other_form c.args.form d.not-Table d.not-Flags in
+    let h = copied_form (form_of c.args.form) c.args.i.now c.form_size.result other (λ k. omega (arith, c.type_inv.i k)) c.requires.read (c.form_size.ensures.used c.requires.read) in
+    sym (length-take-le c.form_size.result c.args.i.now h.within)
 
 pub put_bytes-requires-in_default : goal.put_bytes-requires-in_default
 put_bytes-requires-in_default c =
     let d = c.in_default in
-    let other = other_form c.args.shape d.not-Table d.not-Flags d.not-ReservedFlag in
-    let h = copied_form (form_of c.args.shape) c.args.i.now c.slot_size.result other (λ k. omega (arith, c.type_inv.i k)) c.requires.read (c.slot_size.ensures.used c.requires.read) in
+    let other = other_form c.args.form d.not-Table d.not-Flags in
+    let h = copied_form (form_of c.args.form) c.args.i.now c.form_size.result other (λ k. omega (arith, c.type_inv.i k)) c.requires.read (c.form_size.ensures.used c.requires.read) in
     record { room = omega (arith, ap length h.bytes_are, c.requires.room) }
 
 pub returns-in_default : goal.returns-in_default
 returns-in_default c =
     let d = c.in_default in
-    let other = other_form c.args.shape d.not-Table d.not-Flags d.not-ReservedFlag in
-    let h = copied_form (form_of c.args.shape) c.args.i.now c.slot_size.result other (λ k. omega (arith, c.type_inv.i k)) c.requires.read (c.slot_size.ensures.used c.requires.read) in
+    let other = other_form c.args.form d.not-Table d.not-Flags in
+    let h = copied_form (form_of c.args.form) c.args.i.now c.form_size.result other (λ k. omega (arith, c.type_inv.i k)) c.requires.read (c.form_size.ensures.used c.requires.read) in
     puts_as c.args.buf.now c.put_bytes-in_default.new.buf c.args.at c.put_bytes-in_default.result _ _ h.bytes_are c.put_bytes-in_default.ensures

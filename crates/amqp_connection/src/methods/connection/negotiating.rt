@@ -76,15 +76,12 @@ impl Start {
 }
 
 /// Decodes the fields of `Start`.
+#[tactic(auto, using(amqp_types::proofs::Judged::refuses_next), unfolding(amqp_values::proofs::OneMethod::read_at_once))]
 pub fn parse_start(alloc: Global, i: &[u8]) -> Result<(usize, Start), ParserError>
     ensures { Parses start_method result i.now (judge_method 10 10) }
 {
     let mut slots = SlotReader::new(i);
-    let version_major = slots.short_short_uint()?;
-    let version_minor = slots.short_short_uint()?;
-    let server_properties = slots.table(alloc)?;
-    let mechanisms = slots.long_string(alloc)?;
-    let locales = slots.long_string(alloc)?;
+    let (version_major, version_minor, server_properties, mechanisms, locales) = slots.read(alloc)?;
     let method = Start {
         version_major,
         version_minor,
@@ -96,6 +93,7 @@ pub fn parse_start(alloc: Global, i: &[u8]) -> Result<(usize, Start), ParserErro
 }
 
 /// Its ids and fields, in order.
+#[tactic(auto, unfolding(amqp_values::proofs::OneMethod::listed))]
 pub(super) fn start_fields(method: &Start) -> [Field<'_>; 7]
     ensures { ListsMethod result (start_method method.now) }
 {
@@ -111,7 +109,6 @@ pub(super) fn start_fields(method: &Start) -> [Field<'_>; 7]
 }
 
 /// The size in bytes of the method id and the fields of `Start`.
-#[tactic(auto)]
 pub fn size_start(method: &Start) -> Result<u64, GenError>
     ensures { Measures result (method_size (start_method method.now)) }
 {
@@ -119,7 +116,6 @@ pub fn size_start(method: &Start) -> Result<u64, GenError>
 }
 
 /// Puts the method id and the fields of `Start` at a place of a slice, and returns the place after.
-#[tactic(auto)]
 pub fn put_start(buf: &mut [u8], at: usize, method: &Start) -> usize
     requires { HasRoom buf.old at (method_size (start_method method.now)) (method_bytes (start_method method.now)) }
     ensures { Puts buf.old buf.new at (method_bytes (start_method method.now)) result }
@@ -128,7 +124,6 @@ pub fn put_start(buf: &mut [u8], at: usize, method: &Start) -> usize
 }
 
 /// Appends the method id and the fields of `Start` to a vector.
-#[tactic(auto)]
 pub fn gen_start(_alloc: Global, out: &mut Vec<u8>, method: &Start) -> Result<(), GenError>
     ensures { Appends out.old.items out.new.items (method_size (start_method method.now)) (method_bytes (start_method method.now)) result }
 {
@@ -192,14 +187,12 @@ impl StartOk {
 }
 
 /// Decodes the fields of `StartOk`.
+#[tactic(auto, using(amqp_types::proofs::Judged::refuses_next), unfolding(amqp_values::proofs::OneMethod::read_at_once))]
 pub fn parse_start_ok(alloc: Global, i: &[u8]) -> Result<(usize, StartOk), ParserError>
     ensures { Parses start_ok_method result i.now (judge_method 10 11) }
 {
     let mut slots = SlotReader::new(i);
-    let client_properties = slots.table(alloc)?;
-    let mechanism = slots.short_string(alloc)?;
-    let response = slots.long_string(alloc)?;
-    let locale = slots.short_string(alloc)?;
+    let (client_properties, mechanism, response, locale) = slots.read(alloc)?;
     let method = StartOk {
         client_properties,
         mechanism,
@@ -210,6 +203,7 @@ pub fn parse_start_ok(alloc: Global, i: &[u8]) -> Result<(usize, StartOk), Parse
 }
 
 /// Its ids and fields, in order.
+#[tactic(auto, unfolding(amqp_values::proofs::OneMethod::listed))]
 pub(super) fn start_ok_fields(method: &StartOk) -> [Field<'_>; 6]
     ensures { ListsMethod result (start_ok_method method.now) }
 {
@@ -224,7 +218,6 @@ pub(super) fn start_ok_fields(method: &StartOk) -> [Field<'_>; 6]
 }
 
 /// The size in bytes of the method id and the fields of `StartOk`.
-#[tactic(auto)]
 pub fn size_start_ok(method: &StartOk) -> Result<u64, GenError>
     ensures { Measures result (method_size (start_ok_method method.now)) }
 {
@@ -232,7 +225,6 @@ pub fn size_start_ok(method: &StartOk) -> Result<u64, GenError>
 }
 
 /// Puts the method id and the fields of `StartOk` at a place of a slice, and returns the place after.
-#[tactic(auto)]
 pub fn put_start_ok(buf: &mut [u8], at: usize, method: &StartOk) -> usize
     requires { HasRoom buf.old at (method_size (start_ok_method method.now)) (method_bytes (start_ok_method method.now)) }
     ensures { Puts buf.old buf.new at (method_bytes (start_ok_method method.now)) result }
@@ -241,7 +233,6 @@ pub fn put_start_ok(buf: &mut [u8], at: usize, method: &StartOk) -> usize
 }
 
 /// Appends the method id and the fields of `StartOk` to a vector.
-#[tactic(auto)]
 pub fn gen_start_ok(_alloc: Global, out: &mut Vec<u8>, method: &StartOk) -> Result<(), GenError>
     ensures { Appends out.old.items out.new.items (method_size (start_ok_method method.now)) (method_bytes (start_ok_method method.now)) result }
 {
@@ -290,6 +281,7 @@ impl Secure {
 }
 
 /// Decodes the fields of `Secure`.
+#[tactic(auto, using(amqp_types::proofs::Judged::refuses_next), unfolding(amqp_values::proofs::OneMethod::read_one_by_one))]
 pub fn parse_secure(alloc: Global, i: &[u8]) -> Result<(usize, Secure), ParserError>
     ensures { Parses secure_method result i.now (judge_method 10 20) }
 {
@@ -300,6 +292,7 @@ pub fn parse_secure(alloc: Global, i: &[u8]) -> Result<(usize, Secure), ParserEr
 }
 
 /// Its ids and fields, in order.
+#[tactic(auto, unfolding(amqp_values::proofs::OneMethod::listed))]
 pub(super) fn secure_fields(method: &Secure) -> [Field<'_>; 3]
     ensures { ListsMethod result (secure_method method.now) }
 {
@@ -311,7 +304,6 @@ pub(super) fn secure_fields(method: &Secure) -> [Field<'_>; 3]
 }
 
 /// The size in bytes of the method id and the fields of `Secure`.
-#[tactic(auto)]
 pub fn size_secure(method: &Secure) -> Result<u64, GenError>
     ensures { Measures result (method_size (secure_method method.now)) }
 {
@@ -319,7 +311,6 @@ pub fn size_secure(method: &Secure) -> Result<u64, GenError>
 }
 
 /// Puts the method id and the fields of `Secure` at a place of a slice, and returns the place after.
-#[tactic(auto)]
 pub fn put_secure(buf: &mut [u8], at: usize, method: &Secure) -> usize
     requires { HasRoom buf.old at (method_size (secure_method method.now)) (method_bytes (secure_method method.now)) }
     ensures { Puts buf.old buf.new at (method_bytes (secure_method method.now)) result }
@@ -328,7 +319,6 @@ pub fn put_secure(buf: &mut [u8], at: usize, method: &Secure) -> usize
 }
 
 /// Appends the method id and the fields of `Secure` to a vector.
-#[tactic(auto)]
 pub fn gen_secure(_alloc: Global, out: &mut Vec<u8>, method: &Secure) -> Result<(), GenError>
     ensures { Appends out.old.items out.new.items (method_size (secure_method method.now)) (method_bytes (secure_method method.now)) result }
 {
@@ -377,6 +367,7 @@ impl SecureOk {
 }
 
 /// Decodes the fields of `SecureOk`.
+#[tactic(auto, using(amqp_types::proofs::Judged::refuses_next), unfolding(amqp_values::proofs::OneMethod::read_one_by_one))]
 pub fn parse_secure_ok(alloc: Global, i: &[u8]) -> Result<(usize, SecureOk), ParserError>
     ensures { Parses secure_ok_method result i.now (judge_method 10 21) }
 {
@@ -387,6 +378,7 @@ pub fn parse_secure_ok(alloc: Global, i: &[u8]) -> Result<(usize, SecureOk), Par
 }
 
 /// Its ids and fields, in order.
+#[tactic(auto, unfolding(amqp_values::proofs::OneMethod::listed))]
 pub(super) fn secure_ok_fields(method: &SecureOk) -> [Field<'_>; 3]
     ensures { ListsMethod result (secure_ok_method method.now) }
 {
@@ -398,7 +390,6 @@ pub(super) fn secure_ok_fields(method: &SecureOk) -> [Field<'_>; 3]
 }
 
 /// The size in bytes of the method id and the fields of `SecureOk`.
-#[tactic(auto)]
 pub fn size_secure_ok(method: &SecureOk) -> Result<u64, GenError>
     ensures { Measures result (method_size (secure_ok_method method.now)) }
 {
@@ -406,7 +397,6 @@ pub fn size_secure_ok(method: &SecureOk) -> Result<u64, GenError>
 }
 
 /// Puts the method id and the fields of `SecureOk` at a place of a slice, and returns the place after.
-#[tactic(auto)]
 pub fn put_secure_ok(buf: &mut [u8], at: usize, method: &SecureOk) -> usize
     requires { HasRoom buf.old at (method_size (secure_ok_method method.now)) (method_bytes (secure_ok_method method.now)) }
     ensures { Puts buf.old buf.new at (method_bytes (secure_ok_method method.now)) result }
@@ -415,7 +405,6 @@ pub fn put_secure_ok(buf: &mut [u8], at: usize, method: &SecureOk) -> usize
 }
 
 /// Appends the method id and the fields of `SecureOk` to a vector.
-#[tactic(auto)]
 pub fn gen_secure_ok(_alloc: Global, out: &mut Vec<u8>, method: &SecureOk) -> Result<(), GenError>
     ensures { Appends out.old.items out.new.items (method_size (secure_ok_method method.now)) (method_bytes (secure_ok_method method.now)) result }
 {
@@ -465,6 +454,7 @@ impl Tune {
 }
 
 /// Decodes the fields of `Tune`.
+#[tactic(auto, using(amqp_types::proofs::Judged::refuses_next), unfolding(amqp_values::proofs::OneMethod::read_one_by_one))]
 pub fn parse_tune(_alloc: Global, i: &[u8]) -> Result<(usize, Tune), ParserError>
     ensures parsed { Parses tune_method result i.now (judge_method 10 30) }
     ensures memory { NeedsNoMemory result }
@@ -482,6 +472,7 @@ pub fn parse_tune(_alloc: Global, i: &[u8]) -> Result<(usize, Tune), ParserError
 }
 
 /// Its ids and fields, in order.
+#[tactic(auto, unfolding(amqp_values::proofs::OneMethod::listed))]
 pub(super) fn tune_fields(method: &Tune) -> [Field<'_>; 5]
     ensures { ListsMethod result (tune_method method.now) }
 {
@@ -495,7 +486,6 @@ pub(super) fn tune_fields(method: &Tune) -> [Field<'_>; 5]
 }
 
 /// The size in bytes of the method id and the fields of `Tune`.
-#[tactic(auto)]
 pub fn size_tune(method: &Tune) -> Result<u64, GenError>
     ensures { Measures result (method_size (tune_method method.now)) }
 {
@@ -503,7 +493,6 @@ pub fn size_tune(method: &Tune) -> Result<u64, GenError>
 }
 
 /// Puts the method id and the fields of `Tune` at a place of a slice, and returns the place after.
-#[tactic(auto)]
 pub fn put_tune(buf: &mut [u8], at: usize, method: &Tune) -> usize
     requires { HasRoom buf.old at (method_size (tune_method method.now)) (method_bytes (tune_method method.now)) }
     ensures { Puts buf.old buf.new at (method_bytes (tune_method method.now)) result }
@@ -512,7 +501,6 @@ pub fn put_tune(buf: &mut [u8], at: usize, method: &Tune) -> usize
 }
 
 /// Appends the method id and the fields of `Tune` to a vector.
-#[tactic(auto)]
 pub fn gen_tune(_alloc: Global, out: &mut Vec<u8>, method: &Tune) -> Result<(), GenError>
     ensures { Appends out.old.items out.new.items (method_size (tune_method method.now)) (method_bytes (tune_method method.now)) result }
 {
@@ -562,6 +550,7 @@ impl TuneOk {
 }
 
 /// Decodes the fields of `TuneOk`.
+#[tactic(auto, using(amqp_types::proofs::Judged::refuses_next), unfolding(amqp_values::proofs::OneMethod::read_one_by_one))]
 pub fn parse_tune_ok(_alloc: Global, i: &[u8]) -> Result<(usize, TuneOk), ParserError>
     ensures parsed { Parses tune_ok_method result i.now (judge_method 10 31) }
     ensures memory { NeedsNoMemory result }
@@ -579,6 +568,7 @@ pub fn parse_tune_ok(_alloc: Global, i: &[u8]) -> Result<(usize, TuneOk), Parser
 }
 
 /// Its ids and fields, in order.
+#[tactic(auto, unfolding(amqp_values::proofs::OneMethod::listed))]
 pub(super) fn tune_ok_fields(method: &TuneOk) -> [Field<'_>; 5]
     ensures { ListsMethod result (tune_ok_method method.now) }
 {
@@ -592,7 +582,6 @@ pub(super) fn tune_ok_fields(method: &TuneOk) -> [Field<'_>; 5]
 }
 
 /// The size in bytes of the method id and the fields of `TuneOk`.
-#[tactic(auto)]
 pub fn size_tune_ok(method: &TuneOk) -> Result<u64, GenError>
     ensures { Measures result (method_size (tune_ok_method method.now)) }
 {
@@ -600,7 +589,6 @@ pub fn size_tune_ok(method: &TuneOk) -> Result<u64, GenError>
 }
 
 /// Puts the method id and the fields of `TuneOk` at a place of a slice, and returns the place after.
-#[tactic(auto)]
 pub fn put_tune_ok(buf: &mut [u8], at: usize, method: &TuneOk) -> usize
     requires { HasRoom buf.old at (method_size (tune_ok_method method.now)) (method_bytes (tune_ok_method method.now)) }
     ensures { Puts buf.old buf.new at (method_bytes (tune_ok_method method.now)) result }
@@ -609,7 +597,6 @@ pub fn put_tune_ok(buf: &mut [u8], at: usize, method: &TuneOk) -> usize
 }
 
 /// Appends the method id and the fields of `TuneOk` to a vector.
-#[tactic(auto)]
 pub fn gen_tune_ok(_alloc: Global, out: &mut Vec<u8>, method: &TuneOk) -> Result<(), GenError>
     ensures { Appends out.old.items out.new.items (method_size (tune_ok_method method.now)) (method_bytes (tune_ok_method method.now)) result }
 {

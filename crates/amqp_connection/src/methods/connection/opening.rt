@@ -56,6 +56,7 @@ impl Open {
 }
 
 /// Decodes the fields of `Open`.
+#[tactic(auto, using(amqp_types::proofs::Judged::refuses_next), unfolding(amqp_values::proofs::OneMethod::read_one_by_one))]
 pub fn parse_open(alloc: Global, i: &[u8]) -> Result<(usize, Open), ParserError>
     ensures { Parses open_method result i.now (judge_method 10 40) }
 {
@@ -68,6 +69,7 @@ pub fn parse_open(alloc: Global, i: &[u8]) -> Result<(usize, Open), ParserError>
 }
 
 /// Its ids and fields, in order.
+#[tactic(auto, unfolding(amqp_values::proofs::OneMethod::listed))]
 pub(super) fn open_fields(method: &Open) -> [Field<'_>; 5]
     ensures { ListsMethod result (open_method method.now) }
 {
@@ -81,7 +83,6 @@ pub(super) fn open_fields(method: &Open) -> [Field<'_>; 5]
 }
 
 /// The size in bytes of the method id and the fields of `Open`.
-#[tactic(auto)]
 pub fn size_open(method: &Open) -> Result<u64, GenError>
     ensures { Measures result (method_size (open_method method.now)) }
 {
@@ -89,7 +90,6 @@ pub fn size_open(method: &Open) -> Result<u64, GenError>
 }
 
 /// Puts the method id and the fields of `Open` at a place of a slice, and returns the place after.
-#[tactic(auto)]
 pub fn put_open(buf: &mut [u8], at: usize, method: &Open) -> usize
     requires { HasRoom buf.old at (method_size (open_method method.now)) (method_bytes (open_method method.now)) }
     ensures { Puts buf.old buf.new at (method_bytes (open_method method.now)) result }
@@ -98,7 +98,6 @@ pub fn put_open(buf: &mut [u8], at: usize, method: &Open) -> usize
 }
 
 /// Appends the method id and the fields of `Open` to a vector.
-#[tactic(auto)]
 pub fn gen_open(_alloc: Global, out: &mut Vec<u8>, method: &Open) -> Result<(), GenError>
     ensures { Appends out.old.items out.new.items (method_size (open_method method.now)) (method_bytes (open_method method.now)) result }
 {
@@ -126,6 +125,7 @@ impl OpenOk {
 }
 
 /// Decodes the fields of `OpenOk`.
+#[tactic(auto, using(amqp_types::proofs::Judged::refuses_next), unfolding(amqp_values::proofs::OneMethod::read_one_by_one))]
 pub fn parse_open_ok(_alloc: Global, i: &[u8]) -> Result<(usize, OpenOk), ParserError>
     ensures parsed { Parses open_ok_method result i.now (judge_method 10 41) }
     ensures memory { NeedsNoMemory result }
@@ -136,6 +136,7 @@ pub fn parse_open_ok(_alloc: Global, i: &[u8]) -> Result<(usize, OpenOk), Parser
 }
 
 /// Its ids and fields, in order.
+#[tactic(auto, unfolding(amqp_values::proofs::OneMethod::listed))]
 pub(super) fn open_ok_fields(_method: &OpenOk) -> [Field<'_>; 3]
     ensures { ListsMethod result (open_ok_method _method.now) }
 {
@@ -147,7 +148,6 @@ pub(super) fn open_ok_fields(_method: &OpenOk) -> [Field<'_>; 3]
 }
 
 /// The size in bytes of the method id and the fields of `OpenOk`.
-#[tactic(auto)]
 pub fn size_open_ok(method: &OpenOk) -> Result<u64, GenError>
     ensures { Measures result (method_size (open_ok_method method.now)) }
 {
@@ -155,7 +155,6 @@ pub fn size_open_ok(method: &OpenOk) -> Result<u64, GenError>
 }
 
 /// Puts the method id and the fields of `OpenOk` at a place of a slice, and returns the place after.
-#[tactic(auto)]
 pub fn put_open_ok(buf: &mut [u8], at: usize, method: &OpenOk) -> usize
     requires { HasRoom buf.old at (method_size (open_ok_method method.now)) (method_bytes (open_ok_method method.now)) }
     ensures { Puts buf.old buf.new at (method_bytes (open_ok_method method.now)) result }
@@ -164,7 +163,6 @@ pub fn put_open_ok(buf: &mut [u8], at: usize, method: &OpenOk) -> usize
 }
 
 /// Appends the method id and the fields of `OpenOk` to a vector.
-#[tactic(auto)]
 pub fn gen_open_ok(_alloc: Global, out: &mut Vec<u8>, method: &OpenOk) -> Result<(), GenError>
     ensures { Appends out.old.items out.new.items (method_size (open_ok_method method.now)) (method_bytes (open_ok_method method.now)) result }
 {
@@ -228,14 +226,12 @@ impl Close {
 }
 
 /// Decodes the fields of `Close`.
+#[tactic(auto, using(amqp_types::proofs::Judged::refuses_next), unfolding(amqp_values::proofs::OneMethod::read_at_once))]
 pub fn parse_close(alloc: Global, i: &[u8]) -> Result<(usize, Close), ParserError>
     ensures { Parses close_method result i.now (judge_method 10 50) }
 {
     let mut slots = SlotReader::new(i);
-    let reply_code = slots.short_uint()?;
-    let reply_text = slots.short_string(alloc)?;
-    let class_id = slots.short_uint()?;
-    let method_id = slots.short_uint()?;
+    let (reply_code, reply_text, class_id, method_id) = slots.read(alloc)?;
     let method = Close {
         reply_code,
         reply_text,
@@ -246,6 +242,7 @@ pub fn parse_close(alloc: Global, i: &[u8]) -> Result<(usize, Close), ParserErro
 }
 
 /// Its ids and fields, in order.
+#[tactic(auto, unfolding(amqp_values::proofs::OneMethod::listed))]
 pub(super) fn close_fields(method: &Close) -> [Field<'_>; 6]
     ensures { ListsMethod result (close_method method.now) }
 {
@@ -260,7 +257,6 @@ pub(super) fn close_fields(method: &Close) -> [Field<'_>; 6]
 }
 
 /// The size in bytes of the method id and the fields of `Close`.
-#[tactic(auto)]
 pub fn size_close(method: &Close) -> Result<u64, GenError>
     ensures { Measures result (method_size (close_method method.now)) }
 {
@@ -268,7 +264,6 @@ pub fn size_close(method: &Close) -> Result<u64, GenError>
 }
 
 /// Puts the method id and the fields of `Close` at a place of a slice, and returns the place after.
-#[tactic(auto)]
 pub fn put_close(buf: &mut [u8], at: usize, method: &Close) -> usize
     requires { HasRoom buf.old at (method_size (close_method method.now)) (method_bytes (close_method method.now)) }
     ensures { Puts buf.old buf.new at (method_bytes (close_method method.now)) result }
@@ -277,7 +272,6 @@ pub fn put_close(buf: &mut [u8], at: usize, method: &Close) -> usize
 }
 
 /// Appends the method id and the fields of `Close` to a vector.
-#[tactic(auto)]
 pub fn gen_close(_alloc: Global, out: &mut Vec<u8>, method: &Close) -> Result<(), GenError>
     ensures { Appends out.old.items out.new.items (method_size (close_method method.now)) (method_bytes (close_method method.now)) result }
 {
@@ -305,6 +299,7 @@ impl CloseOk {
 }
 
 /// Decodes the fields of `CloseOk`.
+#[tactic(auto, using(amqp_types::proofs::Judged::refuses_next), unfolding(amqp_values::proofs::OneMethod::read_one_by_one))]
 pub fn parse_close_ok(_alloc: Global, i: &[u8]) -> Result<(usize, CloseOk), ParserError>
     ensures parsed { Parses close_ok_method result i.now (judge_method 10 51) }
     ensures memory { NeedsNoMemory result }
@@ -314,6 +309,7 @@ pub fn parse_close_ok(_alloc: Global, i: &[u8]) -> Result<(usize, CloseOk), Pars
 }
 
 /// Its ids and fields, in order.
+#[tactic(auto, unfolding(amqp_values::proofs::OneMethod::listed))]
 pub(super) fn close_ok_fields(_method: &CloseOk) -> [Field<'_>; 2]
     ensures { ListsMethod result (close_ok_method _method.now) }
 {
@@ -321,7 +317,6 @@ pub(super) fn close_ok_fields(_method: &CloseOk) -> [Field<'_>; 2]
 }
 
 /// The size in bytes of the method id and the fields of `CloseOk`.
-#[tactic(auto)]
 pub fn size_close_ok(method: &CloseOk) -> Result<u64, GenError>
     ensures { Measures result (method_size (close_ok_method method.now)) }
 {
@@ -329,7 +324,6 @@ pub fn size_close_ok(method: &CloseOk) -> Result<u64, GenError>
 }
 
 /// Puts the method id and the fields of `CloseOk` at a place of a slice, and returns the place after.
-#[tactic(auto)]
 pub fn put_close_ok(buf: &mut [u8], at: usize, method: &CloseOk) -> usize
     requires { HasRoom buf.old at (method_size (close_ok_method method.now)) (method_bytes (close_ok_method method.now)) }
     ensures { Puts buf.old buf.new at (method_bytes (close_ok_method method.now)) result }
@@ -338,7 +332,6 @@ pub fn put_close_ok(buf: &mut [u8], at: usize, method: &CloseOk) -> usize
 }
 
 /// Appends the method id and the fields of `CloseOk` to a vector.
-#[tactic(auto)]
 pub fn gen_close_ok(_alloc: Global, out: &mut Vec<u8>, method: &CloseOk) -> Result<(), GenError>
     ensures { Appends out.old.items out.new.items (method_size (close_ok_method method.now)) (method_bytes (close_ok_method method.now)) result }
 {
@@ -387,6 +380,7 @@ impl Blocked {
 }
 
 /// Decodes the fields of `Blocked`.
+#[tactic(auto, using(amqp_types::proofs::Judged::refuses_next), unfolding(amqp_values::proofs::OneMethod::read_one_by_one))]
 pub fn parse_blocked(alloc: Global, i: &[u8]) -> Result<(usize, Blocked), ParserError>
     ensures { Parses blocked_method result i.now (judge_method 10 60) }
 {
@@ -397,6 +391,7 @@ pub fn parse_blocked(alloc: Global, i: &[u8]) -> Result<(usize, Blocked), Parser
 }
 
 /// Its ids and fields, in order.
+#[tactic(auto, unfolding(amqp_values::proofs::OneMethod::listed))]
 pub(super) fn blocked_fields(method: &Blocked) -> [Field<'_>; 3]
     ensures { ListsMethod result (blocked_method method.now) }
 {
@@ -408,7 +403,6 @@ pub(super) fn blocked_fields(method: &Blocked) -> [Field<'_>; 3]
 }
 
 /// The size in bytes of the method id and the fields of `Blocked`.
-#[tactic(auto)]
 pub fn size_blocked(method: &Blocked) -> Result<u64, GenError>
     ensures { Measures result (method_size (blocked_method method.now)) }
 {
@@ -416,7 +410,6 @@ pub fn size_blocked(method: &Blocked) -> Result<u64, GenError>
 }
 
 /// Puts the method id and the fields of `Blocked` at a place of a slice, and returns the place after.
-#[tactic(auto)]
 pub fn put_blocked(buf: &mut [u8], at: usize, method: &Blocked) -> usize
     requires { HasRoom buf.old at (method_size (blocked_method method.now)) (method_bytes (blocked_method method.now)) }
     ensures { Puts buf.old buf.new at (method_bytes (blocked_method method.now)) result }
@@ -425,7 +418,6 @@ pub fn put_blocked(buf: &mut [u8], at: usize, method: &Blocked) -> usize
 }
 
 /// Appends the method id and the fields of `Blocked` to a vector.
-#[tactic(auto)]
 pub fn gen_blocked(_alloc: Global, out: &mut Vec<u8>, method: &Blocked) -> Result<(), GenError>
     ensures { Appends out.old.items out.new.items (method_size (blocked_method method.now)) (method_bytes (blocked_method method.now)) result }
 {
@@ -453,6 +445,7 @@ impl Unblocked {
 }
 
 /// Decodes the fields of `Unblocked`.
+#[tactic(auto, using(amqp_types::proofs::Judged::refuses_next), unfolding(amqp_values::proofs::OneMethod::read_one_by_one))]
 pub fn parse_unblocked(_alloc: Global, i: &[u8]) -> Result<(usize, Unblocked), ParserError>
     ensures parsed { Parses unblocked_method result i.now (judge_method 10 61) }
     ensures memory { NeedsNoMemory result }
@@ -462,6 +455,7 @@ pub fn parse_unblocked(_alloc: Global, i: &[u8]) -> Result<(usize, Unblocked), P
 }
 
 /// Its ids and fields, in order.
+#[tactic(auto, unfolding(amqp_values::proofs::OneMethod::listed))]
 pub(super) fn unblocked_fields(_method: &Unblocked) -> [Field<'_>; 2]
     ensures { ListsMethod result (unblocked_method _method.now) }
 {
@@ -469,7 +463,6 @@ pub(super) fn unblocked_fields(_method: &Unblocked) -> [Field<'_>; 2]
 }
 
 /// The size in bytes of the method id and the fields of `Unblocked`.
-#[tactic(auto)]
 pub fn size_unblocked(method: &Unblocked) -> Result<u64, GenError>
     ensures { Measures result (method_size (unblocked_method method.now)) }
 {
@@ -477,7 +470,6 @@ pub fn size_unblocked(method: &Unblocked) -> Result<u64, GenError>
 }
 
 /// Puts the method id and the fields of `Unblocked` at a place of a slice, and returns the place after.
-#[tactic(auto)]
 pub fn put_unblocked(buf: &mut [u8], at: usize, method: &Unblocked) -> usize
     requires { HasRoom buf.old at (method_size (unblocked_method method.now)) (method_bytes (unblocked_method method.now)) }
     ensures { Puts buf.old buf.new at (method_bytes (unblocked_method method.now)) result }
@@ -486,7 +478,6 @@ pub fn put_unblocked(buf: &mut [u8], at: usize, method: &Unblocked) -> usize
 }
 
 /// Appends the method id and the fields of `Unblocked` to a vector.
-#[tactic(auto)]
 pub fn gen_unblocked(_alloc: Global, out: &mut Vec<u8>, method: &Unblocked) -> Result<(), GenError>
     ensures { Appends out.old.items out.new.items (method_size (unblocked_method method.now)) (method_bytes (unblocked_method method.now)) result }
 {
@@ -540,17 +531,18 @@ impl UpdateSecret {
 }
 
 /// Decodes the fields of `UpdateSecret`.
+#[tactic(auto, using(amqp_types::proofs::Judged::refuses_next), unfolding(amqp_values::proofs::OneMethod::read_at_once))]
 pub fn parse_update_secret(alloc: Global, i: &[u8]) -> Result<(usize, UpdateSecret), ParserError>
     ensures { Parses update_secret_method result i.now (judge_method 10 70) }
 {
     let mut slots = SlotReader::new(i);
-    let new_secret = slots.long_string(alloc)?;
-    let reason = slots.short_string(alloc)?;
+    let (new_secret, reason) = slots.read(alloc)?;
     let method = UpdateSecret { new_secret, reason };
     Ok((slots.used(i), method))
 }
 
 /// Its ids and fields, in order.
+#[tactic(auto, unfolding(amqp_values::proofs::OneMethod::listed))]
 pub(super) fn update_secret_fields(method: &UpdateSecret) -> [Field<'_>; 4]
     ensures { ListsMethod result (update_secret_method method.now) }
 {
@@ -563,7 +555,6 @@ pub(super) fn update_secret_fields(method: &UpdateSecret) -> [Field<'_>; 4]
 }
 
 /// The size in bytes of the method id and the fields of `UpdateSecret`.
-#[tactic(auto)]
 pub fn size_update_secret(method: &UpdateSecret) -> Result<u64, GenError>
     ensures { Measures result (method_size (update_secret_method method.now)) }
 {
@@ -571,7 +562,6 @@ pub fn size_update_secret(method: &UpdateSecret) -> Result<u64, GenError>
 }
 
 /// Puts the method id and the fields of `UpdateSecret` at a place of a slice, and returns the place after.
-#[tactic(auto)]
 pub fn put_update_secret(buf: &mut [u8], at: usize, method: &UpdateSecret) -> usize
     requires { HasRoom buf.old at (method_size (update_secret_method method.now)) (method_bytes (update_secret_method method.now)) }
     ensures { Puts buf.old buf.new at (method_bytes (update_secret_method method.now)) result }
@@ -580,7 +570,6 @@ pub fn put_update_secret(buf: &mut [u8], at: usize, method: &UpdateSecret) -> us
 }
 
 /// Appends the method id and the fields of `UpdateSecret` to a vector.
-#[tactic(auto)]
 pub fn gen_update_secret(
     _alloc: Global,
     out: &mut Vec<u8>,
@@ -612,6 +601,7 @@ impl UpdateSecretOk {
 }
 
 /// Decodes the fields of `UpdateSecretOk`.
+#[tactic(auto, using(amqp_types::proofs::Judged::refuses_next), unfolding(amqp_values::proofs::OneMethod::read_one_by_one))]
 pub fn parse_update_secret_ok(
     _alloc: Global,
     i: &[u8],
@@ -624,6 +614,7 @@ pub fn parse_update_secret_ok(
 }
 
 /// Its ids and fields, in order.
+#[tactic(auto, unfolding(amqp_values::proofs::OneMethod::listed))]
 pub(super) fn update_secret_ok_fields(_method: &UpdateSecretOk) -> [Field<'_>; 2]
     ensures { ListsMethod result (update_secret_ok_method _method.now) }
 {
@@ -631,7 +622,6 @@ pub(super) fn update_secret_ok_fields(_method: &UpdateSecretOk) -> [Field<'_>; 2
 }
 
 /// The size in bytes of the method id and the fields of `UpdateSecretOk`.
-#[tactic(auto)]
 pub fn size_update_secret_ok(method: &UpdateSecretOk) -> Result<u64, GenError>
     ensures { Measures result (method_size (update_secret_ok_method method.now)) }
 {
@@ -639,7 +629,6 @@ pub fn size_update_secret_ok(method: &UpdateSecretOk) -> Result<u64, GenError>
 }
 
 /// Puts the method id and the fields of `UpdateSecretOk` at a place of a slice, and returns the place after.
-#[tactic(auto)]
 pub fn put_update_secret_ok(buf: &mut [u8], at: usize, method: &UpdateSecretOk) -> usize
     requires { HasRoom buf.old at (method_size (update_secret_ok_method method.now)) (method_bytes (update_secret_ok_method method.now)) }
     ensures { Puts buf.old buf.new at (method_bytes (update_secret_ok_method method.now)) result }
@@ -648,7 +637,6 @@ pub fn put_update_secret_ok(buf: &mut [u8], at: usize, method: &UpdateSecretOk) 
 }
 
 /// Appends the method id and the fields of `UpdateSecretOk` to a vector.
-#[tactic(auto)]
 pub fn gen_update_secret_ok(
     _alloc: Global,
     out: &mut Vec<u8>,

@@ -18,13 +18,13 @@ pub method_in-requires : goal.method_in-requires
 method_in-requires c =
     let P : AMQPFrameType → Type 0 = λ k. IsOk (whole_as k c.args.channel c.args.payload.now) in
     let one = ok_is (whole_as kinds.Method c.args.channel c.args.payload.now) (subst P c.in-Method.is c.requires.whole) in
-    method_long c.args.channel c.args.payload.now one.0 (λ k. omega (arith, c.type_inv.payload k)) one.1
+    method_long c.args.channel c.args.payload.now one.0 one.1
 
 pub header_in-requires : goal.header_in-requires
 header_in-requires c =
     let P : AMQPFrameType → Type 0 = λ k. IsOk (whole_as k c.args.channel c.args.payload.now) in
     let one = ok_is (whole_as kinds.Header c.args.channel c.args.payload.now) (subst P c.in-Header.is c.requires.whole) in
-    header_long c.args.channel c.args.payload.now one.0 (λ k. omega (arith, c.type_inv.payload k)) one.1
+    header_long c.args.channel c.args.payload.now one.0 one.1
 
 pub returns-in-ProtocolHeader-clause-same : goal.returns-in-ProtocolHeader-clause-same
 returns-in-ProtocolHeader-clause-same c = ap (λ (r : Raw). whole r) c.version_in.ensures ∙ version_any 0 c.args.channel c.args.payload.now ∙ sym (ap (λ k. whole_as k c.args.channel c.args.payload.now) c.in-ProtocolHeader.is)

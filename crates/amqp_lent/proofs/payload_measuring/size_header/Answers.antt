@@ -1,8 +1,8 @@
 -- `size_header`: clauses `size` and `few`, what calls require and that no place or sum is out of range.
 use Rattle.std.proofs.Common.{length, ap, arith}
 use Rattle.amqp_wire.proofs.Rewritten.{header_shorter}
-use Rattle.amqp_lent.specs.Payloads.{header_payload}
-use Rattle.amqp_lent.proofs.Parts.{header_fits, header_parts}
+use Rattle.amqp_canonical.specs.Payloads.{header_payload}
+use Rattle.amqp_canonical.proofs.GivenParts.{header_fits, header_parts}
 use Rattle.amqp_lent.proofs.payload_measuring.size_header.Goals as goal
 
 pub size_properties-requires : goal.size_properties-requires

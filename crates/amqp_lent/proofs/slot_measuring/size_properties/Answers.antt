@@ -4,7 +4,7 @@ use Rattle.amqp_types.specs.Properties.{properties}
 use Rattle.amqp_types.specs.PropertyJudging.{judge_set}
 use Rattle.amqp_canonical.specs.Writes.{IsRead}
 use Rattle.amqp_canonical.proofs.PayloadParts.{properties_put, short_is}
-use Rattle.amqp_lent.proofs.Parts.{mask_read}
+use Rattle.amqp_canonical.proofs.GivenParts.{mask_read}
 use Rattle.amqp_lent.proofs.Rereading.{never_refused}
 use Rattle.amqp_lent.proofs.slot_measuring.size_properties.Goals as goal
 

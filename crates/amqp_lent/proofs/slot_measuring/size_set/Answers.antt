@@ -1,8 +1,8 @@
 -- `size_set`: what it ensures, what loops keep, what calls require and that no place or sum is out of range.
 use Rattle.std.proofs.Common.{refl, ◌+◌, ℕ, List, get_or, sym, ap, subst, ◌∙◌, arith}
 use Rattle.amqp_types.specs.SlotJudging.{judge_form}
-use Rattle.amqp_canonical.specs.declared.shapes.Shape.{Shape}
-use Rattle.amqp_canonical.specs.declared.shapes.Shape.TheVariants as shapes
+use Rattle.amqp_canonical.specs.declared.shapes.Form.{Form}
+use Rattle.amqp_canonical.specs.declared.shapes.Form.TheVariants as forms
 use Rattle.amqp_canonical.specs.Shapes.{form_of, property_of}
 use Rattle.amqp_canonical.proofs.PayloadParts.{properties_all, property_from}
 use Rattle.amqp_lent.proofs.SlotsSized.{SetSized, property_missing, property_sized, set_sized_end, set_sized_none}
@@ -17,7 +17,7 @@ pub size_form-total-requires : goal.size_form-total-requires
 size_form-total-requires c =
     let l = c.loop-shape in
     let ps = c.property_shapes-shapes.result.now in
-    let other : ℕ × Shape = (0, shapes.Octet) in
+    let other : ℕ × Form = (0, forms.Octet) in
     let shape = get_or ps l.shape-index other in
     let p = property_of shape in
     let is = property_from ps l.shape-index other c.property_shapes-shapes.ensures c.loop-shape-test.true in
@@ -28,7 +28,7 @@ pub overflow_add-total : goal.overflow_add-total
 overflow_add-total c =
     let l = c.loop-shape in
     let ps = c.property_shapes-shapes.result.now in
-    let other : ℕ × Shape = (0, shapes.Octet) in
+    let other : ℕ × Form = (0, forms.Octet) in
     let shape = get_or ps l.shape-index other in
     let p = property_of shape in
     let is = property_from ps l.shape-index other c.property_shapes-shapes.ensures c.loop-shape-test.true in
@@ -39,14 +39,14 @@ pub loop-shape-preserved : goal.loop-shape-preserved
 loop-shape-preserved c =
     let l = c.loop-shape in
     let ps = c.property_shapes-shapes.result.now in
-    let other : ℕ × Shape = (0, shapes.Octet) in
+    let other : ℕ × Form = (0, forms.Octet) in
     let shape = get_or ps l.shape-index other in
     let p = property_of shape in
     let is = property_from ps l.shape-index other c.property_shapes-shapes.ensures c.loop-shape-test.true in
     let P : List ℕ → Type 0 = λ rest. SetSized c.args.mask c.args.i.now rest (l.shape-index + 1) c.if-has_bit.total in
     elim c.if-has_bit.branch [
       | then-has_bit w ↦
-          let here = property_sized c.args.mask p c.args.i.now l.rest.now l.shape-index w.slot_size.result l.total is (sym c.has_bit.ensures ∙ w.if-has_bit.true) w.slot_size.ensures.used l.invariant in
+          let here = property_sized c.args.mask p c.args.i.now l.rest.now l.shape-index w.form_size.result l.total is (sym c.has_bit.ensures ∙ w.if-has_bit.true) w.form_size.ensures.used l.invariant in
           let next = here.next w.size_form-total.result w.size_form-total.ensures in
           subst P (sym w.bytes_from-rest.ensures ∙ sym (ap (λ r. r.now) w.rest-is)) (rw w.total-is next)
       | else-has_bit w ↦

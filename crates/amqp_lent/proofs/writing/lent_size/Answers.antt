@@ -6,7 +6,7 @@ use Rattle.amqp_canonical.specs.Writes.{canonical_of}
 use Rattle.amqp_wire.proofs.Sizes.{framed_length}
 use Rattle.amqp_lent.specs.declared.frame.LentFrame.{LentFrame}
 use Rattle.amqp_lent.specs.Frames.{IsFrame, StandsFor, payload_of}
-use Rattle.amqp_lent.specs.Payloads.{header_payload, method_payload}
+use Rattle.amqp_canonical.specs.Payloads.{header_payload, method_payload}
 use Rattle.amqp_lent.proofs.Standing.{beat_canon, body_canon, header_canon, method_canon, version_canon}
 use Rattle.amqp_lent.proofs.writing.lent_size.Goals as goal
 

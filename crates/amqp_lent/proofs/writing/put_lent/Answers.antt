@@ -2,7 +2,7 @@
 use Rattle.std.proofs.Common.{◌<◌, ◌^◌, length, ap, subst, ◌∙◌, arith}
 use Rattle.amqp_lent.specs.declared.frame.LentFrame.{LentFrame}
 use Rattle.amqp_lent.specs.Frames.{StandsFor, payload_of}
-use Rattle.amqp_lent.specs.Payloads.{header_payload, method_payload}
+use Rattle.amqp_canonical.specs.Payloads.{header_payload, method_payload}
 use Rattle.amqp_lent.proofs.Standing.{beat_canon, body_canon, header_canon, method_canon, version_canon}
 use Rattle.amqp_canonical.proofs.PutParts.{puts_as}
 use Rattle.amqp_lent.proofs.writing.put_lent.Goals as goal

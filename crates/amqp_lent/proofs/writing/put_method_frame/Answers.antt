@@ -5,8 +5,8 @@ use Rattle.amqp_types.proofs.Puts.{puts-length}
 use Rattle.amqp_canonical.specs.Writes.{canonical_of}
 use Rattle.amqp_wire.proofs.Rewritten.{method_shorter}
 use Rattle.amqp_wire.proofs.Sizes.{framed_length}
-use Rattle.amqp_lent.specs.Payloads.{method_payload}
-use Rattle.amqp_lent.proofs.Parts.{method_fits}
+use Rattle.amqp_canonical.specs.Payloads.{method_payload}
+use Rattle.amqp_canonical.proofs.GivenParts.{method_fits}
 use Rattle.amqp_lent.proofs.writing.put_method_frame.Goals as goal
 
 pub put_around-requires-clause-few : goal.put_around-requires-clause-few

@@ -11,7 +11,7 @@ pub values_in-returns-in-Err : goal.values_in-returns-in-Err
 values_in-returns-in-Err t c =
     let l = c.loop-at in
     let all = c.args.content.now in
-    refused_at (judge_value c.args.room) (λ xs. l.array ++ xs) c.in-Err.error _ (drop l.at all) _ (omega (arith, length-drop l.at all)) c.inside.ensures
+    refused_at (judge_value c.args.depth_left) (λ xs. l.array ++ xs) c.in-Err.error _ (drop l.at all) _ (omega (arith, length-drop l.at all)) c.inside.ensures
     (rw take_rest at c.in-Err.ensures.judged) l.invariant.1
 
 pub values_in-loop-at-preserved : goal.values_in-loop-at-preserved
@@ -22,19 +22,19 @@ values_in-loop-at-preserved t c =
     let v = value_of c.in-Ok.found.1 in
     let used = c.in-Ok.ensures.used in
     let fits : n ≤ length (drop l.at all) = rw take_rest at used.1 in
-    let next = goes_on (judge_value c.args.room) l.array v n (drop l.at all) _ (omega (arith, length-drop l.at all)) (rw take_rest at c.in-Ok.ensures.judged) used.0 fits l.invariant.1 in
+    let next = goes_on (judge_value c.args.depth_left) l.array v n (drop l.at all) _ (omega (arith, length-drop l.at all)) (rw take_rest at c.in-Ok.ensures.judged) used.0 fits l.invariant.1 in
     (omega (arith, fits, length-drop l.at all), rw (c.in_ok-push.ensures.ok, ← drop-drop n l.at all) next)
 
 pub values_in-returns : goal.values_in-returns
 values_in-returns t c =
     let l = c.loop-at in
-    ends (judge_value c.args.room) (λ xs. l.array ++ xs) l.at c.args.content.now _ c.loop-at-test.false l.invariant.1 ∙ ap Ok (append-nil l.array)
+    ends (judge_value c.args.depth_left) (λ xs. l.array ++ xs) l.at c.args.content.now _ c.loop-at-test.false l.invariant.1 ∙ ap Ok (append-nil l.array)
 
 pub entries_in-returns-in-Err : goal.entries_in-returns-in-Err
 entries_in-returns-in-Err t c =
     let l = c.loop-at in
     let all = c.args.content.now in
-    refused_at (judge_entry (judge_value c.args.room)) (settled_on l.table) c.in-Err.error _ (drop l.at all) _ (omega (arith, length-drop l.at all)) c.inside.ensures
+    refused_at (judge_entry (judge_value c.args.depth_left)) (settled_on l.table) c.in-Err.error _ (drop l.at all) _ (omega (arith, length-drop l.at all)) c.inside.ensures
     (rw take_rest at c.in-Err.ensures.judged) l.invariant.1
 
 pub entries_in-loop-at-preserved : goal.entries_in-loop-at-preserved
@@ -45,10 +45,10 @@ entries_in-loop-at-preserved t c =
     let e = entry_of c.in-Ok.found.1 in
     let used = c.in-Ok.ensures.used in
     let fits : n ≤ length (drop l.at all) = rw take_rest at used.1 in
-    let next = goes_on_settled (judge_entry (judge_value c.args.room)) l.table e n (drop l.at all) _ (omega (arith, length-drop l.at all)) (rw take_rest at c.in-Ok.ensures.judged) used.0 fits l.invariant.1 in
+    let next = goes_on_settled (judge_entry (judge_value c.args.depth_left)) l.table e n (drop l.at all) _ (omega (arith, length-drop l.at all)) (rw take_rest at c.in-Ok.ensures.judged) used.0 fits l.invariant.1 in
     (omega (arith, fits, length-drop l.at all), rw (c.in_ok-insert.ensures.ok, ← drop-drop n l.at all) next)
 
 pub entries_in-returns : goal.entries_in-returns
 entries_in-returns t c =
     let l = c.loop-at in
-    ends (judge_entry (judge_value c.args.room)) (settled_on l.table) l.at c.args.content.now _ c.loop-at-test.false l.invariant.1
+    ends (judge_entry (judge_value c.args.depth_left)) (settled_on l.table) l.at c.args.content.now _ c.loop-at-test.false l.invariant.1

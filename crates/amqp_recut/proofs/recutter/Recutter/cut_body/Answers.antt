@@ -2,7 +2,7 @@
 use Rattle.std.proofs.Common.{length, refl, sym, ap, ◌∙◌}
 use Rattle.amqp_wire.specs.declared.outline.FrameOutline.TheVariants as outlines
 use Rattle.amqp_turns.specs.Steps.{mark_after}
-use Rattle.amqp_recut.specs.InTurn.{greatest}
+use Rattle.amqp_turns.specs.InTurn.{greatest}
 use Rattle.amqp_recut.proofs.Stepping.{body_refused}
 use Rattle.amqp_recut.proofs.recutter.Recutter.cut_body.Goals as goal
 

@@ -2,7 +2,7 @@
 use Rattle.std.proofs.Common.{length, refl, sym, ap, ◌∙◌, arith}
 use Rattle.amqp_wire.specs.Frames.{raw_of}
 use Rattle.amqp_turns.specs.Steps.{mark_after, progress_after}
-use Rattle.amqp_recut.specs.InTurn.{greatest}
+use Rattle.amqp_turns.specs.InTurn.{greatest}
 use Rattle.amqp_recut.proofs.Stepping.{passing, refused_as, typed_passed, typed_part, typed_refused, typed_length}
 use Rattle.amqp_recut.proofs.recutter.Recutter.write_typed.Goals as goal
 

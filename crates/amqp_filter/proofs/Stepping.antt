@@ -1,0 +1,216 @@
+-- What is written for one frame, and what is kept then, by its mark.
+use Rattle.std.proofs.Common.{◌≡◌, ◌≢◌, ℕ, ◌+◌, Bool, true, false, eqb, leb, List, [], ◌∷◌, refl, sym, ap, subst, ◌∙◌, inl, inr, Option, Some, None, Ok, Err}
+use Rattle.std.specs.Prelude.{IsSome}
+use Rattle.std.proofs.lemmas.Bool.{cases_eq, eq-eqb, ne_eqb}
+use Rattle.amqp_types.specs.Methods.{judge_payload}
+use Rattle.amqp_types.specs.ContentHeaders.{judge_content_header}
+use Rattle.amqp_wire.specs.declared.frame_type.AMQPFrameType.{AMQPFrameType}
+use Rattle.amqp_wire.specs.declared.frame_type.AMQPFrameType.TheVariants as kinds
+use Rattle.amqp_wire.specs.declared.outline.FrameOutline.{FrameOutline}
+use Rattle.amqp_wire.specs.declared.outline.FrameOutline.TheVariants as outlines
+use Rattle.amqp_wire.specs.Frames.{Raw, Frame, Proto, Meth, Head, Body, channel_id_of, beat_on}
+use Rattle.amqp_wire.specs.Outlines.{outline_of, outline_front, outline_at}
+use Rattle.amqp_wire.specs.Verdicts.{whole, whole_as, all_of}
+use Rattle.amqp_wire.proofs.Encoded.{read_as}
+use Rattle.amqp_turns.specs.declared.fault.ContentFault.{ContentFault}
+use Rattle.amqp_turns.specs.declared.mark.Mark.{Mark}
+use Rattle.amqp_turns.specs.declared.mark.Mark.TheVariants as marks
+use Rattle.amqp_turns.specs.declared.progress.Progress.{Progress}
+use Rattle.amqp_turns.specs.declared.progress.Progress.TheVariants as progresses
+use Rattle.amqp_turns.specs.Units.{is_content, is_opening_id}
+use Rattle.amqp_turns.specs.Steps.{mark_after, progress_after, progress_marked, header_mark, method_mark, body_mark}
+use Rattle.amqp_select.specs.Matching.{decides}
+use Rattle.amqp_filter.specs.declared.errors.Refusal.TheVariants as refusals
+use Rattle.amqp_filter.specs.declared.messages.Open.{Open}
+use Rattle.amqp_filter.specs.declared.message_filter.MessageFilter.{MessageFilter}
+use Rattle.amqp_turns.specs.InTurn.{greatest}
+use Rattle.amqp_filter.specs.Held.{progress_in, kept_in, held_with}
+use Rattle.amqp_filter.specs.Stepping.{given, held_more, mark_held, held_at, with_held, step_marked, step_filtering, StepsTo}
+use Rattle.amqp_turns.proofs.Holding.{set_at-same}
+use Rattle.amqp_filter.proofs.Channels.{passed_mark}
+
+-- ---- the channel of a frame
+
+-- a frame is on the channel that stands before its payload, or outside of all content
+data IsPlaced (channel : ℕ) (frame : Frame) : Type 0 where
+  here : channel_id_of frame ≡ channel → IsPlaced channel frame
+  outside : is_content (outline_of frame) ≡ false → IsPlaced channel frame
+
+proto_placed : (channel : ℕ) (payload : List ℕ) (frame : Frame) → whole_as kinds.ProtocolHeader channel payload ≡ Ok frame → IsPlaced channel frame
+unfolding whole_as
+proto_placed channel [] frame h = absurd cc
+proto_placed channel (a ∷ []) frame h = absurd cc
+proto_placed channel (a ∷ b ∷ []) frame h = absurd cc
+proto_placed channel (a ∷ b ∷ c ∷ []) frame h =
+    let is : Proto a b c ≡ frame = cc in
+    outside (ap (λ f. is_content (outline_of f)) (sym is))
+proto_placed channel (a ∷ b ∷ c ∷ d ∷ more) frame h = absurd cc
+
+beat_outside : (channel : ℕ) → is_content (outline_of (beat_on channel)) ≡ false
+beat_outside channel = elim (cases_eq channel 0) [
+  | inl none ↦ rw (eq-eqb channel 0 none) refl
+  | inr some ↦ rw (ne_eqb channel 0 some) refl
+]
+
+placed_as : (kind : AMQPFrameType) (channel : ℕ) (payload : List ℕ) (frame : Frame) → whole_as kind channel payload ≡ Ok frame → IsPlaced channel frame
+unfolding whole_as
+placed_as kinds.ProtocolHeader channel payload frame h = proto_placed channel payload frame h
+placed_as kinds.Method channel payload frame h = let read = read_as (λ x. Meth channel x) (all_of judge_payload payload) frame h in here (ap channel_id_of (sym read.2))
+placed_as kinds.Header channel payload frame h = let read = read_as (λ x. Head channel x) (all_of judge_content_header payload) frame h in here (ap channel_id_of (sym read.2))
+placed_as kinds.Body channel payload frame h = let is : Body channel payload ≡ frame = cc in here (ap channel_id_of (sym is))
+placed_as kinds.Heartbeat channel payload frame h = let is : beat_on channel ≡ frame = cc in outside (ap (λ f. is_content (outline_of f)) (sym is) ∙ beat_outside channel)
+
+placed : (raw : Raw) (frame : Frame) → whole raw ≡ Ok frame → IsPlaced raw.channel frame
+placed raw frame h = placed_as raw.kind raw.channel raw.payload frame h
+
+-- ---- marks, by the outline that stands in the payload
+
+-- the outline is that of the frame, where the payload is one
+abbrev pub IsOutlineOf : Raw → FrameOutline → Type 0
+IsOutlineOf raw outline = (frame : Frame) → whole raw ≡ Ok frame → Some outline ≡ Some (outline_of frame)
+
+same_outline : (outline other : FrameOutline) → Some outline ≡ Some other → outline ≡ other
+same_outline outline other e = cc
+
+-- the mark by what is kept of the channel that stands before the payload
+abbrev pub mark_raw : MessageFilter → Raw → FrameOutline → Mark
+mark_raw s raw outline = mark_after greatest (progress_in (held_at s raw.channel)) outline
+
+abbrev pub progress_raw : MessageFilter → Raw → FrameOutline → Option Progress
+progress_raw s raw outline = progress_after greatest (progress_in (held_at s raw.channel)) outline
+
+-- it is that of the frame
+marked_by : (s : MessageFilter) (raw : Raw) (outline : FrameOutline) (mark : Mark) (frame : Frame) → IsOutlineOf raw outline → mark ≡ mark_raw s raw outline → whole raw ≡ Ok frame → mark_held (held_at s (channel_id_of frame)) frame ≡ mark
+marked_by s raw outline mark frame is e h = by_place (placed raw frame h)
+  where
+    same : mark_held (held_at s raw.channel) frame ≡ mark
+    same = ap (mark_after greatest (progress_in (held_at s raw.channel))) (sym (same_outline outline (outline_of frame) (is frame h))) ∙ sym e
+
+    by_place : IsPlaced raw.channel frame → mark_held (held_at s (channel_id_of frame)) frame ≡ mark
+    by_place (here channel) = ap (λ c. mark_held (held_at s c) frame) channel ∙ same
+    by_place (outside content) = passed_mark (held_at s (channel_id_of frame)) frame content ∙ sym (passed_mark (held_at s raw.channel) frame content) ∙ same
+
+-- a frame that is not passed is on that channel
+channel_by : (s : MessageFilter) (raw : Raw) (mark : Mark) (frame : Frame) → mark_held (held_at s (channel_id_of frame)) frame ≡ mark → mark ≢ marks.Passed → whole raw ≡ Ok frame → channel_id_of frame ≡ raw.channel
+channel_by s raw mark frame e other h = by_place (placed raw frame h)
+  where
+    by_place : IsPlaced raw.channel frame → channel_id_of frame ≡ raw.channel
+    by_place (here channel) = channel
+    by_place (outside content) = absurd (other (sym e ∙ passed_mark (held_at s (channel_id_of frame)) frame content))
+
+-- ---- steps by marks
+
+pub refused_steps : (s : MessageFilter) (raw : Raw) (outline : FrameOutline) (bad : ContentFault) → IsOutlineOf raw outline → marks.Fault bad ≡ mark_raw s raw outline → (frame : Frame) → whole raw ≡ Ok frame → step_filtering s frame ≡ Err (refusals.BadContent bad)
+refused_steps s raw outline bad is e frame h = ap (step_marked s (held_at s (channel_id_of frame)) frame) (marked_by s raw outline (marks.Fault bad) frame is e h)
+
+pub passed_steps : (s : MessageFilter) (raw : Raw) (outline : FrameOutline) → IsOutlineOf raw outline → marks.Passed ≡ mark_raw s raw outline → StepsTo s s raw (decides s.rules.now outline)
+passed_steps s raw outline is e frame h =
+    let channel = channel_id_of frame in
+    let held = held_at s channel in
+    let mark = marked_by s raw outline marks.Passed frame is e h in
+    let same = same_outline outline (outline_of frame) (is frame h) in
+    ap (step_marked s held frame) mark
+    ∙ ap (λ m. Ok (given (decides s.rules.now (outline_of frame)) frame, record s { messages = m })) (sym (set_at-same s.messages channel))
+    ∙ ap (λ o. Ok (given (decides s.rules.now o) frame, s)) (sym same)
+
+pub opening_steps : (s : MessageFilter) (raw : Raw) (outline : FrameOutline) → IsOutlineOf raw outline → marks.Opening ≡ mark_raw s raw outline → StepsTo s (with_held s raw.channel (held_with (Some progresses.Opened) (decides s.rules.now outline))) raw (decides s.rules.now outline)
+opening_steps s raw outline is e frame h =
+    let held = held_at s (channel_id_of frame) in
+    let mark = marked_by s raw outline marks.Opening frame is e h in
+    let channel = channel_by s raw marks.Opening frame mark (λ same. absurd cc) h in
+    let same = same_outline outline (outline_of frame) (is frame h) in
+    ap (step_marked s held frame) mark
+    ∙ ap (λ p. Ok (given (decides s.rules.now (outline_of frame)) frame, with_held s (channel_id_of frame) (held_with p (decides s.rules.now (outline_of frame))))) (ap (progress_marked (progress_in held) (outline_of frame)) mark)
+    ∙ ap (λ c. Ok (given (decides s.rules.now (outline_of frame)) frame, with_held s c (held_with (Some progresses.Opened) (decides s.rules.now (outline_of frame))))) channel
+    ∙ ap (λ o. Ok (given (decides s.rules.now o) frame, with_held s raw.channel (held_with (Some progresses.Opened) (decides s.rules.now o)))) (sym same)
+
+-- a content header or a body in a message
+abbrev pub IsWithin : Mark → Type 0
+IsWithin marks.Header = Unit {0}
+IsWithin (marks.Body before after size) = Unit {0}
+IsWithin marks.Passed = ⊥
+IsWithin marks.Opening = ⊥
+IsWithin (marks.Fault bad) = ⊥
+
+within_other : (mark : Mark) → IsWithin mark → mark ≢ marks.Passed
+within_other marks.Header within e = absurd cc
+within_other (marks.Body before after size) within e = absurd cc
+within_other marks.Passed within e = absurd within
+within_other marks.Opening within e = absurd within
+within_other (marks.Fault bad) within e = absurd within
+
+within_step : (s : MessageFilter) (held : Option Open) (frame : Frame) (mark : Mark) → IsWithin mark → step_marked s held frame mark ≡ Ok (given (kept_in held) frame, with_held s (channel_id_of frame) (held_more (kept_in held) held frame))
+within_step s held frame marks.Header within = refl
+within_step s held frame (marks.Body before after size) within = refl
+within_step s held frame marks.Passed within = absurd within
+within_step s held frame marks.Opening within = absurd within
+within_step s held frame (marks.Fault bad) within = absurd within
+
+pub within_steps : (s : MessageFilter) (raw : Raw) (outline : FrameOutline) (mark : Mark) (progress : Option Progress) (kept : Bool) → IsOutlineOf raw outline → IsWithin mark → mark ≡ mark_raw s raw outline → progress ≡ progress_raw s raw outline → kept ≡ kept_in (held_at s raw.channel) → StepsTo s (with_held s raw.channel (held_with progress kept)) raw kept
+within_steps s raw outline mark progress kept is within e goes k frame h =
+    let marked = marked_by s raw outline mark frame is e h in
+    let channel = channel_by s raw mark frame marked (within_other mark within) h in
+    let same = same_outline outline (outline_of frame) (is frame h) in
+    ap (step_marked s (held_at s (channel_id_of frame)) frame) marked
+    ∙ within_step s (held_at s (channel_id_of frame)) frame mark within
+    ∙ ap (λ c. Ok (given (kept_in (held_at s c)) frame, with_held s c (held_more (kept_in (held_at s c)) (held_at s c) frame))) channel
+    ∙ ap (λ p. Ok (given (kept_in (held_at s raw.channel)) frame, with_held s raw.channel (held_with p (kept_in (held_at s raw.channel))))) (ap (progress_after greatest (progress_in (held_at s raw.channel))) (sym same) ∙ sym goes)
+    ∙ ap (λ b. Ok (given b frame, with_held s raw.channel (held_with progress b))) (sym k)
+
+-- ---- what is kept before a frame with a mark
+
+no_opening_header : (class size : ℕ) (basic fits : Bool) → eqb class 60 ≡ basic → leb size greatest ≡ fits → marks.Opening ≡ header_mark greatest class size → ⊥
+no_opening_header class size false fits basic fit e = let other = rw basic at e in absurd cc
+no_opening_header class size true false basic fit e = let other = rw (basic, fit) at e in absurd cc
+no_opening_header class size true true basic fit e = let other = rw (basic, fit) at e in absurd cc
+
+no_opening_body : (size seen count : ℕ) (fits : Bool) → leb (seen + count) size ≡ fits → marks.Opening ≡ body_mark size seen count → ⊥
+no_opening_body size seen count true fit e = let other = rw fit at e in absurd cc
+no_opening_body size seen count false fit e = let other = rw fit at e in absurd cc
+
+no_opening_within : (progress : Progress) (outline : FrameOutline) → marks.Opening ≡ mark_after greatest (Some progress) outline → ⊥
+no_opening_within progresses.Opened (outlines.Method channel class id) e = absurd cc
+no_opening_within progresses.Opened (outlines.Header channel class size) e = no_opening_header class size (eqb class 60) (leb size greatest) refl refl e
+no_opening_within progresses.Opened (outlines.Body channel count) e = absurd cc
+no_opening_within progresses.Opened outlines.ProtocolHeader e = absurd cc
+no_opening_within progresses.Opened (outlines.Heartbeat channel) e = absurd cc
+no_opening_within (progresses.Headed size seen) (outlines.Method channel class id) e = absurd cc
+no_opening_within (progresses.Headed size seen) (outlines.Header channel class n) e = absurd cc
+no_opening_within (progresses.Headed size seen) (outlines.Body channel count) e = no_opening_body size seen count (leb (seen + count) size) refl e
+no_opening_within (progresses.Headed size seen) outlines.ProtocolHeader e = absurd cc
+no_opening_within (progresses.Headed size seen) (outlines.Heartbeat channel) e = absurd cc
+no_opening_within progresses.Faulted (outlines.Method channel class id) e = absurd cc
+no_opening_within progresses.Faulted (outlines.Header channel class size) e = absurd cc
+no_opening_within progresses.Faulted (outlines.Body channel count) e = absurd cc
+no_opening_within progresses.Faulted outlines.ProtocolHeader e = absurd cc
+no_opening_within progresses.Faulted (outlines.Heartbeat channel) e = absurd cc
+
+pub opening_none : (held : Option Open) (outline : FrameOutline) → marks.Opening ≡ mark_after greatest (progress_in held) outline → held ≡ None
+opening_none None outline e = refl
+opening_none (Some held) outline e = absurd (no_opening_within held.progress outline e)
+
+opening_kind_as : (kind : AMQPFrameType) (channel : ℕ) (payload : List ℕ) → marks.Opening ≡ mark_after greatest None (outline_at kind channel payload) → kind ≡ kinds.Method
+opening_kind_as kinds.Method channel payload e = refl
+opening_kind_as kinds.ProtocolHeader channel payload e = absurd cc
+opening_kind_as kinds.Header channel payload e = absurd cc
+opening_kind_as kinds.Body channel payload e = absurd cc
+opening_kind_as kinds.Heartbeat channel payload e = absurd cc
+
+pub opening_kind : (raw : Raw) (held : Option Open) (outline : FrameOutline) → outline ≡ outline_front raw → marks.Opening ≡ mark_after greatest (progress_in held) outline → raw.kind ≡ kinds.Method
+opening_kind raw held outline is e =
+    opening_kind_as raw.kind raw.channel raw.payload (e ∙ ap (λ k. mark_after greatest (progress_in k) outline) (opening_none held outline e) ∙ ap (mark_after greatest None) is)
+
+no_within_method : (class id : ℕ) (opens : Bool) → is_opening_id class id ≡ opens → IsWithin (method_mark class id) → ⊥
+no_within_method class id true e within = let other = rw e at within in absurd other
+no_within_method class id false e within = let other = rw e at within in absurd other
+
+no_within : (outline : FrameOutline) → IsWithin (mark_after greatest None outline) → ⊥
+no_within (outlines.Method channel class id) within = no_within_method class id (is_opening_id class id) refl within
+no_within (outlines.Header channel class size) within = absurd within
+no_within (outlines.Body channel count) within = absurd within
+no_within outlines.ProtocolHeader within = absurd within
+no_within (outlines.Heartbeat channel) within = absurd within
+
+pub within_there : (held : Option Open) (outline : FrameOutline) (mark : Mark) → IsWithin mark → mark ≡ mark_after greatest (progress_in held) outline → IsSome held
+within_there (Some held) outline mark within e = refl
+within_there None outline mark within e = absurd (no_within outline (subst IsWithin e within))

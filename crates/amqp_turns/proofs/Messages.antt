@@ -1,0 +1,89 @@
+-- The frames of a channel in turn, and the messages that they complete.
+use Rattle.std.proofs.Common.{◌≡◌, ℕ, ◌<◌, ◌≤◌, Bool, true, false, List, [], ◌∷◌, ◌++◌, append-nil, map, refl, ap, subst, ◌∙◌}
+use Rattle.std.specs.List.{AllByRecursion, flat_map}
+use Rattle.std.proofs.lemmas.Bool.{eqb-true}
+use Rattle.std.proofs.lemmas.List.{map-append}
+use Rattle.amqp_wire.specs.Frames.{Frame, Proto, Meth, Head, Body, Beat, BadBeat, channel_id_of}
+use Rattle.amqp_wire.specs.Outlines.{outline_of}
+use Rattle.amqp_turns.specs.Units.{Finished, Full, Begun, Nothing, Opened, Headed, IsOpening, IsBasicHeader, size_in, IsInTurn, is_of_channel, of_channel}
+use Rattle.amqp_turns.specs.Answers.{Answer, Ends, bodies_within, begun_answers, finished_answers}
+use Rattle.amqp_turns.specs.Stands.{State, At}
+use Rattle.amqp_turns.specs.Steps.{step, run_answers}
+use Rattle.amqp_turns.specs.Messages.{Content, content_with}
+use Rattle.amqp_turns.specs.Outcomes.{answer_outcome}
+use Rattle.amqp_turns.specs.Laws.{done_in}
+use Rattle.amqp_turns.specs.InTurn.{greatest}
+use Rattle.amqp_turns.proofs.Running.{opening_step, header_step, turn_runs}
+use Rattle.amqp_turns.proofs.Whole.{done_in-append}
+
+-- ---- all frames of a channel
+
+abbrev pub IsOn : ℕ → Frame → Type 0
+IsOn channel frame = is_of_channel outline_of channel frame ≡ true
+
+pub channel_is : (channel : ℕ) (frame : Frame) → IsOn channel frame → channel_id_of frame ≡ channel
+channel_is channel (Meth other m) h = eqb-true other channel h
+channel_is channel (Head other header) h = eqb-true other channel h
+channel_is channel (Body other content) h = eqb-true other channel h
+channel_is channel (Proto major minor revision) h = absurd cc
+channel_is channel Beat h = absurd cc
+channel_is channel (BadBeat other) h = absurd cc
+
+pub all_on : (channel : ℕ) (frames : List Frame) → AllByRecursion (IsOn channel) (of_channel outline_of channel frames)
+all_on channel [] = tt
+all_on channel (frame ∷ frames) = by_test (is_of_channel outline_of channel frame) refl (all_on channel frames)
+  where
+    by_test : (test : Bool) → is_of_channel outline_of channel frame ≡ test → AllByRecursion (IsOn channel) (of_channel outline_of channel frames) → AllByRecursion (IsOn channel) (of_channel outline_of channel (frame ∷ frames))
+    by_test true e rest =
+        let has : frame ∷ of_channel outline_of channel frames ≡ of_channel outline_of channel (frame ∷ frames) = rw e refl in
+        subst (AllByRecursion (IsOn channel)) has (e, rest)
+    by_test false e rest =
+        let has : of_channel outline_of channel frames ≡ of_channel outline_of channel (frame ∷ frames) = rw e refl in
+        subst (AllByRecursion (IsOn channel)) has rest
+
+pub all_front : {X : Type 0} (P : X → Type 0) (xs ys : List X) → AllByRecursion P (xs ++ ys) → AllByRecursion P xs
+all_front P [] ys h = tt
+all_front P (x ∷ xs) ys h = (h.0, all_front P xs ys h.1)
+
+pub all_back : {X : Type 0} (P : X → Type 0) (xs ys : List X) → AllByRecursion P (xs ++ ys) → AllByRecursion P ys
+all_back P [] ys h = h
+all_back P (x ∷ xs) ys h = all_back P xs ys h.1
+
+-- ---- the first frames of a message
+
+pub opened : (opening : Frame) → IsOpening (outline_of opening) → (step outline_of greatest (At Nothing) opening).1 ≡ At (Opened opening)
+opened opening h = ap (λ (p : Answer Frame × State Frame). p.1) (opening_step outline_of greatest opening (outline_of opening) refl h)
+
+pub headed_by : (opening header : Frame) → IsBasicHeader (outline_of header) → size_in (outline_of header) ≤ greatest → 0 < size_in (outline_of header) → (step outline_of greatest (At (Opened opening)) header).1 ≡ At (Headed opening header [])
+headed_by opening header basic fits some = ap (λ (p : Answer Frame × State Frame). p.1) (header_step outline_of greatest opening header (outline_of header) refl basic fits some)
+
+-- ---- the messages that answers complete
+
+abbrev pub done_by : List (Answer Frame) → List Content
+done_by answers = done_in (map answer_outcome answers)
+
+pub done_by_append : (xs ys : List (Answer Frame)) → done_by (xs ++ ys) ≡ done_by xs ++ done_by ys
+done_by_append xs ys = ap done_in (map-append answer_outcome xs ys) ∙ done_in-append (map answer_outcome xs) (map answer_outcome ys)
+
+held_bodies : (opening header : Frame) (before bodies : List Frame) → done_by (bodies_within opening header before bodies) ≡ []
+held_bodies opening header before [] = refl
+held_bodies opening header before (body ∷ bodies) = held_bodies opening header (before ++ body ∷ []) bodies
+
+held_begun : (begun : Begun Frame) → done_by (begun_answers begun) ≡ []
+held_begun Nothing = refl
+held_begun (Opened opening) = refl
+held_begun (Headed opening header bodies) = held_bodies opening header [] bodies
+
+pub full_done : (opening header : Frame) (bodies : List Frame) (last : Frame) → done_by (finished_answers (Full opening header bodies last)) ≡ content_with (Headed opening header bodies) last ∷ []
+full_done opening header bodies last = done_by_append (begun_answers (Headed opening header bodies)) (Ends (Headed opening header bodies) last ∷ []) ∙ ap (λ cs. cs ++ content_with (Headed opening header bodies) last ∷ []) (held_begun (Headed opening header bodies))
+
+-- the messages of finished units
+abbrev pub done_of : List (Finished Frame) → List Content
+done_of units = done_by (flat_map finished_answers units)
+
+pub turn_done : (xs : List Frame) → (h : IsInTurn outline_of greatest xs) → done_by (run_answers outline_of greatest (At Nothing) xs) ≡ done_of h.units
+turn_done xs h =
+    ap done_by (ap (run_answers outline_of greatest (At Nothing)) h.are ∙ (turn_runs outline_of greatest h.units h.begun h.finished h.is_begun).answers_are)
+    ∙ done_by_append (flat_map finished_answers h.units) (begun_answers h.begun)
+    ∙ ap (λ cs. done_of h.units ++ cs) (held_begun h.begun)
+    ∙ append-nil (done_of h.units)
