@@ -1,0 +1,63 @@
+-- Nodes that are put one after another.
+use Rattle.std.proofs.Common.{◌≡◌, ℕ, zero, suc, ◌+◌, ◌-◌, ◌<◌, ◌≤◌, List, [], ◌∷◌, ◌++◌, length, set, refl, sym, ap, ◌∙◌, arith}
+use Rattle.std.proofs.lemmas.List.{length-append, set_comm}
+use Rattle.amqp_fields.specs.declared.node.Node.{Node}
+use Rattle.amqp_fields.specs.Nodes.{cut, held}
+use Rattle.amqp_fields.specs.Listing.{Listing, listing, pushed, pushed_all, Grows}
+use Rattle.amqp_fields.specs.Listed.{holding, joined}
+
+-- a place behind the end
+pub set_beyond : (xs : List Node) (k : ℕ) (x : Node) → length xs ≤ k → set xs k x ≡ xs
+set_beyond [] k x h = refl
+set_beyond (y ∷ xs) zero x h = absurd (omega arith)
+set_beyond (y ∷ xs) (suc k) x h = ap (λ (ys : List Node). y ∷ ys) (set_beyond xs k x (omega arith))
+
+-- the later of two at one place
+set_twice : (xs : List Node) (k : ℕ) (x y : Node) → set (set xs k x) k y ≡ set xs k y
+set_twice [] k x y = refl
+set_twice (z ∷ xs) zero x y = refl
+set_twice (z ∷ xs) (suc k) x y = ap (λ (ys : List Node). z ∷ ys) (set_twice xs k x y)
+
+-- ---- how many there are, and in which order
+
+pub pushed_count : (s : Listing) (added : List Node) → (pushed_all s added).count ≡ s.count + length added
+unfolding pushed
+pushed_count s [] = omega arith
+pushed_count s (node ∷ added) = omega (arith, pushed_count (pushed s node) added)
+
+pushed_append : (s : Listing) (xs ys : List Node) → pushed_all s (xs ++ ys) ≡ pushed_all (pushed_all s xs) ys
+pushed_append s [] ys = refl
+pushed_append s (x ∷ xs) ys = pushed_append (pushed s x) xs ys
+
+pub grows_none : (s : Listing) → Grows s s []
+grows_none s h = refl
+
+pub grows_more : (s t u : Listing) (xs ys : List Node) → Grows s t xs → Grows t u ys → Grows s u (xs ++ ys)
+grows_more s t u xs ys one two h =
+    let size = length-append xs ys in
+    let first : t ≡ pushed_all s xs = one (omega (arith, size, h)) in
+    let count : t.count ≡ s.count + length xs = ap (λ (l : Listing). l.count) first ∙ pushed_count s xs in
+    let second : u ≡ pushed_all t ys = two (omega (arith, size, h, count)) in
+    second ∙ ap (λ l. pushed_all l ys) first ∙ sym (pushed_append s xs ys)
+
+-- ---- a node that is put in place of an earlier one
+
+replaced : (s : Listing) (place : ℕ) (y : Node) (added : List Node) → place < s.count → listing (set (pushed_all s added).nodes place y) (pushed_all s added).count ≡ pushed_all (listing (set s.nodes place y) s.count) added
+unfolding pushed
+replaced s place y [] h = refl
+replaced s place y (node ∷ added) h =
+    replaced (pushed s node) place y added (omega (arith, h)) ∙ ap (λ (xs : List Node). pushed_all (listing xs (s.count + 1)) added) (set_comm s.nodes s.count place node y (λ e. omega (arith, h, e)))
+
+pub grows_held : (groups : List (List Node)) (count begun total items : ℕ) (node : Node) (a b c d : List Node) → Grows (listing a count) (listing b begun) (node ∷ []) → items ≡ cut (length groups) → Grows (listing b begun) (listing c total) (joined groups)
+    → d ≡ set c count (held node (total - begun) items) → Grows (listing a count) (listing d total) (holding node groups)
+unfolding pushed
+grows_held groups count begun total items node a b c d one number all last h =
+    let first : listing b begun ≡ listing (set a count node) (count + 1) = one (omega (arith, h)) in
+    let start : begun ≡ count + 1 = ap (λ (l : Listing). l.count) first in
+    let second : listing c total ≡ pushed_all (listing b begun) (joined groups) = all (omega (arith, h, start)) in
+    let third : listing c total ≡ pushed_all (listing (set a count node) (count + 1)) (joined groups) = second ∙ ap (λ l. pushed_all l (joined groups)) first in
+    let size : total ≡ begun + length (joined groups) = ap (λ (l : Listing). l.count) second ∙ pushed_count (listing b begun) (joined groups) in
+    let y = held node (length (joined groups)) (cut (length groups)) in
+    let it : held node (total - begun) items ≡ y = ap (λ n. held node n items) {x = total - begun} {y = length (joined groups)} (omega (arith, size)) ∙ ap (held node (length (joined groups))) number in
+    let put : listing d total ≡ listing (set c count y) total = ap (λ xs. listing xs total) (last ∙ ap (set c count) it) in
+    put ∙ ap (λ (l : Listing). listing (set l.nodes count y) l.count) third ∙ replaced (listing (set a count node) (count + 1)) count y (joined groups) (omega arith) ∙ ap (λ (xs : List Node). pushed_all (listing xs (count + 1)) (joined groups)) (set_twice a count node y)

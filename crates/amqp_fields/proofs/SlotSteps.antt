@@ -1,0 +1,126 @@
+-- What fields and properties are listed as, one after another.
+use Rattle.std.proofs.Common.{Bor, ◌≡◌, ℕ, zero, suc, ◌+◌, ◌-◌, ◌<◌, ◌≤◌, Bool, true, false, List, [], ◌∷◌, ◌++◌, length, get_or, drop, map, sym, ap, subst, ◌∙◌, arith}
+use Rattle.amqp_types.specs.Judging.{Judged, Judge, took, past, fault, ◌>>=◌}
+use Rattle.amqp_types.specs.Flags.{bit_of, flag_at, flags_from}
+use Rattle.amqp_types.specs.Numbers.{bytes2, judge_number}
+use Rattle.amqp_types.specs.Properties.{properties}
+use Rattle.amqp_types.specs.Slots.{flags_form}
+use Rattle.amqp_types.specs.SlotJudging.{judge_form}
+use Rattle.amqp_types.specs.Tidiness.{used_by}
+use Rattle.amqp_canonical.specs.declared.shapes.Form.{Form}
+use Rattle.amqp_canonical.specs.declared.shapes.Slot.{Slot}
+use Rattle.amqp_canonical.specs.declared.shapes.Slot.TheVariants as slots
+use Rattle.amqp_canonical.specs.Shapes.{form_of, property_of, slot_of, slots_of}
+use Rattle.amqp_canonical.specs.Writes.{IsRead}
+use Rattle.amqp_fields.specs.declared.node.Node.{Node}
+use Rattle.amqp_fields.specs.declared.listing.Step.{Step}
+use Rattle.amqp_fields.specs.Nodes.{numbered}
+use Rattle.amqp_fields.specs.Listing.{Grows, listing}
+use Rattle.amqp_fields.specs.Listed.{kept_count, listed_bits, listed_form, listed_option, listed_properties, listed_set, listed_slot, listed_slots, next_place, placed}
+use Rattle.amqp_fields.specs.Finding.{Counts, Lists}
+use Rattle.amqp_fields.proofs.Pushing.{grows_more, grows_none}
+
+-- ---- flags
+
+pub no_bits : (place flags k byte count : ℕ) (old : List Node) → flags ≡ 0 → Grows (listing old count) (listing old count) (listed_bits place (flags_from flags k byte))
+no_bits place zero k byte count old h = grows_none (listing old count)
+no_bits place (suc flags) k byte count old h = absurd (omega arith)
+
+pub bits_more : (place next flags k byte count more total : ℕ) (node : Node) (old mid new : List Node) → 0 < flags → node ≡ numbered (placed place (flags_form 1)) (bit_of (flag_at byte k)) → next ≡ next_place place 1 → Grows (listing old count) (listing mid more) (node ∷ [])
+    → Grows (listing mid more) (listing new total) (listed_bits next (flags_from (flags - 1) (k + 1) byte)) → Grows (listing old count) (listing new total) (listed_bits place (flags_from flags k byte))
+bits_more place next zero k byte count more total node old mid new some is e one h = absurd (omega arith)
+bits_more place next (suc flags) k byte count more total node old mid new some is e one h =
+    let P : ℕ → Type 0 = λ p. Grows (listing mid more) (listing new total) (listed_bits p (flags_from (suc flags - 1) (k + 1) byte)) in
+    let Q : ℕ → Type 0 = λ n. Grows (listing mid more) (listing new total) (listed_bits (next_place place 1) (flags_from n (k + 1) byte)) in
+    let R : Node → Type 0 = λ x. Grows (listing old count) (listing mid more) (x ∷ []) in
+    grows_more (listing old count) (listing mid more) (listing new total) (numbered (placed place (flags_form 1)) (bit_of (flag_at byte k)) ∷ []) (listed_bits (next_place place 1) (flags_from flags (k + 1) byte)) (subst R is one) (subst Q {x = suc flags - 1} {y = flags} (omega arith) (subst P e h))
+
+-- ---- one field
+
+dropped : {A : Type 0} (j : Judged A) (old : List Node) (count n : ℕ) → (IsRead j → n ≡ used_by j) → Lists (j >>= λ x. took [] x.1) old count old (record { used = n; count = count })
+dropped (took x used) old count n h = (h tt, grows_none (listing old count))
+dropped past old count n h = tt
+dropped (fault bad) old count n h = tt
+
+pub reserved_listed : (deep : Bool) (end place : ℕ) (slot : Slot) (form : Form) (constant : Bor (List ℕ)) (i : List ℕ) (old : List Node) (count n : ℕ) → slot ≡ slots.Reserved form constant → (IsRead (judge_form (form_of form) i) → n ≡ used_by (judge_form (form_of form) i))
+    → Lists (listed_slot deep end place (slot_of slot) i) old count old (record { used = n; count = count })
+unfolding listed_slot
+reserved_listed deep end place slot form constant i old count n is h =
+    let P : Slot → Type 0 = λ s. Lists (listed_slot deep end place (slot_of s) i) old count old (record { used = n; count = count }) in
+    subst P (sym is) (dropped (judge_form (form_of form) i) old count n h)
+
+pub kept_listed : (deep : Bool) (end place : ℕ) (slot : Slot) (form : Form) (i : List ℕ) (old new : List Node) (count : ℕ) (step : Step) → slot ≡ slots.Kept form → Lists (listed_form deep end place (form_of form) i) old count new step → Lists (listed_slot deep end place (slot_of slot) i) old count new step
+unfolding listed_slot
+kept_listed deep end place slot form i old new count step is h =
+    let P : Slot → Type 0 = λ s. Lists (listed_slot deep end place (slot_of s) i) old count new step in
+    subst P (sym is) h
+
+-- ---- fields, one after another
+
+second : (j : Judged (List Node)) (added : List Node) (used : ℕ) (old mid new : List Node) (count more total : ℕ) → Grows (listing old count) (listing mid more) added → Counts j mid more new total → Counts (j >>= λ y. took (added ++ y.0) (used + y.1)) old count new total
+second (took others n) added used old mid new count more total one h = grows_more (listing old count) (listing mid more) (listing new total) added others one h
+second past added used old mid new count more total one h = tt
+second (fault bad) added used old mid new count more total one h = tt
+
+first : (j : Judged (List Node)) (others : Judge (List Node)) (i rest : List ℕ) (old mid new : List Node) (count total : ℕ) (step : Step) → Lists j old count mid step → rest ≡ drop step.used i → Counts (others rest) mid step.count new total
+    → Counts (j >>= λ x. others (drop x.1 i) >>= λ y. took (x.0 ++ y.0) (x.1 + y.1)) old count new total
+first past others i rest old mid new count total step one e h = tt
+first (fault bad) others i rest old mid new count total step one e h = tt
+first (took added n) others i rest old mid new count total step one e h =
+    let P : List ℕ → Type 0 = λ bytes. Counts (others bytes) mid step.count new total in
+    second (others (drop n i)) added n old mid new count step.count total one.1 (subst P (e ∙ ap (λ k. drop k i) one.0) h)
+
+pub no_slots : (deep : Bool) (end place : ℕ) (shapes : List Slot) (i : List ℕ) (old : List Node) (count : ℕ) → length shapes < 1 → Counts (listed_slots deep end place (slots_of shapes) i) old count old count
+unfolding listed_slots
+no_slots deep end place [] i old count h = grows_none (listing old count)
+no_slots deep end place (shape ∷ shapes) i old count h = absurd (omega arith)
+
+pub slots_listed : (deep : Bool) (end place next : ℕ) (shapes : List Slot) (other : Slot) (i rest : List ℕ) (old mid new : List Node) (count total : ℕ) (step : Step) → 1 ≤ length shapes → Lists (listed_slot deep end place (slot_of (get_or shapes 0 other)) i) old count mid step
+    → next ≡ next_place place (kept_count (slot_of (get_or shapes 0 other))) → rest ≡ drop step.used i → Counts (listed_slots deep end next (slots_of (drop 1 shapes)) rest) mid step.count new total → Counts (listed_slots deep end place (slots_of shapes) i) old count new total
+unfolding listed_slots
+slots_listed deep end place next [] other i rest old mid new count total step some one e behind h = absurd (omega arith)
+slots_listed deep end place next (shape ∷ shapes) other i rest old mid new count total step some one e behind h =
+    let P : ℕ → Type 0 = λ p. Counts (listed_slots deep end p (slots_of shapes) rest) mid step.count new total in
+    first (listed_slot deep end place (slot_of shape) i) (listed_slots deep end (next_place place (kept_count (slot_of shape))) (slots_of shapes)) i rest old mid new count total step one behind (subst P e h)
+
+-- ---- properties
+
+pub no_options : (mask : ℕ) (deep : Bool) (end place : ℕ) (shapes : List (ℕ × Form)) (i : List ℕ) (old : List Node) (count : ℕ) → length shapes < 1 → Counts (listed_set mask deep end place (map property_of shapes) i) old count old count
+unfolding listed_set
+no_options mask deep end place [] i old count h = grows_none (listing old count)
+no_options mask deep end place (shape ∷ shapes) i old count h = absurd (omega arith)
+
+skipped : (j : Judged (List Node)) (old new : List Node) (count total : ℕ) → Counts j old count new total → Counts (j >>= λ y. took ([] ++ y.0) (0 + y.1)) old count new total
+skipped (took added n) old new count total h = h
+skipped past old new count total h = tt
+skipped (fault bad) old new count total h = tt
+
+pub option_past : (mask : ℕ) (deep : Bool) (end place next : ℕ) (shapes : List (ℕ × Form)) (other : ℕ × Form) (i : List ℕ) (old new : List Node) (count total : ℕ) → 1 ≤ length shapes → flag_at mask (get_or shapes 0 other).0 ≡ false → next ≡ next_place place 1
+    → Counts (listed_set mask deep end next (map property_of (drop 1 shapes)) i) old count new total → Counts (listed_set mask deep end place (map property_of shapes) i) old count new total
+unfolding listed_set listed_option
+option_past mask deep end place next [] other i old new count total some off e h = absurd (omega arith)
+option_past mask deep end place next (shape ∷ shapes) other i old new count total some off e h =
+    let P : Bool → Type 0 = λ b. Counts (listed_option b deep end place (form_of shape.1) i >>= λ x. listed_set mask deep end (next_place place 1) (map property_of shapes) (drop x.1 i) >>= λ y. took (x.0 ++ y.0) (x.1 + y.1)) old count new total in
+    let Q : ℕ → Type 0 = λ p. Counts (listed_set mask deep end p (map property_of shapes) i) old count new total in
+    subst P (sym off) (skipped (listed_set mask deep end (next_place place 1) (map property_of shapes) i) old new count total (subst Q e h))
+
+pub option_listed : (mask : ℕ) (deep : Bool) (end place next : ℕ) (shapes : List (ℕ × Form)) (other : ℕ × Form) (i rest : List ℕ) (old mid new : List Node) (count total : ℕ) (step : Step) → 1 ≤ length shapes → flag_at mask (get_or shapes 0 other).0 ≡ true → next ≡ next_place place 1
+    → Lists (listed_form deep end place (form_of (get_or shapes 0 other).1) i) old count mid step → rest ≡ drop step.used i → Counts (listed_set mask deep end next (map property_of (drop 1 shapes)) rest) mid step.count new total → Counts (listed_set mask deep end place (map property_of shapes) i) old count new total
+unfolding listed_set listed_option
+option_listed mask deep end place next [] other i rest old mid new count total step some on e one behind h = absurd (omega arith)
+option_listed mask deep end place next (shape ∷ shapes) other i rest old mid new count total step some on e one behind h =
+    let P : Bool → Type 0 = λ b. Counts (listed_option b deep end place (form_of shape.1) i >>= λ x. listed_set mask deep end (next_place place 1) (map property_of shapes) (drop x.1 i) >>= λ y. took (x.0 ++ y.0) (x.1 + y.1)) old count new total in
+    let Q : ℕ → Type 0 = λ p. Counts (listed_set mask deep end p (map property_of shapes) rest) mid step.count new total in
+    subst P (sym on) (first (listed_form deep end place (form_of shape.1) i) (listed_set mask deep end (next_place place 1) (map property_of shapes)) i rest old mid new count total step one behind (subst Q e h))
+
+counted : (j : Judged (List Node)) (old new : List Node) (n count total : ℕ) → Counts j old count new total → Counts (j >>= λ y. took y.0 (n + y.1)) old count new total
+counted (took added k) old new n count total h = h
+counted past old new n count total h = tt
+counted (fault bad) old new n count total h = tt
+
+pub properties_listed : (deep : Bool) (end : ℕ) (bytes rest : List ℕ) (old new : List Node) (mask count total : ℕ) → judge_number bytes2 bytes ≡ took mask 2 → rest ≡ drop 2 bytes → Counts (listed_set mask deep end 0 properties rest) old count new total → Counts (listed_properties deep end bytes) old count new total
+unfolding listed_properties
+properties_listed deep end bytes rest old new mask count total e is h =
+    let P : Judged ℕ → Type 0 = λ j. Counts (j >>= λ m. listed_set m.0 deep end 0 properties (drop m.1 bytes) >>= λ y. took y.0 (m.1 + y.1)) old count new total in
+    let Q : List ℕ → Type 0 = λ bs. Counts (listed_set mask deep end 0 properties bs) old count new total in
+    subst P (sym e) (counted (listed_set mask deep end 0 properties (drop 2 bytes)) old new 2 count total (subst Q is h))

@@ -1,0 +1,243 @@
+-- What values are listed as, step by step.
+use Rattle.std.proofs.Common.{◌≡◌, ℕ, zero, suc, ◌+◌, ◌-◌, ◌<◌, ◌≤◌, List, [], ◌∷◌, ◌++◌, length, get_or, drop, set, Option, Some, None, Result, Ok, Err, refl, sym, ap, subst, ◌∙◌, append_assoc, append-nil, add-one, arith}
+use Rattle.std.proofs.Math.Seq.{drop-nil}
+use Rattle.std.proofs.lemmas.Bool.Decides.{nat_tests}
+use Rattle.std.proofs.lemmas.List.{length-append, nil_from_length}
+use Rattle.amqp_types.specs.declared.tag.FieldTag.TheVariants as tag
+use Rattle.amqp_types.specs.Judging.{Judged, Judge, Fault, took, past, fault, ◌>>=◌}
+use Rattle.amqp_types.specs.Strings.{judge_short_string, judge_long_string}
+use Rattle.amqp_types.specs.ValueJudging.{filled, next_item, read_map, took_all}
+use Rattle.amqp_types.specs.Tags.{tag_at, tag_byte}
+use Rattle.amqp_types.specs.declared.tag.FieldTag.{FieldTag}
+use Rattle.amqp_canonical.specs.Writes.{IsRead, key_in, after_key}
+use Rattle.amqp_fields.specs.declared.node.Node.{Node}
+use Rattle.amqp_fields.specs.declared.listing.Step.{Step}
+use Rattle.amqp_fields.specs.declared.listing.Filled.{Filled}
+use Rattle.amqp_fields.specs.Nodes.{cut, held, keyed, spanned}
+use Rattle.amqp_fields.specs.Listing.{Grows, listing}
+use Rattle.amqp_fields.specs.Listed.{Lister, end_before, holding, joined, listed_after, listed_array, listed_behind, listed_entry, listed_items, listed_nested, listed_table, listed_tagged, listed_value, of_kind}
+use Rattle.amqp_fields.specs.Finding.{Lists, ListsAll}
+use Rattle.amqp_fields.proofs.Pushing.{grows_held, grows_more, grows_none}
+use Rattle.amqp_fields.proofs.Strings.{IsKey, is_key}
+
+-- where nothing was read, nothing needs to be listed
+pub not_listed : {A : Type 0} (j : Judged A) (f : A × ℕ → Judged (List Node)) (old new : List Node) (count : ℕ) (step : Step) → (IsRead j → ⊥) → Lists (j >>= f) old count new step
+not_listed (took x n) f old new count step h = absurd (h tt)
+not_listed past f old new count step h = tt
+not_listed (fault bad) f old new count step h = tt
+
+pub listed_next : {A : Type 0} (j : Judged A) (f : A × ℕ → Judged (List Node)) (old new : List Node) (count : ℕ) (step : Step) (x : A) (n : ℕ) → j ≡ took x n → Lists (f (x, n)) old count new step → Lists (j >>= f) old count new step
+listed_next j f old new count step x n e h = let P : Judged _ → Type 0 = λ k. Lists (k >>= f) old count new step in subst P (sym e) h
+
+-- ---- room for nesting
+
+pub nested_none : (room : ℕ) → room ≡ 0 → listed_nested room ≡ None
+unfolding listed_nested
+nested_none zero h = refl
+nested_none (suc room) h = absurd (omega arith)
+
+pub nested_more : (room : ℕ) → 0 < room → listed_nested room ≡ Some (listed_value (room - 1))
+unfolding listed_nested listed_value
+nested_more zero h = absurd (omega arith)
+nested_more (suc room) h = ap (λ n. Some (listed_tagged (listed_nested n))) {x = room} {y = suc room - 1} (omega arith)
+
+-- ---- a tag and its value
+
+pub value_none : (room end : ℕ) (label : Node) (i : List ℕ) (old new : List Node) (count : ℕ) (step : Step) → length i < 1 → Lists (listed_value room end label i) old count new step
+unfolding listed_value listed_tagged
+value_none room end label [] old new count step h = tt
+value_none room end label (byte ∷ bytes) old new count step h = absurd (omega arith)
+
+pub value_unknown : (room end : ℕ) (label : Node) (i : List ℕ) (old new : List Node) (count : ℕ) (step : Step) → 1 ≤ length i → tag_at (get_or i 0 0) ≡ None → Lists (listed_value room end label i) old count new step
+unfolding listed_value listed_tagged
+value_unknown room end label [] old new count step h e = tt
+value_unknown room end label (byte ∷ bytes) old new count step h e = let P : Option FieldTag → Type 0 = λ o. Lists (listed_after (listed_nested room) end label o bytes) old count new step in subst P (sym e) tt
+
+with_tag : (j : Judged (List Node)) (used more : ℕ) (old new : List Node) (count : ℕ) → Lists j old count new (record { used = used; count = more }) → Lists (j >>= λ x. took x.0 (1 + x.1)) old count new (record { used = 1 + used; count = more })
+with_tag (took added n) used more old new count h = (ap (λ k. 1 + k) h.0, h.1)
+with_tag past used more old new count h = tt
+with_tag (fault bad) used more old new count h = tt
+
+pub value_listed : (room end : ℕ) (label mark : Node) (i : List ℕ) (t : FieldTag) (old new : List Node) (count : ℕ) (step : Step) → 1 ≤ length i → tag_at (get_or i 0 0) ≡ Some t → mark ≡ of_kind label (tag_byte t) → Lists (listed_behind (listed_nested room) end mark t (drop 1 i)) old count new step
+    → Lists (listed_value room end label i) old count new (record { used = 1 + step.used; count = step.count })
+unfolding listed_value listed_tagged
+value_listed room end label mark [] t old new count step some is e h = tt
+value_listed room end label mark (byte ∷ bytes) t old new count step some is e h =
+    let P : Option FieldTag → Type 0 = λ o. Lists (listed_after (listed_nested room) end label o bytes) old count new (record { used = 1 + step.used; count = step.count }) in
+    let Q : Node → Type 0 = λ m. Lists (listed_behind (listed_nested room) end m t bytes) old count new step in
+    subst P (sym is) (with_tag (listed_behind (listed_nested room) end (of_kind label (tag_byte t)) t bytes) step.used step.count old new count (subst Q e h))
+
+-- no room is left
+pub too_deep_array : (room end : ℕ) (label : Node) (t : FieldTag) (i : List ℕ) (old new : List Node) (count : ℕ) (step : Step) → room ≡ 0 → t ≡ tag.FieldArray → Lists (listed_behind (listed_nested room) end label t i) old count new step
+unfolding listed_behind
+too_deep_array room end label t i old new count step none is =
+    let P : Option Lister → Type 0 = λ o. Lists (listed_behind o end label tag.FieldArray i) old count new step in
+    let Q : FieldTag → Type 0 = λ u. Lists (listed_behind (listed_nested room) end label u i) old count new step in
+    subst Q (sym is) (subst P (sym (nested_none room none)) tt)
+
+pub too_deep_table : (room end : ℕ) (label : Node) (t : FieldTag) (i : List ℕ) (old new : List Node) (count : ℕ) (step : Step) → room ≡ 0 → t ≡ tag.FieldTable → Lists (listed_behind (listed_nested room) end label t i) old count new step
+unfolding listed_behind
+too_deep_table room end label t i old new count step none is =
+    let P : Option Lister → Type 0 = λ o. Lists (listed_behind o end label tag.FieldTable i) old count new step in
+    let Q : FieldTag → Type 0 = λ u. Lists (listed_behind (listed_nested room) end label u i) old count new step in
+    subst Q (sym is) (subst P (sym (nested_none room none)) tt)
+
+pub array_behind : (room end : ℕ) (label : Node) (t : FieldTag) (i : List ℕ) (old new : List Node) (count : ℕ) (step : Step) → 0 < room → t ≡ tag.FieldArray → Lists (listed_array (listed_value (room - 1)) end label i) old count new step → Lists (listed_behind (listed_nested room) end label t i) old count new step
+unfolding listed_behind
+array_behind room end label t i old new count step some is h =
+    let P : Option Lister → Type 0 = λ o. Lists (listed_behind o end label tag.FieldArray i) old count new step in
+    let Q : FieldTag → Type 0 = λ u. Lists (listed_behind (listed_nested room) end label u i) old count new step in
+    subst Q (sym is) (subst P (sym (nested_more room some)) h)
+
+pub table_behind : (room end : ℕ) (label : Node) (t : FieldTag) (i : List ℕ) (old new : List Node) (count : ℕ) (step : Step) → 0 < room → t ≡ tag.FieldTable → Lists (listed_table (listed_value (room - 1)) end label i) old count new step → Lists (listed_behind (listed_nested room) end label t i) old count new step
+unfolding listed_behind
+table_behind room end label t i old new count step some is h =
+    let P : Option Lister → Type 0 = λ o. Lists (listed_behind o end label tag.FieldTable i) old count new step in
+    let Q : FieldTag → Type 0 = λ u. Lists (listed_behind (listed_nested room) end label u i) old count new step in
+    subst Q (sym is) (subst P (sym (nested_more room some)) h)
+
+-- ---- what fills an array or a table
+
+-- the node, what fills it, and then how many that is
+closed : (groups : Result (List (List Node)) Fault) (used count begun : ℕ) (node : Node) (filling : Filled) (a b c d : List Node) → Grows (listing a count) (listing b begun) (node ∷ []) → ListsAll groups b begun c filling → d ≡ set c count (held node (filling.count - begun) filling.items)
+    → Lists (took_all used (read_map (holding node) groups)) a count d (record { used = used; count = filling.count })
+closed (Err bad) used count begun node filling a b c d one all last = tt
+closed (Ok groups) used count begun node filling a b c d one all last = (refl, grows_held groups count begun filling.count filling.items node a b c d one all.0 all.1 last)
+
+pub items_listed : (item : ℕ → Judge (List Node)) (end : ℕ) (label node : Node) (i content rest : List ℕ) (used inner count begun : ℕ) (filling : Filled) (a b c d : List Node) → judge_long_string i ≡ took content used → rest ≡ drop used i → inner ≡ end - length rest → node ≡ spanned label inner content
+    → Grows (listing a count) (listing b begun) (node ∷ []) → ListsAll (filled (item inner) 0 content) b begun c filling → d ≡ set c count (held node (filling.count - begun) filling.items)
+    → Lists (listed_items item end label i) a count d (record { used = used; count = filling.count })
+unfolding listed_items
+items_listed item end label node i content rest used inner count begun filling a b c d is behind place it one all last =
+    let at : inner ≡ end_before end (drop used i) = place ∙ ap (λ (xs : List ℕ). end - length xs) behind in
+    let P : ℕ → Type 0 = λ e. Lists (took_all used (read_map (holding (spanned label e content)) (filled (item e) 0 content))) a count d (record { used = used; count = filling.count }) in
+    let Q : Node → Type 0 = λ x. Lists (took_all used (read_map (holding x) (filled (item inner) 0 content))) a count d (record { used = used; count = filling.count }) in
+    listed_next (judge_long_string i) _ a d count (record { used = used; count = filling.count }) content used is (subst P at (subst Q it (closed (filled (item inner) 0 content) used count begun node filling a b c d one all last)))
+
+pub items_unlisted : (item : ℕ → Judge (List Node)) (end : ℕ) (label : Node) (i : List ℕ) (old new : List Node) (count : ℕ) (step : Step) → (IsRead (judge_long_string i) → ⊥) → Lists (listed_items item end label i) old count new step
+unfolding listed_items
+items_unlisted item end label i old new count step h = not_listed (judge_long_string i) _ old new count step h
+
+-- ---- a key and its value
+
+entry_by : (j : Judged (List Node)) (n used size more : ℕ) (old new : List Node) (count : ℕ) → n ≡ 1 + size → Lists j old count new (record { used = used; count = more }) → Lists (j >>= λ v. took v.0 (n + v.1)) old count new (record { used = 1 + size + used; count = more })
+entry_by past n used size more old new count is h = tt
+entry_by (fault bad) n used size more old new count is h = tt
+entry_by (took added k) n used size more old new count is h = (omega (arith, h.0, is), h.1)
+
+pub entry_listed : (value : Lister) (end at : ℕ) (label : Node) (i key rest : List ℕ) (used more : ℕ) (old new : List Node) (count : ℕ) → key ≡ key_in i → rest ≡ after_key i → at ≡ end - length rest → label ≡ keyed at key
+    → Lists (value end label rest) old count new (record { used = used; count = more }) → Lists (listed_entry value end i) old count new (record { used = 1 + length key + used; count = more })
+unfolding listed_entry
+entry_listed value end at label i key rest used more old new count is behind place it h = by_key (judge_short_string i) (is_key i)
+  where
+    by_key : (j : Judged (List ℕ)) → ((k : List ℕ) (n : ℕ) → j ≡ took k n → IsKey i k n)
+        → Lists (j >>= λ x. value end (keyed (end_before end (drop x.1 i)) x.0) (drop x.1 i) >>= λ v. took v.0 (x.1 + v.1)) old count new (record { used = 1 + length key + used; count = more })
+    by_key past each = tt
+    by_key (fault bad) each = tt
+    by_key (took k n) each =
+        let one = each k n refl in
+        let same : key ≡ k = is ∙ sym one.key_is in
+        let after : rest ≡ drop n i = behind ∙ sym one.rest_is in
+        let marked : label ≡ keyed (end_before end (drop n i)) k = it ∙ ap (λ e. keyed e key) (place ∙ ap (λ (xs : List ℕ). end - length xs) after) ∙ ap (keyed (end_before end (drop n i))) same in
+        let P : List ℕ → Type 0 = λ xs. Lists (value end label xs) old count new (record { used = used; count = more }) in
+        let Q : Node → Type 0 = λ m. Lists (value end m (drop n i)) old count new (record { used = used; count = more }) in
+        entry_by (value end (keyed (end_before end (drop n i)) k) (drop n i)) n used (length key) more old new count (one.used_is ∙ ap (λ (xs : List ℕ). 1 + length xs) (sym same)) (subst Q marked (subst P after h))
+
+-- ---- things that fill some bytes, one after another
+
+-- the rest has groups of nodes that, after those that were put so far, complete the whole
+pub record IsLeft (item : Judge (List Node)) (old : List Node) (count : ℕ) (rest : List ℕ) (now : List Node) (k items : ℕ) (groups : List (List Node)) : Type 0 where
+  pub done : List (List Node)
+  pub more : List (List Node)
+  pub fills : filled item 0 rest ≡ Ok more
+  pub all : groups ≡ done ++ more
+  pub number : items ≡ cut (length done)
+  pub grows : Grows (listing old count) (listing now k) (joined done)
+
+-- so it is where all of the content has groups
+pub record GoesOn (item : Judge (List Node)) (content : List ℕ) (old : List Node) (count : ℕ) (rest : List ℕ) (now : List Node) (k items : ℕ) : Type 0 where
+  pub left : (groups : List (List Node)) → filled item 0 content ≡ Ok groups → IsLeft item old count rest now k items groups
+
+pub begins : {item : Judge (List Node)} {content : List ℕ} {old : List Node} {count : ℕ} → GoesOn item content old count content old count 0
+begins {old = old} {count = count} = record { left = λ groups e. record { done = []; more = groups; fills = e; all = refl; number = refl; grows = grows_none (listing old count) } }
+
+filled_drop : (item : Judge (List Node)) (k : ℕ) (bytes : List ℕ) → filled item k bytes ≡ filled item 0 (drop k bytes)
+unfolding filled
+filled_drop item zero bytes = refl
+filled_drop item (suc k) [] = refl
+filled_drop item (suc k) (byte ∷ bytes) = filled_drop item k bytes
+
+drop_more : (k : ℕ) (bytes : List ℕ) → drop k (drop 1 bytes) ≡ drop (k + 1) bytes
+drop_more k bytes = rw add-one (by_cases k bytes)
+  where
+    by_cases : (k : ℕ) (bytes : List ℕ) → drop k (drop 1 bytes) ≡ drop (suc k) bytes
+    by_cases k [] = drop-nil k
+    by_cases k (byte ∷ bytes) = refl
+
+-- the group of what comes next, and the groups after it
+record IsNext (item : Judge (List Node)) (rest : List ℕ) (more : List (List Node)) : Type 0 where
+  group : List Node
+  size : ℕ
+  others : List (List Node)
+  is : item rest ≡ took group size
+  fills : filled item (size - 1) (drop 1 rest) ≡ Ok others
+  all : more ≡ group ∷ others
+
+next_map : {A : Type 0} (x : A) (r : Result (List A) Fault) (ys : List A) → read_map (λ xs. x ∷ xs) r ≡ Ok ys → (xs : List A) × (r ≡ Ok xs) × (ys ≡ x ∷ xs)
+next_map x (Ok xs) ys h = (xs, refl, cc)
+next_map x (Err bad) ys h = absurd cc
+
+next_of : (item : Judge (List Node)) (byte : ℕ) (bytes : List ℕ) (more : List (List Node)) (j : Judged (List Node)) → item (byte ∷ bytes) ≡ j → next_item j (λ n. filled item (n - 1) bytes) ≡ Ok more → IsNext item (byte ∷ bytes) more
+next_of item byte bytes more past is h = absurd cc
+next_of item byte bytes more (fault bad) is h = absurd cc
+next_of item byte bytes more (took group n) is h =
+    let one = next_map group (filled item (n - 1) bytes) more h in
+    record { group = group; size = n; others = one.0; is = is; fills = one.1; all = one.2 }
+
+next_in : (item : Judge (List Node)) (rest : List ℕ) (more : List (List Node)) → 0 < length rest → filled item 0 rest ≡ Ok more → IsNext item rest more
+unfolding filled
+next_in item [] more some h = absurd (omega arith)
+next_in item (byte ∷ bytes) more some h = next_of item byte bytes more (item (byte ∷ bytes)) refl h
+
+joined_last : (groups : List (List Node)) (group : List Node) → joined (groups ++ (group ∷ [])) ≡ joined groups ++ group
+joined_last [] group = append-nil group
+joined_last (first ∷ groups) group = ap (λ (xs : List Node). first ++ xs) (joined_last groups group) ∙ sym (append_assoc first (joined groups) group)
+
+cut_more : (n items : ℕ) → items ≡ cut n → cut (items + 1) ≡ cut (n + 1)
+cut_more n items h = grind (arith, nat_tests)
+
+one_more : (item : Judge (List Node)) (old : List Node) (count : ℕ) (rest next : List ℕ) (now new : List Node) (k items others : ℕ) (step : Step) (groups : List (List Node)) → (left : IsLeft item old count rest now k items groups) → IsNext item rest left.more
+    → Lists (item rest) now k new step → 0 < step.used → next ≡ drop step.used rest → others ≡ cut (items + 1) → IsLeft item old count next new step.count others groups
+one_more item old count rest next now new k items others step groups left one listed some e h =
+    let P : Judged (List Node) → Type 0 = λ j. Lists j now k new step in
+    let put : (step.used ≡ one.size) × Grows (listing now k) (listing new step.count) one.group = subst P one.is listed in
+    let dropped : drop (one.size - 1) (drop 1 rest) ≡ next = drop_more (one.size - 1) rest ∙ ap (λ n. drop n rest) {x = one.size - 1 + 1} {y = step.used} (omega (arith, put.0)) ∙ sym e in
+    let T : List Node → Type 0 = λ xs. Grows (listing old count) (listing new step.count) xs in
+    record {
+      done = left.done ++ (one.group ∷ []);
+      more = one.others;
+      fills = ap (filled item 0) (sym dropped) ∙ sym (filled_drop item (one.size - 1) (drop 1 rest)) ∙ one.fills;
+      all = left.all ∙ ap (λ gs. left.done ++ gs) one.all ∙ sym (append_assoc left.done (one.group ∷ []) one.others);
+      number = h ∙ cut_more (length left.done) items left.number ∙ ap cut (sym (length-append left.done (one.group ∷ [])));
+      grows = subst T (sym (joined_last left.done one.group)) (grows_more (listing old count) (listing now k) (listing new step.count) (joined left.done) one.group left.grows put.1);
+    }
+
+pub goes_on : {item : Judge (List Node)} {content rest : List ℕ} {old now : List Node} {count k items : ℕ} (next : List ℕ) (new : List Node) (others : ℕ) (step : Step) → GoesOn item content old count rest now k items → 0 < length rest → Lists (item rest) now k new step → 0 < step.used → next ≡ drop step.used rest
+    → others ≡ cut (items + 1) → GoesOn item content old count next new step.count others
+goes_on {item = item} {rest = rest} {old = old} {now = now} {count = count} {k = k} {items = items} next new others step h some listed up e more = record {
+  left = λ groups is. let left = h.left groups is in one_more item old count rest next now new k items others step groups left (next_in item rest left.more some left.fills) listed up e more;
+}
+
+done_by : (item : Judge (List Node)) (old now : List Node) (count k items : ℕ) (rest : List ℕ) (all : Result (List (List Node)) Fault) → ((groups : List (List Node)) → all ≡ Ok groups → IsLeft item old count rest now k items groups) → rest ≡ [] → ListsAll all old count now (record { items = items; count = k })
+unfolding filled
+done_by item old now count k items rest (Err bad) h none = tt
+done_by item old now count k items rest (Ok groups) h none =
+    let left = h groups refl in
+    let e : Ok [] ≡ Ok left.more = sym (ap (filled item 0) none) ∙ left.fills in
+    let nothing : [] ≡ left.more = cc in
+    let same : left.done ≡ groups = sym (append-nil left.done) ∙ ap (λ gs. left.done ++ gs) nothing ∙ sym left.all in
+    let T : List (List Node) → Type 0 = λ gs. (items ≡ cut (length gs)) × Grows (listing old count) (listing now k) (joined gs) in
+    subst T same (left.number, left.grows)
+
+pub done : {item : Judge (List Node)} {content rest : List ℕ} {old now : List Node} {count k items : ℕ} → GoesOn item content old count rest now k items → length rest ≡ 0 → ListsAll (filled item 0 content) old count now (record { items = items; count = k })
+done {item = item} {content = content} {rest = rest} {old = old} {now = now} {count = count} {k = k} {items = items} h none = done_by item old now count k items rest (filled item 0 content) h.left (nil_from_length rest none)

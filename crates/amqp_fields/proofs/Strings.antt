@@ -1,0 +1,74 @@
+-- What strings are listed as: by what stands at the front of the bytes.
+use Rattle.std.proofs.Common.{◌≡◌, ℕ, ◌+◌, ◌-◌, ◌≤◌, List, [], ◌∷◌, length, take, drop, refl, sym, ap, subst, ◌∙◌, one-add, arith}
+use Rattle.std.specs.Prelude.{nat_lt}
+use Rattle.std.specs.Str.{is_utf8}
+use Rattle.std.proofs.lemmas.Bool.Decides.{nat_tests}
+use Rattle.std.proofs.lemmas.List.{length-take-le}
+use Rattle.amqp_types.proofs.Took.{guard_took, test_took, value_took, count_took}
+use Rattle.amqp_types.specs.Judging.{Judged, took, past, fault, not_utf8, ◌>>=◌}
+use Rattle.amqp_types.specs.Strings.{judge_short_string, judge_long_string}
+use Rattle.amqp_canonical.specs.Writes.{IsRead, key_in, after_key}
+use Rattle.amqp_fields.specs.declared.node.Node.{Node}
+use Rattle.amqp_fields.specs.declared.listing.Step.{Step}
+use Rattle.amqp_fields.specs.Nodes.{spanned}
+use Rattle.amqp_fields.specs.Listing.{Grows, listing}
+use Rattle.amqp_fields.specs.Listed.{listed_span, end_before}
+use Rattle.amqp_fields.specs.Finding.{Lists}
+
+-- what a short string is that was read
+pub record IsKey (i key : List ℕ) (used : ℕ) : Type 0 where
+  pub key_is : key ≡ key_in i
+  pub used_is : used ≡ 1 + length key
+  pub rest_is : drop used i ≡ after_key i
+
+key_took : (n : ℕ) (bytes key : List ℕ) (used : ℕ) → judge_short_string (n ∷ bytes) ≡ took key used → IsKey (n ∷ bytes) key used
+unfolding judge_short_string
+key_took n bytes key used h =
+    let within = guard_took (nat_lt (length bytes) n) _ key used h in
+    let few : n ≤ length bytes = let e = within.0 in grind (arith, nat_tests) in
+    let text = test_took (is_utf8 (take n bytes)) _ not_utf8 key used within.1 in
+    let is = value_took (take n bytes) key (1 + n) used text.1 in
+    let count = count_took (take n bytes) key (1 + n) used text.1 in
+    record {
+      key_is = sym is;
+      used_is = sym count ∙ ap (λ k. 1 + k) (sym (length-take-le n bytes few) ∙ ap length is);
+      rest_is = ap (λ k. drop k (n ∷ bytes)) (sym count ∙ one-add n);
+    }
+
+pub is_key : (i key : List ℕ) (used : ℕ) → judge_short_string i ≡ took key used → IsKey i key used
+unfolding judge_short_string
+is_key [] key used h = absurd cc
+is_key (n ∷ bytes) key used h = key_took n bytes key used h
+
+pub short_listed : (end : ℕ) (label node : Node) (i text rest : List ℕ) (at count more : ℕ) (old new : List Node) → text ≡ key_in i → rest ≡ after_key i → at ≡ end - length rest → node ≡ spanned label at text
+    → Grows (listing old count) (listing new more) (node ∷ []) → Lists (listed_span judge_short_string end label i) old count new (record { used = 1 + length text; count = more })
+unfolding listed_span
+short_listed end label node i text rest at count more old new is after place one h = by_key (judge_short_string i) (is_key i)
+  where
+    by_key : (j : Judged (List ℕ)) → ((key : List ℕ) (n : ℕ) → j ≡ took key n → IsKey i key n) → Lists (j >>= λ x. took (spanned label (end_before end (drop x.1 i)) x.0 ∷ []) x.1) old count new (record { used = 1 + length text; count = more })
+    by_key past each = tt
+    by_key (fault bad) each = tt
+    by_key (took key n) each =
+        let k = each key n refl in
+        let same : text ≡ key = is ∙ sym k.key_is in
+        let behind : rest ≡ drop n i = after ∙ sym k.rest_is in
+        let it : node ≡ spanned label (end_before end (drop n i)) key = one ∙ ap (λ e. spanned label e text) (place ∙ ap (λ (xs : List ℕ). end - length xs) behind) ∙ ap (spanned label (end_before end (drop n i))) same in
+        (omega (arith, k.used_is, ap length same), subst (λ (x : Node). Grows (listing old count) (listing new more) (x ∷ [])) it h)
+
+pub long_listed : (end : ℕ) (label node : Node) (i content rest : List ℕ) (used at count more : ℕ) (old new : List Node) → judge_long_string i ≡ took content used → rest ≡ drop used i → at ≡ end - length rest → node ≡ spanned label at content
+    → Grows (listing old count) (listing new more) (node ∷ []) → Lists (listed_span judge_long_string end label i) old count new (record { used = used; count = more })
+unfolding listed_span
+long_listed end label node i content rest used at count more old new is behind place one h =
+    let P : Judged (List ℕ) → Type 0 = λ j. Lists (j >>= λ x. took (spanned label (end_before end (drop x.1 i)) x.0 ∷ []) x.1) old count new (record { used = used; count = more }) in
+    let it : node ≡ spanned label (end_before end (drop used i)) content = one ∙ ap (λ e. spanned label e content) (place ∙ ap (λ (xs : List ℕ). end - length xs) behind) in
+    subst P (sym is) (refl, subst (λ (x : Node). Grows (listing old count) (listing new more) (x ∷ [])) it h)
+
+-- where nothing was read, nothing needs to be listed
+pub unlisted : (end : ℕ) (label : Node) (i : List ℕ) (old new : List Node) (count : ℕ) (step : Step) → (IsRead (judge_long_string i) → ⊥) → Lists (listed_span judge_long_string end label i) old count new step
+unfolding listed_span
+unlisted end label i old new count step h = by_cases (judge_long_string i) h
+  where
+    by_cases : (j : Judged (List ℕ)) → (IsRead j → ⊥) → Lists (j >>= λ x. took (spanned label (end_before end (drop x.1 i)) x.0 ∷ []) x.1) old count new step
+    by_cases past h = tt
+    by_cases (fault bad) h = tt
+    by_cases (took x n) h = absurd (h tt)

@@ -1,0 +1,30 @@
+-- What calls that walk over bytes return.
+use Rattle.std.specs.Prelude.{◌≡◌, ℕ, List, length, Option, Some, None, Result, Ok, Err}
+use Rattle.amqp_types.specs.Judging.{Judged, Fault, took}
+use Rattle.amqp_canonical.specs.Writes.{IsRead}
+use Rattle.amqp_fields.specs.declared.node.Node.{Node}
+use Rattle.amqp_fields.specs.declared.listing.Step.{Step}
+use Rattle.amqp_fields.specs.declared.listing.Filled.{Filled}
+use Rattle.amqp_fields.specs.Nodes.{cut}
+use Rattle.amqp_fields.specs.Listed.{joined}
+use Rattle.amqp_fields.specs.Listing.{Grows, listing}
+
+-- The nodes are put, and the number of bytes that they stand for is returned. (Where there are none, nothing is said.)
+abbrev pub Lists : Judged (List Node) → List Node → ℕ → List Node → Step → Type 0
+Lists (took added used) old count new step = (step.used ≡ used) × Grows (listing old count) (listing new step.count) added
+Lists listed old count new step = Unit {0}
+
+-- the same of things that fill some bytes, each of which has a group of nodes
+abbrev pub ListsAll : Result (List (List Node)) Fault → List Node → ℕ → List Node → Filled → Type 0
+ListsAll (Ok groups) old count new filled = (filled.items ≡ cut (length groups)) × Grows (listing old count) (listing new filled.count) (joined groups)
+ListsAll (Err bad) old count new filled = Unit {0}
+
+-- the same, whatever the number of these bytes
+abbrev pub Counts : Judged (List Node) → List Node → ℕ → List Node → ℕ → Type 0
+Counts (took added used) old count new result = Grows (listing old count) (listing new result) added
+Counts listed old count new result = Unit {0}
+
+-- what a length covers at the front, and how many bytes both are
+abbrev pub FindsContent : {K : Type 0} → (K → List ℕ) → Option (ℕ × K) → Judged (List ℕ) → Type 0
+FindsContent view (Some found) judged = judged ≡ took (view found.1) found.0
+FindsContent view None judged = IsRead judged → ⊥

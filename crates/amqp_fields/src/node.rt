@@ -1,0 +1,129 @@
+//! A node: a field of a frame, or a value in a table or an array, by a number or by a span of the payload.
+
+ghost use Rattle.std.specs.Prelude.{◌≡◌, ◌-◌, length};
+ghost use Rattle.amqp_fields.specs.Nodes.{blank, cut, cut_byte, keyed, spanned};
+
+/// The kind of a field of one byte.
+pub const OCTET: u8 = 1;
+
+/// The kind of a field of two bytes.
+pub const SHORT: u8 = 2;
+
+/// The kind of a field of four bytes.
+pub const LONG: u8 = 3;
+
+/// The kind of a field of eight bytes.
+pub const LONG_LONG: u8 = 4;
+
+/// The kind of a flag.
+pub const FLAG: u8 = 5;
+
+/// The kind of a field that is a short string.
+pub const SHORT_STRING: u8 = 6;
+
+/// The kind of a field that is a long string.
+pub const LONG_STRING: u8 = 7;
+
+/// The kind of a field that is a table.
+pub const TABLE: u8 = 8;
+
+/// A field of a frame, or a value in a table or an array. Spans are counted from the front of the payload. In C a node
+/// has 32 bytes and no padding.
+#[repr(C)]
+#[derive(Clone, Copy, Debug, PartialEq, Eq)]
+pub struct Node {
+    /// A number, a signed one in two's complement; 0 or 1 of a flag or truth value; the bits of a number with a fraction; the
+    /// unsigned number of a decimal.
+    pub number: u64,
+
+    /// Where the bytes of a string or byte array begin, or the content of a table or an array, without its length.
+    pub start: u32,
+
+    /// How many these bytes are.
+    pub length: u32,
+
+    /// Where the key of an entry begins.
+    pub key_start: u32,
+
+    /// How many of the nodes that follow lie inside this one.
+    pub inside: u32,
+
+    /// How many of these are its own entries or values.
+    pub items: u32,
+
+    /// How many bytes the key of an entry has.
+    pub key_length: u8,
+
+    /// The kind of a field, 1 to 8, or the tag byte of a value in a table or an array.
+    pub kind: u8,
+
+    /// Which field of its method it is, reserved ones not counted and each flag one; which of the 14 properties; else 0.
+    pub place: u8,
+
+    /// How many digits of a decimal are behind the point.
+    pub scale: u8,
+}
+
+impl Default for Node {
+    /// A node of zeros, as a list is filled before it is passed.
+    fn default() -> Node
+        ensures { result ≡ blank }
+    {
+        Node {
+            number: 0,
+            start: 0,
+            length: 0,
+            key_start: 0,
+            inside: 0,
+            items: 0,
+            key_length: 0,
+            kind: 0,
+            place: 0,
+            scale: 0,
+        }
+    }
+}
+
+/// A number as 4 bytes hold it, or the greatest that they hold.
+#[inline(always)]
+pub(crate) fn cut(n: usize) -> u32
+    ensures { result ≡ cut n }
+{
+    if n < u32::MAX as usize {
+        n as u32
+    } else {
+        u32::MAX
+    }
+}
+
+/// A number as a byte holds it, or the greatest that it holds.
+#[inline(always)]
+pub(crate) fn cut_byte(n: usize) -> u8
+    ensures { result ≡ cut_byte n }
+{
+    if n < 255 { n as u8 } else { 255 }
+}
+
+/// The node with a span: some bytes that end at this place of the payload.
+#[inline(always)]
+pub(crate) fn spanned(label: Node, end: usize, content: &[u8]) -> Node
+    ensures { result ≡ spanned label end content.now }
+{
+    Node {
+        start: cut(end.saturating_sub(content.len())),
+        length: cut(content.len()),
+        ..label
+    }
+}
+
+/// The node with the span of a key: some bytes that end at this place of the payload.
+#[inline(always)]
+pub(crate) fn keyed(end: usize, key: &[u8]) -> Node
+    ensures { result ≡ keyed end key.now }
+{
+    Node {
+        key_start: cut(end.saturating_sub(key.len())),
+        key_length: cut_byte(key.len()),
+        ..Node::default()
+    }
+}

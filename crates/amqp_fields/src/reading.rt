@@ -1,0 +1,76 @@
+//! Reading the fields of whole payloads as nodes.
+
+ghost use Rattle.std.specs.Prelude.{◌≡◌, ◌≤◌, ◌<◌, ◌^◌, length, IfErr, IfOk};
+ghost use Rattle.amqp_fields.specs.Reading.{HasNodes, ListsIn, RefusesFields, SaysLevels};
+
+use crate::node::Node;
+use crate::payloads::list_payload;
+use amqp_types::{ParserError, are_bytes};
+use amqp_wire::{AMQPFrameType, AMQPRawFrame, judge_frame};
+
+/// What was read of a payload.
+#[derive(Clone, Copy, Debug, PartialEq, Eq)]
+pub struct FieldsRead {
+    /// How many nodes there are.
+    pub count: usize,
+
+    /// Whether the payload is canonical.
+    pub canonical: bool,
+
+    /// Whether it is tidy: reserved fields, the weight and unused bits stand at their constants, and a heartbeat is
+    /// empty.
+    pub tidy: bool,
+}
+
+/// Why no fields were read.
+#[derive(Clone, Copy, Debug, PartialEq, Eq)]
+pub enum FieldsError {
+    /// The payload has a fault.
+    Payload(ParserError),
+
+    /// The list is shorter than the nodes of the frame.
+    TooFew {
+        /// How many nodes there are.
+        needed: usize,
+    },
+}
+
+/// Reads the fields of a whole payload: those of a method that are not reserved, each flag one, the properties of a
+/// content header that are set, or the three numbers of a protocol header, in the order of the wire. A body and a
+/// heartbeat have none. Where `deep`, the node of each table is followed by those of its entries, and of all that lies
+/// inside them. What stands in the list behind the nodes is not specified, and nothing of it where an error is returned. No
+/// memory is taken, and the time is linear.
+#[tactic(auto, using(crate::proofs::Answering::nodes_read, crate::proofs::Answering::nodes_needed, crate::proofs::Answering::nodes_bound, crate::proofs::Answering::same_length))]
+pub fn read_fields(
+    frame_type: AMQPFrameType,
+    payload: &[u8],
+    deep: bool,
+    nodes: &mut [Node],
+) -> Result<FieldsRead, FieldsError>
+    requires few { length payload.now < 2 ^ 32 }
+    ensures same_length { length nodes.new ≡ length nodes.old }
+    ensures listed { IfOk result (λ found. ListsIn (HasNodes frame_type payload.now deep) nodes.new found.count) }
+    ensures bound { IfOk result (λ found. found.count ≤ length payload.now) }
+    ensures levels { IfOk result (SaysLevels frame_type payload.now) }
+    ensures refused { IfErr result (RefusesFields frame_type payload.now deep (length nodes.old)) }
+{
+    let raw = AMQPRawFrame {
+        frame_type,
+        channel_id: 0,
+        payload,
+    };
+    let judged = match judge_frame(raw) {
+        Ok(judged) => judged,
+        Err(error) => return Err(FieldsError::Payload(error)),
+    };
+    are_bytes(payload);
+    let count = list_payload(nodes, frame_type, deep, payload) as usize;
+    if count > nodes.len() {
+        return Err(FieldsError::TooFew { needed: count });
+    }
+    Ok(FieldsRead {
+        count,
+        canonical: judged.canonical,
+        tidy: judged.tidy,
+    })
+}
