@@ -10,7 +10,7 @@ use Rattle.amqp_fields.specs.Nodes.{blank, cut}
 use Rattle.amqp_fields.specs.Listing.{Grows, Listing, listing, pushed_all}
 use Rattle.amqp_fields.specs.Listed.{joined, listed_entry, listed_value}
 use Rattle.amqp_fields.specs.Finding.{ListsAll}
-use Rattle.amqp_fields.specs.Meaning.{MeansEntry, MeansValue}
+use Rattle.amqp_fields.specs.Meaning.{MeansElement, MeansEntry, MeansValue}
 use Rattle.amqp_fields.specs.Contents.{HasEntries, HasItems, HasValues}
 use Rattle.amqp_fields.specs.Reading.{NeedsMore}
 use Rattle.amqp_fields.proofs.Pushing.{pushed_count}
@@ -92,7 +92,7 @@ module _ (content : List ℕ) (old new : List Node) (filling : Filled) (few : le
 
 module _ (content : List ℕ) (old new : List Node) (filling : Filled) (few : length content < 2 ^ 32) (fits : IsBytes content) (fills : IsFilled (filled (judge_value inner_depth) 0 content)) (h : ListsAll (filled (listed_value inner_depth (length content) blank) 0 content) old 0 new filling) where
   values_put : IsPut (HasValues content) content old new filling.count
-  values_put = put (judge_value inner_depth) (listed_value inner_depth (length content) blank) (MeansValue inner_depth content) content (item_found inner_depth (value_found inner_depth) content few (length content)) old new filling few fits fills h
+  values_put = put (judge_value inner_depth) (listed_value inner_depth (length content) blank) (MeansElement (MeansValue inner_depth content)) content (item_found inner_depth (value_found inner_depth) content few (length content)) old new filling few fits fills h
 
   pub values_length : length new ≡ length old
   values_length = same_length (HasValues content) content old new filling.count values_put

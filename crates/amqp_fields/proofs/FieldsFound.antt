@@ -74,7 +74,7 @@ one_form deep payload place form item items listed size used one kinds is h =
       others = [];
       nodes_are = ap (λ ns. found.node ∷ ns) (sym (append-nil found.inside));
       inside_is = found.inside_is;
-      means = record { place_is = found.keeps.place; kind_is = found.keeps.kind; means = found.means };
+      means = record { place_is = found.keeps.place; kind_is = found.keeps.kind; no_key = (found.keeps.key_start, found.keeps.key_length); means = found.means };
       rest = refl;
     } in
     let same : field place (kind_of form) item ∷ [] ≡ fields_from place (kinds_of form) items = ap (λ ks. fields_from place ks (item ∷ [])) (sym kinds) ∙ ap (fields_from place (kinds_of form)) is in
@@ -100,7 +100,7 @@ bits_found deep payload place (flag ∷ flags) few =
       others = listed_bits (next_place place 1) flags;
       nodes_are = refl;
       inside_is = refl;
-      means = record { place_is = refl; kind_is = refl; means = (refl, (refl, refl), refl) };
+      means = record { place_is = refl; kind_is = refl; no_key = (refl, refl); means = (refl, refl, (refl, refl), (refl, refl)) };
       rest = subst (λ p. AreNodes (MeansField deep payload) (fields_from (place + 1) (replicate (length flags) 5) (map flag_item flags)) (listed_bits p flags)) (sym next) (bits_found deep payload (place + 1) flags (omega (arith, few)));
     }
 
@@ -156,7 +156,7 @@ number_found deep payload bytes place n width items h =
         is = ap (λ j. j >>= λ x. took (numbered label x.0 ∷ []) x.1) one.1;
         inside_is = refl;
         keeps = record { key_start = refl; key_length = refl; place = refl; kind = refl };
-        means = (refl, (refl, refl), refl);
+        means = (refl, refl, (refl, refl), (refl, refl));
         few = omega arith;
         bound = size.1;
       };
@@ -186,7 +186,7 @@ text_found judge front some parts make form deep payload bytes end place n items
         is = ap (λ j. j >>= λ x. took (spanned label (end_before end (drop x.1 bytes)) x.0 ∷ []) x.1) one.1;
         inside_is = refl;
         keeps = record { key_start = refl; key_length = refl; place = refl; kind = refl };
-        means = means one.0 node (span_of payload one.0 content_ends few (part_stands payload bytes one.0 end front n stands part), refl);
+        means = means one.0 node (span_of payload one.0 content_ends few (part_stands payload bytes one.0 end front n stands part), (refl, refl), (refl, refl));
         few = omega arith;
         bound = part.within;
       };
@@ -200,7 +200,7 @@ unfolding judge_table
 deep_found payload bytes end place n items few stands h =
     let one = map_took judge_field_table (λ es. entries_item es ∷ []) bytes items n h in
     let label = placed place table_form in
-    let all = items_held (judge_entry (judge_value inner_depth)) (listed_entry (listed_value inner_depth)) (MeansEntry (MeansValue inner_depth payload) payload) settled payload bytes end n label one.0 few (entry_found inner_depth (value_found inner_depth) payload few) stands one.1 in
+    let all = items_held (judge_entry (judge_value inner_depth)) (listed_entry (listed_value inner_depth)) (MeansEntry (MeansValue inner_depth payload) payload) settled payload bytes end n label one.0 few (record { inside = refl; items = refl; start = refl; count = refl; number = refl; scale = refl }) (entry_found inner_depth (value_found inner_depth) payload few) stands one.1 in
     let held = all.2 in
     let found = held.found in
     one_form true payload place table_form (entries_item one.0) items (listed_table (listed_value inner_depth) end label bytes) (length bytes) n refl refl one.2 (record {
@@ -212,7 +212,7 @@ deep_found payload bytes end place n items few stands h =
         keeps = found.keeps;
         few = found.few;
         bound = found.bound;
-        means = record { content = held.content; span = found.means.0; entries = all.0; fills = held.fills; entries_are = found.means.1; settles = sym all.1 };
+        means = record { content = held.content; span = found.means.0; no_number = found.means.1; entries = all.0; fills = held.fills; entries_are = found.means.2; settles = sym all.1 };
       };
       less = held.less;
     })
@@ -236,7 +236,7 @@ alone_found payload bytes end place n items few stands h =
         is = ap (λ j. j >>= λ x. took (spanned label (end_before end (drop x.1 bytes)) x.0 ∷ []) x.1) two.2 ∙ ap (took (spanned label content_ends two.0 ∷ [])) all.1;
         inside_is = refl;
         keeps = record { key_start = refl; key_length = refl; place = refl; kind = refl };
-        means = record { content = two.0; span = span_of payload two.0 content_ends few (part_stands payload bytes two.0 end 4 two.1 stands part); entries = entries.0; fills = entries.1; entries_are = (refl, refl); settles = sym entries.2 };
+        means = record { content = two.0; span = span_of payload two.0 content_ends few (part_stands payload bytes two.0 end 4 two.1 stands part); no_number = (refl, refl); entries = entries.0; fills = entries.1; entries_are = (refl, refl); settles = sym entries.2 };
         few = omega arith;
         bound = omega (arith, part.within, all.1);
       };

@@ -21,7 +21,7 @@ use Rattle.amqp_laws.proofs.Conversions.{items-values_of, pairs-entries_of}
 use Rattle.amqp_fields.specs.declared.node.Node.{Node}
 use Rattle.amqp_fields.specs.Nodes.{blank, cut, held, keyed, numbered, spanned}
 use Rattle.amqp_fields.specs.Listed.{end_before, holding, joined, listed_after, listed_array, listed_behind, listed_entry, listed_items, listed_nested, listed_number, listed_signed, listed_span, listed_table, listed_tagged, listed_value, of_kind, scaled}
-use Rattle.amqp_fields.specs.Meaning.{AreInside, IsArray, IsSpan, IsTable, IsText, MeansEntry, MeansValue, Says, SaysAt}
+use Rattle.amqp_fields.specs.Meaning.{AreInside, IsArray, IsSpan, HasNoNumber, IsTable, IsText, MeansElement, MeansEntry, MeansValue, Says, SaysAt}
 use Rattle.amqp_fields.proofs.Spans.{Stands, IsPart, cut_below, key_span_of, long_part, number_took, part_stands, short_part, short_text, span_of, stands_drop}
 use Rattle.amqp_fields.proofs.Groups.{IsFound, filled_found}
 
@@ -43,6 +43,8 @@ pub record IsFresh (label : Node) : Type 0 where
   pub items : label.items ≡ 0
   pub start : label.start ≡ 0
   pub count : label.length ≡ 0
+  pub number : label.number ≡ 0
+  pub scale : label.scale ≡ 0
 
 -- what was listed is one node and those inside it
 pub record IsListed (Means : Node → List Node → Type 0) (label : Node) (listed : Judged (List Node)) (size used : ℕ) : Type 0 where
@@ -117,7 +119,7 @@ span_listed judge front parts payload bytes content end n label few fresh stands
       is = ap (λ j. j >>= λ x. took (spanned label (end_before end (drop x.1 bytes)) x.0 ∷ []) x.1) h;
       inside_is = fresh.inside;
       keeps = record { key_start = refl; key_length = refl; place = refl; kind = refl };
-      means = (span_of payload content (end - length (drop n bytes)) few (part_stands payload bytes content end front n stands part), refl);
+      means = (span_of payload content (end - length (drop n bytes)) few (part_stands payload bytes content end front n stands part), (fresh.number, fresh.scale), (fresh.items, refl));
       few = omega arith;
       bound = part.within;
     }
@@ -136,14 +138,14 @@ map_read f (Err bad) y h = absurd cc
 pub record IsHeld {A : Type 0} (judge : Judge A) (Means : Node → List Node → A → Type 0) (payload : List ℕ) (label : Node) (listed : Judged (List Node)) (size used : ℕ) (xs : List A) : Type 0 where
   pub content : List ℕ
   pub fills : filled judge 0 content ≡ Ok xs
-  pub found : IsListed (λ node inside. IsSpan payload node.start node.length content × AreInside Means node inside xs) label listed size used
+  pub found : IsListed (λ node inside. IsSpan payload node.start node.length content × HasNoNumber node × AreInside Means node inside xs) label listed size used
   pub less : 1 + length found.inside ≤ used
 
-pub items_held : {A B : Type 0} (judge : Judge A) (listed : ℕ → Judge (List Node)) (Means : Node → List Node → A → Type 0) (make : List A → B) (payload bytes : List ℕ) (end n : ℕ) (label : Node) (y : B) → length payload < 2 ^ 32
+pub items_held : {A B : Type 0} (judge : Judge A) (listed : ℕ → Judge (List Node)) (Means : Node → List Node → A → Type 0) (make : List A → B) (payload bytes : List ℕ) (end n : ℕ) (label : Node) (y : B) → length payload < 2 ^ 32 → IsFresh label
     → ((inner : ℕ) (content : List ℕ) (x : A) (k : ℕ) → Stands payload inner content → judge content ≡ took x k → IsFound (λ node inside. Means node inside x) (listed inner content) (length content) k)
     → Stands payload end bytes → (judge_long_string bytes >>= λ content. took_all content.1 (read_map make (filled judge 0 content.0))) ≡ took y n → (xs : List A) × (make xs ≡ y) × IsHeld judge Means payload label (listed_items listed end label bytes) (length bytes) n xs
 unfolding listed_items
-items_held judge listed Means make payload bytes end n label y few each stands h =
+items_held judge listed Means make payload bytes end n label y few fresh each stands h =
     let one = bind_took (judge_long_string bytes) _ y n h in
     let all = all_took one.1 n (read_map make (filled judge 0 one.0)) y one.3 in
     let xs = map_read make (filled judge 0 one.0) y all.0 in
@@ -166,7 +168,7 @@ items_held judge listed Means make payload bytes end n label y few each stands h
               ∙ ap (λ r. took_all one.1 (read_map (holding node) r)) found.is ∙ ap (took (holding node found.groups)) all.1;
           inside_is = refl;
           keeps = record { key_start = refl; key_length = refl; place = refl; kind = refl };
-          means = (span_of payload one.0 inner few inside, (number, found.means));
+          means = (span_of payload one.0 inner few inside, (fresh.number, fresh.scale), (number, found.means));
           few = omega (arith, less, part.used_is, all.1);
           bound = omega (arith, part.within, all.1);
         };
@@ -198,7 +200,7 @@ entry_found depth_left value payload few end bytes e n stands h =
     let is : (one.0, two.0) ≡ e = value_took (one.0, two.0) e (one.1 + two.1) n two.3 in
     let at = end - length (drop one.1 bytes) in
     let label = keyed at one.0 in
-    let found = value payload (drop one.1 bytes) end two.1 label two.0 few (record { inside = refl; items = refl; start = refl; count = refl }) (stands_drop payload bytes end one.1 stands part.within) two.2 in
+    let found = value payload (drop one.1 bytes) end two.1 label two.0 few (record { inside = refl; items = refl; start = refl; count = refl; number = refl; scale = refl }) (stands_drop payload bytes end one.1 stands part.within) two.2 in
     let keeps = found.4 in
     let key = key_span_of payload one.0 at few (short_text payload bytes one.0 end one.1 stands one.2) (part_stands payload bytes one.0 end 1 one.1 stands part) in
     let P : ℕ → Type 0 = λ s. IsSpan payload s found.0.key_length one.0 in
@@ -209,7 +211,7 @@ entry_found depth_left value payload few end bytes e n stands h =
       inside = found.1;
       is = ap (λ j. j >>= λ k. listed_value depth_left end (keyed (end_before end (drop k.1 bytes)) k.0) (drop k.1 bytes) >>= λ v. took v.0 (k.1 + v.1)) one.2 ∙ ap (λ j. j >>= λ v. took v.0 (one.1 + v.1)) found.2 ∙ ap (took (found.0 ∷ found.1)) count;
       inside_is = found.3;
-      means = subst (λ x. MeansEntry (MeansValue depth_left payload) payload found.0 found.1 x) is (span, (keeps.kind, found.5));
+      means = subst (λ x. MeansEntry (MeansValue depth_left payload) payload found.0 found.1 x) is (span, (keeps.kind, keeps.place, found.5));
       few = omega (arith, found.6, count);
       bound = omega (arith, found.7, count, part.within, length-drop one.1 bytes);
     }
@@ -237,13 +239,13 @@ signed_behind : (depth_left : ℕ) (payload bytes : List ℕ) (label : Node) (t 
     → IsBehind depth_left payload label t (listed_signed (signed_width kind) label bytes) (length bytes) n v
 unfolding Says
 signed_behind depth_left payload bytes label t kind v n fresh tagged h =
-    plain depth_left payload bytes label t (judge_signed (signed_width kind)) (signed_value kind) (λ x. numbered label (cast_unsigned w64 x)) v n (signed_bounded (signed_width kind)) (λ x. record { key_start = refl; key_length = refl; place = refl; kind = refl }) (λ x. fresh.inside) tagged (λ x Array Table. (refl, (fresh.start, fresh.count), refl)) h
+    plain depth_left payload bytes label t (judge_signed (signed_width kind)) (signed_value kind) (λ x. numbered label (cast_unsigned w64 x)) v n (signed_bounded (signed_width kind)) (λ x. record { key_start = refl; key_length = refl; place = refl; kind = refl }) (λ x. fresh.inside) tagged (λ x Array Table. (refl, fresh.scale, (fresh.start, fresh.count), (fresh.items, refl))) h
 
 number_behind : (depth_left : ℕ) (payload bytes : List ℕ) (label : Node) (t : FieldTag) (kind : UnsignedKind) (v : FieldValue) (n : ℕ) → IsFresh label → ((x : ℕ) → tag_of (unsigned_value kind x) ≡ t) → judge_map (unsigned_value kind) (judge_number (unsigned_width kind)) bytes ≡ took v n
     → IsBehind depth_left payload label t (listed_number (unsigned_width kind) label bytes) (length bytes) n v
 unfolding Says
 number_behind depth_left payload bytes label t kind v n fresh tagged h =
-    plain depth_left payload bytes label t (judge_number (unsigned_width kind)) (unsigned_value kind) (numbered label) v n (number_bounded (unsigned_width kind)) (λ x. record { key_start = refl; key_length = refl; place = refl; kind = refl }) (λ x. fresh.inside) tagged (λ x Array Table. (refl, (fresh.start, fresh.count), refl)) h
+    plain depth_left payload bytes label t (judge_number (unsigned_width kind)) (unsigned_value kind) (numbered label) v n (number_bounded (unsigned_width kind)) (λ x. record { key_start = refl; key_length = refl; place = refl; kind = refl }) (λ x. fresh.inside) tagged (λ x Array Table. (refl, fresh.scale, (fresh.start, fresh.count), (fresh.items, refl))) h
 
 bytes_behind : (depth_left : ℕ) (payload bytes : List ℕ) (end : ℕ) (label : Node) (t : FieldTag) (kind : BytesKind) (v : FieldValue) (n : ℕ) → length payload < 2 ^ 32 → IsFresh label → Stands payload end bytes → ((x : List ℕ) → tag_of (bytes_value kind x) ≡ t) → judge_map (bytes_value kind) judge_long_string bytes ≡ took v n
     → IsBehind depth_left payload label t (listed_span judge_long_string end label bytes) (length bytes) n v
@@ -266,10 +268,10 @@ bytes_behind depth_left payload bytes end label t kind v n few fresh stands tagg
 
 -- a value as an item that fills an array
 pub item_found : (depth_left : ℕ) → ValueIsFound depth_left → (payload : List ℕ) → length payload < 2 ^ 32 → (end : ℕ) (bytes : List ℕ) (v : FieldValue) (n : ℕ) → Stands payload end bytes → judge_value depth_left bytes ≡ took v n
-    → IsFound (λ node inside. MeansValue depth_left payload node inside v) (listed_value depth_left end blank bytes) (length bytes) n
+    → IsFound (λ node inside. MeansElement (MeansValue depth_left payload) node inside v) (listed_value depth_left end blank bytes) (length bytes) n
 item_found depth_left value payload few end bytes v n stands h =
-    let found = value payload bytes end n blank v few (record { inside = refl; items = refl; start = refl; count = refl }) stands h in
-    record { node = found.0; inside = found.1; is = found.2; inside_is = found.3; means = (found.4.kind, found.5); few = found.6; bound = found.7 }
+    let found = value payload bytes end n blank v few (record { inside = refl; items = refl; start = refl; count = refl; number = refl; scale = refl }) stands h in
+    record { node = found.0; inside = found.1; is = found.2; inside_is = found.3; means = ((found.4.key_start, found.4.key_length), (found.4.kind, found.4.place, found.5)); few = found.6; bound = found.7 }
 
 -- the content as a list of its own
 as_list : {A : Type 0} (j : Judged (List ℕ)) (f : List ℕ → Result (List A) Fault) → (j >>= λ content. took_all content.1 (read_map (λ xs. xs) (f content.0))) ≡ (j >>= λ content. took_all content.1 (f content.0))
@@ -281,17 +283,17 @@ as_list {A = A} (took content n) f = by_read (f content)
     by_read (Ok xs) = refl
     by_read (Err bad) = refl
 
-array_behind : (depth_left : ℕ) → ValueIsFound depth_left → (payload bytes : List ℕ) (end : ℕ) (label : Node) (v : FieldValue) (n : ℕ) → length payload < 2 ^ 32 → Stands payload end bytes → judge_map (λ vs. array_value (values_of vs)) (judge_array (judge_value depth_left)) bytes ≡ took v n
+array_behind : (depth_left : ℕ) → ValueIsFound depth_left → (payload bytes : List ℕ) (end : ℕ) (label : Node) (v : FieldValue) (n : ℕ) → length payload < 2 ^ 32 → IsFresh label → Stands payload end bytes → judge_map (λ vs. array_value (values_of vs)) (judge_array (judge_value depth_left)) bytes ≡ took v n
     → IsBehind (suc depth_left) payload label tag.FieldArray (listed_array (listed_value depth_left) end label bytes) (length bytes) n v
 unfolding SaysAt Says judge_array
-array_behind depth_left value payload bytes end label v n few stands h =
+array_behind depth_left value payload bytes end label v n few fresh stands h =
     let one = map_took (judge_array (judge_value depth_left)) (λ vs. array_value (values_of vs)) bytes v n h in
-    let all = items_held (judge_value depth_left) (λ inner. listed_value depth_left inner blank) (MeansValue depth_left payload) (λ vs. vs) payload bytes end n label one.0 few (item_found depth_left value payload few) stands (as_list (judge_long_string bytes) (filled (judge_value depth_left) 0) ∙ one.1) in
+    let all = items_held (judge_value depth_left) (λ inner. listed_value depth_left inner blank) (MeansElement (MeansValue depth_left payload)) (λ vs. vs) payload bytes end n label one.0 few fresh (item_found depth_left value payload few) stands (as_list (judge_long_string bytes) (filled (judge_value depth_left) 0) ∙ one.1) in
     let held = all.2 in
     let found = held.found in
     let vs = all.0 in
-    let array : IsArray (judge_value depth_left) (AreInside (MeansValue depth_left payload) found.node found.inside) payload found.node vs = record { content = held.content; span = found.means.0; fills = held.fills; values_are = found.means.1 } in
-    let said : SaysAt (suc depth_left) payload found.node found.inside (array_value (values_of vs)) = subst (IsArray (judge_value depth_left) (AreInside (MeansValue depth_left payload) found.node found.inside) payload found.node) (sym (items-values_of vs)) array in
+    let array : IsArray (judge_value depth_left) (AreInside (MeansElement (MeansValue depth_left payload)) found.node found.inside) payload found.node vs = record { content = held.content; span = found.means.0; no_number = found.means.1; fills = held.fills; values_are = found.means.2 } in
+    let said : SaysAt (suc depth_left) payload found.node found.inside (array_value (values_of vs)) = subst (IsArray (judge_value depth_left) (AreInside (MeansElement (MeansValue depth_left payload)) found.node found.inside) payload found.node) (sym (items-values_of vs)) array in
     let is : array_value (values_of vs) ≡ v = ap (λ ws. array_value (values_of ws)) all.1 ∙ one.2 in (
       subst (λ x. tag_of x ≡ tag.FieldArray) is refl,
       record {
@@ -306,17 +308,17 @@ array_behind depth_left value payload bytes end label v n few stands h =
       },
     )
 
-table_behind : (depth_left : ℕ) → ValueIsFound depth_left → (payload bytes : List ℕ) (end : ℕ) (label : Node) (v : FieldValue) (n : ℕ) → length payload < 2 ^ 32 → Stands payload end bytes → judge_map (λ es. table_value (entries_of es)) (judge_table (judge_value depth_left)) bytes ≡ took v n
+table_behind : (depth_left : ℕ) → ValueIsFound depth_left → (payload bytes : List ℕ) (end : ℕ) (label : Node) (v : FieldValue) (n : ℕ) → length payload < 2 ^ 32 → IsFresh label → Stands payload end bytes → judge_map (λ es. table_value (entries_of es)) (judge_table (judge_value depth_left)) bytes ≡ took v n
     → IsBehind (suc depth_left) payload label tag.FieldTable (listed_table (listed_value depth_left) end label bytes) (length bytes) n v
 unfolding SaysAt Says judge_table
-table_behind depth_left value payload bytes end label v n few stands h =
+table_behind depth_left value payload bytes end label v n few fresh stands h =
     let one = map_took (judge_table (judge_value depth_left)) (λ es. table_value (entries_of es)) bytes v n h in
-    let all = items_held (judge_entry (judge_value depth_left)) (listed_entry (listed_value depth_left)) (MeansEntry (MeansValue depth_left payload) payload) settled payload bytes end n label one.0 few (entry_found depth_left value payload few) stands one.1 in
+    let all = items_held (judge_entry (judge_value depth_left)) (listed_entry (listed_value depth_left)) (MeansEntry (MeansValue depth_left payload) payload) settled payload bytes end n label one.0 few fresh (entry_found depth_left value payload few) stands one.1 in
     let held = all.2 in
     let found = held.found in
     let es = one.0 in
     let Inside : List Entry → Type 0 = AreInside (MeansEntry (MeansValue depth_left payload) payload) found.node found.inside in
-    let table : IsTable (judge_value depth_left) Inside payload found.node es = record { content = held.content; span = found.means.0; entries = all.0; fills = held.fills; entries_are = found.means.1; settles = sym all.1 } in
+    let table : IsTable (judge_value depth_left) Inside payload found.node es = record { content = held.content; span = found.means.0; no_number = found.means.1; entries = all.0; fills = held.fills; entries_are = found.means.2; settles = sym all.1 } in
     let said : SaysAt (suc depth_left) payload found.node found.inside (table_value (entries_of es)) = subst (IsTable (judge_value depth_left) Inside payload found.node) (sym (pairs-entries_of es)) table in (
       subst (λ x. tag_of x ≡ tag.FieldTable) one.2 refl,
       record {
@@ -335,7 +337,7 @@ module _ (payload : List ℕ) (few : length payload < 2 ^ 32) (end : ℕ) (label
   behind_found : (depth_left : ℕ) → BelowAreFound depth_left → (t : FieldTag) → judge_behind (nested depth_left) t bytes ≡ took v n → IsBehind depth_left payload label t (listed_behind (listed_nested depth_left) end label t bytes) (length bytes) n v
   unfolding judge_behind listed_behind Says nested listed_nested judge_value listed_value
   behind_found depth_left below tag.Boolean h =
-      plain depth_left payload bytes label tag.Boolean judge_boolean boolean_value (λ x. numbered label (bit_of x)) v n boolean_bounded (λ x. record { key_start = refl; key_length = refl; place = refl; kind = refl }) (λ x. fresh.inside) (λ x. refl) (λ x Array Table. (refl, (fresh.start, fresh.count), refl)) h
+      plain depth_left payload bytes label tag.Boolean judge_boolean boolean_value (λ x. numbered label (bit_of x)) v n boolean_bounded (λ x. record { key_start = refl; key_length = refl; place = refl; kind = refl }) (λ x. fresh.inside) (λ x. refl) (λ x Array Table. (refl, fresh.scale, (fresh.start, fresh.count), (fresh.items, refl))) h
   behind_found depth_left below tag.ShortShortInt h = signed_behind depth_left payload bytes label tag.ShortShortInt short_short_int v n fresh (λ x. refl) h
   behind_found depth_left below tag.ShortShortUInt h = number_behind depth_left payload bytes label tag.ShortShortUInt short_short_uint v n fresh (λ x. refl) h
   behind_found depth_left below tag.ShortInt h = signed_behind depth_left payload bytes label tag.ShortInt short_int v n fresh (λ x. refl) h
@@ -346,7 +348,7 @@ module _ (payload : List ℕ) (few : length payload < 2 ^ 32) (end : ℕ) (label
   behind_found depth_left below tag.Float h = number_behind depth_left payload bytes label tag.Float float v n fresh (λ x. refl) h
   behind_found depth_left below tag.Double h = number_behind depth_left payload bytes label tag.Double double v n fresh (λ x. refl) h
   behind_found depth_left below tag.DecimalValue h =
-      plain depth_left payload bytes label tag.DecimalValue judge_decimal (λ d. decimal_value d.0 d.1) (scaled label) v n decimal_bounded (λ x. record { key_start = refl; key_length = refl; place = refl; kind = refl }) (λ x. fresh.inside) (λ x. refl) (λ x Array Table. ((refl, (fresh.start, fresh.count), refl), refl)) h
+      plain depth_left payload bytes label tag.DecimalValue judge_decimal (λ d. decimal_value d.0 d.1) (scaled label) v n decimal_bounded (λ x. record { key_start = refl; key_length = refl; place = refl; kind = refl }) (λ x. fresh.inside) (λ x. refl) (λ x Array Table. (refl, refl, (fresh.start, fresh.count), (fresh.items, refl))) h
   behind_found depth_left below tag.LongString h = bytes_behind depth_left payload bytes end label tag.LongString long_string v n few fresh stands (λ x. refl) h
   behind_found depth_left below tag.Timestamp h = number_behind depth_left payload bytes label tag.Timestamp timestamp v n fresh (λ x. refl) h
   behind_found depth_left below tag.ByteArray h = bytes_behind depth_left payload bytes end label tag.ByteArray byte_array v n few fresh stands (λ x. refl) h
@@ -361,13 +363,13 @@ module _ (payload : List ℕ) (few : length payload < 2 ^ 32) (end : ℕ) (label
           keeps = keeps_itself label;
           few = omega arith;
           bound = let count = count_took void_value v 0 n h in omega (arith, count);
-          means = subst (λ x. SaysAt depth_left payload label [] x) is (says_plain depth_left payload label [] void_value (λ Array Table. ((fresh.start, fresh.count), refl)));
+          means = subst (λ x. SaysAt depth_left payload label [] x) is (says_plain depth_left payload label [] void_value (λ Array Table. ((fresh.number, fresh.scale), (fresh.start, fresh.count), (fresh.items, refl))));
         },
       )
   behind_found zero below tag.FieldArray h = absurd cc
-  behind_found (suc depth_left) below tag.FieldArray h = array_behind depth_left below payload bytes end label v n few stands h
+  behind_found (suc depth_left) below tag.FieldArray h = array_behind depth_left below payload bytes end label v n few fresh stands h
   behind_found zero below tag.FieldTable h = absurd cc
-  behind_found (suc depth_left) below tag.FieldTable h = table_behind depth_left below payload bytes end label v n few stands h
+  behind_found (suc depth_left) below tag.FieldTable h = table_behind depth_left below payload bytes end label v n few fresh stands h
 
 -- ---- a tag and its value
 
@@ -379,7 +381,7 @@ tagged_found depth_left below payload few bytes byte end n label v fresh stands 
     let count : 1 + one.1 ≡ n = count_took one.0 v (1 + one.1) n one.3 in
     let is : one.0 ≡ v = value_took one.0 v (1 + one.1) n one.3 in
     let marked = of_kind label (tag_byte t) in
-    let behind = behind_found payload few end marked (record { inside = fresh.inside; items = fresh.items; start = fresh.start; count = fresh.count }) bytes (stands_drop payload (byte ∷ bytes) end 1 stands (omega arith)) one.0 one.1 depth_left below t one.2 in
+    let behind = behind_found payload few end marked (record { inside = fresh.inside; items = fresh.items; start = fresh.start; count = fresh.count; number = fresh.number; scale = fresh.scale }) bytes (stands_drop payload (byte ∷ bytes) end 1 stands (omega arith)) one.0 one.1 depth_left below t one.2 in
     let found = behind.1 in
     let tagged : t ≡ tag_of v = sym behind.0 ∙ ap tag_of is in
     (found.node, found.inside, ap (λ j. j >>= λ x. took x.0 (1 + x.1)) found.is ∙ ap (took (found.node ∷ found.inside)) count, found.inside_is, subst (λ u. Keeps (of_kind label (tag_byte u)) found.node) tagged found.keeps, subst (λ x. SaysAt depth_left payload found.node found.inside x) is found.means, omega (arith, found.few, count), omega (arith, found.bound, count))

@@ -11,7 +11,7 @@ use Rattle.amqp_fields.specs.declared.node.Node.{Node}
 use Rattle.amqp_fields.specs.declared.reading.FieldsError.{FieldsError}
 use Rattle.amqp_fields.specs.declared.reading.FieldsError.TheVariants as errors
 use Rattle.amqp_fields.specs.Reading.{NeedsMore}
-use Rattle.amqp_fields.specs.Meaning.{AreNodes, MeansEntry, MeansValue}
+use Rattle.amqp_fields.specs.Meaning.{AreNodes, MeansElement, MeansEntry, MeansValue}
 
 -- something is decoded from so many bytes, or its fault is said
 abbrev pub UsesOrFails : {A : Type 0} → Result ℕ ParserError → Judged A → Type 0
@@ -35,7 +35,7 @@ HasEntries content nodes = HasItems (judge_entry (judge_value inner_depth)) (Mea
 
 -- the values of an array, with all that lies inside them
 abbrev pub HasValues : List ℕ → List Node → Type 0
-HasValues content nodes = HasItems (judge_value inner_depth) (MeansValue inner_depth content) content nodes
+HasValues content nodes = HasItems (judge_value inner_depth) (MeansElement (MeansValue inner_depth content)) content nodes
 
 -- the fault of the content, or a list that is too short
 abbrev pub RefusesContent : {A : Type 0} → (List Node → Type 0) → Result (List A) Fault → ℕ → FieldsError → Type 0

@@ -39,30 +39,43 @@ AreNodes Means (x ∷ xs) nodes = IsGroup (λ node inside. Means node inside x) 
 
 -- ---- values
 
+-- it has no number
+abbrev pub HasNoNumber : Node → Type 0
+HasNoNumber node = (node.number ≡ 0) × (node.scale ≡ 0)
+
 -- it has no span
 abbrev pub HasNoBytes : Node → Type 0
 HasNoBytes node = (node.start ≡ 0) × (node.length ≡ 0)
 
--- a number, without a span, and no nodes inside
-abbrev pub IsNumber : Node → List Node → ℕ → Type 0
-IsNumber node inside n = (node.number ≡ n) × HasNoBytes node × (inside ≡ [])
+-- it has no key
+abbrev pub HasNoKey : Node → Type 0
+HasNoKey node = (node.key_start ≡ 0) × (node.key_length ≡ 0)
 
--- bytes, and no nodes inside
+-- nothing lies inside it
+abbrev pub IsLeaf : Node → List Node → Type 0
+IsLeaf node inside = (node.items ≡ 0) × (inside ≡ [])
+
+-- a number with so many digits behind the point
+abbrev pub IsScaled : Node → List Node → ℕ → ℕ → Type 0
+IsScaled node inside scale n = (node.number ≡ n) × (node.scale ≡ scale) × HasNoBytes node × IsLeaf node inside
+
+-- a number
+abbrev pub IsNumber : Node → List Node → ℕ → Type 0
+IsNumber node inside n = IsScaled node inside 0 n
+
+-- bytes
 abbrev pub IsText : List ℕ → Node → List Node → List ℕ → Type 0
-IsText payload node inside bytes = IsSpan payload node.start node.length bytes × (inside ≡ [])
+IsText payload node inside bytes = IsSpan payload node.start node.length bytes × HasNoNumber node × IsLeaf node inside
 
 -- A node for each of the things that fill the content, and the node says how many they are.
 abbrev pub AreInside : {A : Type 0} → (Node → List Node → A → Type 0) → Node → List Node → List A → Type 0
 AreInside Means node inside xs = (node.items ≡ length xs) × AreNodes Means xs inside
 
--- the node alone: nothing is said of what fills the content
-abbrev pub IsAlone : {A : Type 0} → Node → List Node → List A → Type 0
-IsAlone node inside xs = (node.items ≡ 0) × (inside ≡ [])
-
 -- an array, whose content the values fill
 pub record IsArray (value : Judge FieldValue) (Inside : List FieldValue → Type 0) (payload : List ℕ) (node : Node) (values : List FieldValue) : Type 0 where
   pub content : List ℕ
   pub span : IsSpan payload node.start node.length content
+  pub no_number : HasNoNumber node
   pub fills : filled value 0 content ≡ Ok values
   pub values_are : Inside values
 
@@ -70,6 +83,7 @@ pub record IsArray (value : Judge FieldValue) (Inside : List FieldValue → Type
 pub record IsTable (value : Judge FieldValue) (Inside : List Entry → Type 0) (payload : List ℕ) (node : Node) (table : List Entry) : Type 0 where
   pub content : List ℕ
   pub span : IsSpan payload node.start node.length content
+  pub no_number : HasNoNumber node
   pub entries : List Entry
   pub fills : filled (judge_entry value) 0 content ≡ Ok entries
   pub entries_are : Inside entries
@@ -80,33 +94,37 @@ unfoldable pub Says : (List FieldValue → Type 0) → (List Entry → Type 0) �
 Says Array Table payload node inside (boolean_value b) = IsNumber node inside (bit_of b)
 Says Array Table payload node inside (signed_value kind n) = IsNumber node inside (cast_unsigned w64 n)
 Says Array Table payload node inside (unsigned_value kind n) = IsNumber node inside n
-Says Array Table payload node inside (decimal_value scale n) = IsNumber node inside n × (node.scale ≡ scale)
+Says Array Table payload node inside (decimal_value scale n) = IsScaled node inside scale n
 Says Array Table payload node inside (bytes_value kind bytes) = IsText payload node inside bytes
 Says Array Table payload node inside (array_value vs) = Array (items vs)
 Says Array Table payload node inside (table_value es) = Table (pairs es)
-Says Array Table payload node inside void_value = HasNoBytes node × (inside ≡ [])
+Says Array Table payload node inside void_value = HasNoNumber node × HasNoBytes node × IsLeaf node inside
 
 -- an entry: the span of its key, and its value
 abbrev pub MeansEntry : (Node → List Node → FieldValue → Type 0) → List ℕ → Node → List Node → Entry → Type 0
 MeansEntry Means payload node inside e = IsSpan payload node.key_start node.key_length e.0 × Means node inside e.1
 
+-- a value of an array
+abbrev pub MeansElement : (Node → List Node → FieldValue → Type 0) → Node → List Node → FieldValue → Type 0
+MeansElement Means node inside v = HasNoKey node × Means node inside v
+
 -- what a value is where so many levels more may be nested; an array or table takes one of them
 unfoldable pub SaysAt : ℕ → List ℕ → Node → List Node → FieldValue → Type 0
 SaysAt zero payload node inside v = Says (λ values. ⊥) (λ table. ⊥) payload node inside v
 SaysAt (suc depth_left) payload node inside v =
-    let Means : Node → List Node → FieldValue → Type 0 = λ inner within value. (inner.kind ≡ tag_byte (tag_of value)) × SaysAt depth_left payload inner within value in
-    Says (IsArray (judge_value depth_left) (AreInside Means node inside) payload node) (IsTable (judge_value depth_left) (AreInside (MeansEntry Means payload) node inside) payload node) payload node inside v
+    let Means : Node → List Node → FieldValue → Type 0 = λ inner within value. (inner.kind ≡ tag_byte (tag_of value)) × (inner.place ≡ 0) × SaysAt depth_left payload inner within value in
+    Says (IsArray (judge_value depth_left) (AreInside (MeansElement Means) node inside) payload node) (IsTable (judge_value depth_left) (AreInside (MeansEntry Means payload) node inside) payload node) payload node inside v
 
--- a value: its tag byte, and what it is
+-- a value: its tag byte, no place among fields, and what it is
 abbrev pub MeansValue : ℕ → List ℕ → Node → List Node → FieldValue → Type 0
-MeansValue depth_left payload node inside v = (node.kind ≡ tag_byte (tag_of v)) × SaysAt depth_left payload node inside v
+MeansValue depth_left payload node inside v = (node.kind ≡ tag_byte (tag_of v)) × (node.place ≡ 0) × SaysAt depth_left payload node inside v
 
 -- ---- fields
 
 -- what is known of what lies inside a table
 abbrev pub TableInside : Bool → List ℕ → Node → List Node → List Entry → Type 0
 TableInside true payload node inside entries = AreInside (MeansEntry (MeansValue inner_depth payload) payload) node inside entries
-TableInside false payload node inside entries = IsAlone node inside entries
+TableInside false payload node inside entries = IsLeaf node inside
 
 -- what a field gives; where `deep`, each table has its entries
 abbrev pub MeansItem : Bool → List ℕ → Node → List Node → Item → Type 0
@@ -126,10 +144,11 @@ pub record Field : Type 0 where
 abbrev pub field : ℕ → ℕ → Item → Field
 field place kind item = record { place = place; kind = kind; item = item }
 
--- a field, with its place and its kind
+-- a field, with its place and its kind, and without a key
 pub record MeansField (deep : Bool) (payload : List ℕ) (node : Node) (inside : List Node) (f : Field) : Type 0 where
   pub place_is : node.place ≡ f.place
   pub kind_is : node.kind ≡ f.kind
+  pub no_key : HasNoKey node
   pub means : MeansItem deep payload node inside f.item
 
 -- the kinds of what a form gives
