@@ -14,8 +14,8 @@
  *
  * Arguments
  *
- *   A pointer comes with a length: of bytes in bytes, of marks in marks. Both belong together: so much has to be there, and
- *   it has to stay as it is until the call returns. Where the length is 0 the pointer may be NULL. A buffer or a scratch
+ *   A pointer comes with a length: of bytes in bytes, of marks in marks, of nodes in nodes. Both belong together: so much has
+ *   to be there, and it has to stay as it is until the call returns. Where the length is 0 the pointer may be NULL. A buffer or a scratch
  *   that is written must overlap nothing else that is passed. Nothing else is asked of a caller: all other arguments are
  *   tested. No pointer is kept after a call.
  *
@@ -33,6 +33,7 @@
 #include <stdbool.h>
 #include <stddef.h>
 #include <stdint.h>
+#include <string.h>
 
 #define FEKSROUM_VERSION "0.1.0"
 
@@ -80,8 +81,8 @@ enum {
     FEKSROUM_BAD_TEXT = 26,
 
     /* Of calls. */
-    FEKSROUM_BUFFER_TOO_SMALL = 40, /* the buffer is too short for what is written */
-    FEKSROUM_BAD_ARGUMENT = 41 /* the level is none */
+    FEKSROUM_BUFFER_TOO_SMALL = 40, /* the buffer is too short for what is written, or the list for the nodes */
+    FEKSROUM_BAD_ARGUMENT = 41 /* a number that names none of what is asked for: a level, a detail, a kind */
 };
 
 /* Levels. */
@@ -145,6 +146,83 @@ typedef struct feksroum_payload {
  * status: 0 where it is a frame; 10 where the byte names no type; 12 where the payload is longer than a frame can say,
  * 2^32 - 1 bytes; else its fault, 14 to 20. */
 feksroum_payload feksroum_check(uint8_t type, const uint8_t *payload, size_t length);
+
+/* Kinds of fields of methods and content headers. */
+enum {
+    FEKSROUM_OCTET = 1, /* a number of 1 byte */
+    FEKSROUM_SHORT = 2, /* of 2 bytes */
+    FEKSROUM_LONG = 3, /* of 4 bytes */
+    FEKSROUM_LONG_LONG = 4, /* of 8 bytes */
+    FEKSROUM_FLAG = 5,
+    FEKSROUM_SHORT_STRING = 6, /* UTF-8, at most 255 bytes */
+    FEKSROUM_LONG_STRING = 7, /* any bytes */
+    FEKSROUM_TABLE = 8
+};
+
+/* A field of a method or a content header, or a value in a table or an array: a number, or where its bytes lie, counted from
+ * the front of what was read. 32 bytes, no padding. Members that a kind does not have are 0. */
+typedef struct feksroum_node {
+    uint64_t number; /* a number, a signed one in two's complement; 0 or 1 of a flag or truth value; the bits of a float or
+                        double; the unsigned number of a decimal */
+    uint32_t start; /* where the bytes of a string or byte array begin, or the content of a table or array, without its length */
+    uint32_t length; /* how many bytes these are */
+    uint32_t key_start; /* where the key of an entry of a table begins */
+    uint32_t inside; /* how many of the nodes that follow lie inside this one */
+    uint32_t items; /* how many of these are its own entries or values */
+    uint8_t key_length;
+    uint8_t kind; /* of a field as above; of a value its tag byte, as 'S', 'I' or 'F' (docs/FORMAT.md): 'U' is read as 's',
+                     'L' as 'l' */
+    uint8_t place; /* which field of its method it is, from 0 on, reserved ones not counted and each flag one; or which of
+                      the 14 properties, content-type the first; of a value 0 */
+    uint8_t scale; /* of a decimal: how many digits are behind the point */
+} feksroum_node;
+
+/* What stands in a whole payload, and how many nodes its fields have. Where no nodes are given, all but status and nodes is
+ * 0 and false. 24 bytes, no padding. */
+typedef struct feksroum_fields {
+    uint64_t body_size; /* of a content header; else 0 */
+    uint64_t nodes; /* how many are given; at status 40, how many the list has to have */
+    uint16_t class_id; /* of a method or content header; else 0 */
+    uint16_t method_id; /* of a method; else 0 */
+    bool canonical; /* the payload is the canonical one */
+    bool tidy;
+    uint8_t status; /* 0, 10, 12, 14 to 20, 40 or 41 */
+    uint8_t unused; /* 0 */
+} feksroum_fields;
+
+/* How much is read: the fields alone, or with all that lies inside their tables. */
+enum { FEKSROUM_SHALLOW = 0, FEKSROUM_DEEP = 1 };
+
+/* Reads the fields of a whole payload of this type as nodes, in the order of the bytes: those of a method that are not
+ * reserved, the properties of a content header that are set, the three numbers of a protocol header. A body and a heartbeat
+ * have none. At FEKSROUM_DEEP the node of each table is followed by those of its entries, and of all that lies inside them. So
+ * the next node on the level of nodes[k] is nodes[k + 1 + nodes[k].inside]. Entries stand as they were sent: of equal keys
+ * the last one counts. There are at most as many nodes as bytes.
+ *
+ * status: 0 where the nodes are given; 41 where the detail is none; 10, 12, 14 to 20 as feksroum_check has them; 40 where the
+ * list is shorter than `nodes` says. What stands in the list behind the nodes, or at other statuses than 0, is not specified. */
+feksroum_fields feksroum_read(uint8_t type, const uint8_t *payload, size_t length, uint8_t detail, feksroum_node *nodes,
+                              size_t room);
+
+/* The same of what fills a table (kind 'F') or an array ('A') that stands alone, without its length: its entries or values, with
+ * all that lies inside them. Of the result all but status and nodes is 0 and false.
+ *
+ * status: 0 where the nodes are given; 41 where the kind is neither; 12 where the content has more than 2^32 - 1 bytes; 16 and
+ * 18 to 20 where it has a fault; 40 where the list is too short. */
+feksroum_fields feksroum_open(uint8_t kind, const uint8_t *content, size_t length, feksroum_node *nodes, size_t room);
+
+/* The value of a key in a table: `table` is its node, followed by those inside it, and `bytes` what was read. NULL where the
+ * table does not have the key. */
+static inline const feksroum_node *feksroum_find(const feksroum_node *table, const uint8_t *bytes, const void *key,
+                                                 size_t key_length) {
+    const feksroum_node *found = NULL;
+    for (const feksroum_node *node = table + 1; node <= table + table->inside; node += 1 + node->inside) {
+        if (node->key_length == key_length && memcmp(bytes + node->key_start, key, key_length) == 0) {
+            found = node;
+        }
+    }
+    return found;
+}
 
 /* How far a call came. */
 typedef struct feksroum_progress {

@@ -2,7 +2,7 @@
  *
  *     cases whole|filter|proxy|lines CASES RESULTS
  *
- * `lines` goes from frame to frame, writes the line of each, and reads that back: all have to write the same.
+ * `lines` goes from frame to frame, reads the fields of each, writes its line, and reads that back: all have to write the same.
  *
  * CASES has, one after another: the level (1 byte), a length (4 bytes, the lowest first) and as many bytes, a count (2 bytes)
  * and as many sizes of pieces (2 bytes each) in which they are read; what is left after these is read at once. RESULTS has
@@ -12,6 +12,7 @@
 #include <stdlib.h>
 #include <string.h>
 
+#include "fields.h"
 #include "filter.h"
 #include "proxy.h"
 
@@ -146,6 +147,9 @@ static int run_lines(test_case *test) {
             return frame.status;
         }
         feksroum_payload payload = feksroum_check(frame.type, rest + frame.payload_start, frame.payload_length);
+        if (!fields_agree(frame.type, rest + frame.payload_start, frame.payload_length)) {
+            stop("fields are not as wanted");
+        }
         if (payload.status != FEKSROUM_OK) {
             return payload.status;
         }

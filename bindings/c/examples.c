@@ -4,12 +4,14 @@
  *
  * `raw` and `lent` are bytes; `hex` and `tidy` are hex texts, for which the canonical bytes in hex and, on a line of its
  * own, the name of the fault are printed; `dump` are bytes whose lines are printed, and `undump` lines whose bytes are. Also
- * tests the frames and payloads of each against what canonicalizing says, lines against those that are read back, the names
+ * tests the frames, payloads and fields of each against what canonicalizing says, lines against those that are read back, the names
  * of statuses, arguments at their bounds, and that a scratch changes nothing that is written. */
 #include <feksroum.h>
 #include <stdio.h>
 #include <stdlib.h>
 #include <string.h>
+
+#include "fields.h"
 
 enum { MAX_PAYLOAD = 131072, SIZE = 1 << 20 };
 
@@ -94,7 +96,11 @@ static bool frames_agree(size_t length, feksroum_progress progress) {
         feksroum_frame frame = feksroum_next(bytes + at, length - at, MAX_PAYLOAD);
         uint8_t status = frame.status;
         if (status == FEKSROUM_OK) {
-            status = feksroum_check(frame.type, bytes + at + frame.payload_start, frame.payload_length).status;
+            const uint8_t *payload = bytes + at + frame.payload_start;
+            status = feksroum_check(frame.type, payload, frame.payload_length).status;
+            if (!fields_agree(frame.type, payload, frame.payload_length)) {
+                return false;
+            }
         }
         if (status != FEKSROUM_OK) {
             return status == progress.status && at == progress.used;
@@ -213,7 +219,7 @@ static bool run(const char *folder, const char *name, const char *command, int s
 
 int main(int argc, char **argv) {
     char path[4096], line[4096], name[256], command[256];
-    int status, done = 0, failed = !names_agree() || !arguments_are_tested() || !scratch_agrees();
+    int status, done = 0, failed = !names_agree() || !arguments_are_tested() || !fields_are_known() || !scratch_agrees();
     snprintf(path, sizeof path, "%s/statuses", argc == 2 ? argv[1] : "");
     FILE *list = fopen(path, "r");
     if (!list) {

@@ -2,6 +2,7 @@
 pub mod Entries
 pub mod Feeding
 pub mod FrameLines
+pub mod NodesGiven
 pub mod Fronts
 pub mod Summaries
 pub mod EqualResults

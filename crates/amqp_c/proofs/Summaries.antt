@@ -73,7 +73,7 @@ summary-channel kind a b payload =
     ∙ read-any kind a b payload
     ∙ sym (summary-read kind b payload (whole_as kind b payload) refl)
 
-raw-known : (byte channel : ℕ) (kind : AMQPFrameType) (payload : List ℕ) → type_of byte ≡ Some kind → length payload ≤ 4294967295 → raw_after byte channel payload ≡ Ok (raw_as kind channel payload)
+pub raw-known : (byte channel : ℕ) (kind : AMQPFrameType) (payload : List ℕ) → type_of byte ≡ Some kind → length payload ≤ 4294967295 → raw_after byte channel payload ≡ Ok (raw_as kind channel payload)
 raw-known byte channel kind payload e few = ap (λ o. raw_typed o channel payload) e ∙ ap (λ t. raw_if t (raw_as kind channel payload)) (le-ltb 4294967295 (length payload) few)
 
 -- what is reported of a payload after a type byte, on any channel

@@ -4,3 +4,4 @@ pub mod Checks
 pub mod Statuses
 pub mod Rewriting
 pub mod FrameLines
+pub mod Fields

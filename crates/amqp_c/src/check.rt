@@ -52,7 +52,7 @@ fn summary(
 }
 
 /// Sums up a frame by its outline.
-fn sum_up(judged: FrameJudgement, outline: FrameOutline) -> PayloadSummary
+pub(crate) fn sum_up(judged: FrameJudgement, outline: FrameOutline) -> PayloadSummary
     ensures { result ≡ summed judged.canonical judged.tidy outline }
 {
     match outline {

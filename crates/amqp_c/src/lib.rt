@@ -5,6 +5,7 @@
 mod canonicalize;
 mod check;
 mod equality;
+mod fields;
 mod frame_types;
 mod laws;
 mod lines;
@@ -20,6 +21,7 @@ pub use equality::{
     equal_call_errors, equal_frame_lines, equal_front_frames, equal_payload_summaries,
     equal_progress,
 };
+pub use fields::PayloadFields;
 pub use laws::{faults_stay, little_is_left, pieces_are_whole};
 pub use lines::FrameLine;
 pub use next::FrontFrame;

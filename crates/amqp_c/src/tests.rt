@@ -3,10 +3,12 @@
 use super::*;
 use crate::canonicalize::feksroum_canonicalize;
 use crate::check::feksroum_check;
+use crate::fields::{feksroum_open, feksroum_read};
 use crate::lines::{feksroum_dump, feksroum_undump};
 use crate::next::feksroum_next;
 use crate::scratch::feksroum_scratch;
 use crate::statuses::feksroum_name;
+use amqp_fields::Node;
 use amqp_wire::EntryMark;
 
 const LIMIT: u32 = 131_072;
@@ -175,4 +177,133 @@ fn statuses_have_names(rt: HostRuntime) {
     assert!(rt; feksroum_name(41, &mut out) == 11 && out.get(..11) == Some(b"BadArgument"));
     assert!(rt; feksroum_name(26, &mut out) == 7 && out.get(..7) == Some(b"BadText"));
     assert!(rt; feksroum_name(0, &mut out) == 0 && feksroum_name(255, &mut out) == 0);
+}
+
+/// A message is published to the queue `q`, and is mandatory.
+const PUBLISH: [u8; 10] = [0, 60, 0, 40, 0, 0, 0, 1, 113, 1];
+
+/// The same, cut off before its flags.
+const PUBLISH_CUT: [u8; 9] = [0, 60, 0, 40, 0, 0, 0, 1, 113];
+
+/// A content header of a body of 5 bytes, with a table: `a` is true.
+const HEADERS: [u8; 22] = [
+    0, 60, 0, 0, 0, 0, 0, 0, 0, 0, 0, 5, 32, 0, 0, 0, 0, 4, 1, 97, 116, 1,
+];
+
+/// A type, a payload, what is asked for, the length of the list; how many nodes, class, method, size, status.
+type Read = (u8, &'static [u8], u8, usize, (u64, u16, u16, u64, u8));
+
+const READS: &[Read] = &[
+    (1, &PUBLISH, 0, 4, (4, 60, 40, 0, 0)),
+    (1, &PUBLISH, 1, 3, (4, 0, 0, 0, 40)),
+    (2, &HEADERS, 0, 1, (1, 60, 0, 5, 0)),
+    (2, &HEADERS, 1, 4, (2, 60, 0, 5, 0)),
+    (2, &HEADERS, 1, 1, (2, 0, 0, 0, 40)),
+    (2, &HEADERS, 2, 4, (0, 0, 0, 0, 41)),
+    (1, &PUBLISH_CUT, 1, 0, (0, 0, 0, 0, 16)),
+    (4, &PUBLISH, 1, 4, (0, 0, 0, 0, 10)),
+    (3, &PUBLISH, 1, 0, (0, 0, 0, 0, 0)),
+    (65, &[0, 9, 1], 0, 3, (3, 0, 0, 0, 0)),
+];
+
+/// Whether a payload is read so, and its nodes are these where they are given.
+fn is_read(row: Read, nodes: &[Node]) -> bool {
+    let mut list = [Node::default(); 4];
+    let Some(list) = list.get_mut(..row.3) else {
+        return false;
+    };
+    let read = feksroum_read(row.0, row.1, row.2, list);
+    let ids = (read.nodes, read.class_id, read.method_id);
+    (ids.0, ids.1, ids.2, read.body_size, read.status) == row.4
+        && read.unused == 0
+        && (read.status != 0 || list.get(..nodes.len()) == Some(nodes))
+}
+
+/// A field of a kind at a place, with this number and span.
+fn field(place: u8, kind: u8, number: u64, start: u32, length: u32) -> Node {
+    Node {
+        number,
+        start,
+        length,
+        kind,
+        place,
+        ..Node::default()
+    }
+}
+
+/// The table of a content header, with so many nodes inside.
+fn headers(inside: u32) -> Node {
+    Node {
+        inside,
+        items: inside,
+        ..field(2, 8, 0, 18, 4)
+    }
+}
+
+/// A truth value, whose key begins at a place.
+fn is_true(key_start: u32, key_length: u8) -> Node {
+    Node {
+        key_start,
+        key_length,
+        ..field(0, 116, 1, 0, 0)
+    }
+}
+
+#[test]
+fn fields_are_read(rt: HostRuntime) {
+    for row in READS {
+        assert!(rt; is_read(*row, &[]));
+    }
+    let publish = [
+        field(0, 6, 0, 7, 0),
+        field(1, 6, 0, 8, 1),
+        field(2, 5, 1, 0, 0),
+        field(3, 5, 0, 0, 0),
+    ];
+    assert!(rt; is_read((1, &PUBLISH, 1, 4, (4, 60, 40, 0, 0)), &publish));
+    assert!(rt; is_read((2, &HEADERS, 0, 1, (1, 60, 0, 5, 0)), &[headers(0)]));
+    assert!(rt;
+        is_read(
+            (2, &HEADERS, 1, 2, (2, 60, 0, 5, 0)),
+            &[headers(1), is_true(19, 1)]
+        )
+    );
+}
+
+/// A kind, a content, the length of the list; how many nodes, status.
+type Open = (u8, &'static [u8], usize, (u64, u8));
+
+const OPENS: &[Open] = &[
+    (70, &[1, 97, 116, 1], 1, (1, 0)),
+    (70, &[1, 97, 116, 1], 0, (1, 40)),
+    (70, &[], 0, (0, 0)),
+    (70, &[1, 97, 116], 1, (0, 16)),
+    (65, &[116, 1, 86], 2, (2, 0)),
+    (65, &[116, 1, 86], 1, (2, 40)),
+    (65, &[7], 1, (0, 19)),
+    (83, &[116, 1], 1, (0, 41)),
+    (7, &[], 1, (0, 41)),
+];
+
+/// Whether a content is opened so, and its first node is this one where nodes are given.
+fn is_opened(row: Open, first: Option<Node>) -> bool {
+    let mut list = [Node::default(); 2];
+    let Some(list) = list.get_mut(..row.2) else {
+        return false;
+    };
+    let opened = feksroum_open(row.0, row.1, list);
+    let given = match first {
+        Some(node) => list.get(0) == Some(&node),
+        None => true,
+    };
+    (opened.nodes, opened.status) == row.3 && opened.class_id == 0 && given
+}
+
+#[test]
+fn contents_are_opened(rt: HostRuntime) {
+    for row in OPENS {
+        assert!(rt; is_opened(*row, None));
+    }
+    assert!(rt; is_opened((70, &[1, 97, 116, 1], 1, (1, 0)), Some(is_true(1, 1))));
+    assert!(rt; is_opened((65, &[116, 1, 86], 2, (2, 0)), Some(is_true(0, 0))));
 }

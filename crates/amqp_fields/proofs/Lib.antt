@@ -13,3 +13,4 @@ pub mod SlotSteps
 pub mod Within
 pub mod Filling
 pub mod ContentsFound
+pub mod EqualNodes

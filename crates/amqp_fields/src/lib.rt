@@ -12,6 +12,8 @@ mod reading;
 mod values;
 
 pub use contents::{read_entries, read_values};
-pub use laws::{last_entries_win, spans_lie_within};
+pub use laws::{
+    equal_fields_errors, equal_fields_read, equal_nodes, last_entries_win, spans_lie_within,
+};
 pub use node::{FLAG, LONG, LONG_LONG, LONG_STRING, Node, OCTET, SHORT, SHORT_STRING, TABLE};
 pub use reading::{FieldsError, FieldsRead, read_fields};

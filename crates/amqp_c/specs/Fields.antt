@@ -1,0 +1,128 @@
+-- What is reported of the fields of a whole payload, or of contents that stand alone.
+use Rattle.std.specs.Prelude.{◌≡◌, ◌==◌, ◌≤◌, ℕ, nat_lt, Bool, true, false, if◌then◌else◌, List, length, take, Option, Some, None, Result, Ok, Err}
+use Rattle.amqp_types.specs.Levels.{tidy, strict}
+use Rattle.amqp_types.specs.Judging.{Fault, too_large}
+use Rattle.amqp_types.specs.Constants.{inner_depth}
+use Rattle.amqp_types.specs.Tags.{tag_at}
+use Rattle.amqp_types.specs.ValueJudging.{filled, judge_entry, judge_value}
+use Rattle.amqp_types.specs.declared.tag.FieldTag.{FieldTag}
+use Rattle.amqp_types.specs.declared.tag.FieldTag.TheVariants as tag
+use Rattle.amqp_wire.specs.Frames.{Frame, Raw}
+use Rattle.amqp_wire.specs.Outlines.{outline_of}
+use Rattle.amqp_wire.specs.Verdicts.{is_at, whole}
+use Rattle.amqp_fields.specs.declared.node.Node.{Node}
+use Rattle.amqp_types.specs.declared.errors.ParserError.{ParserError}
+use Rattle.amqp_types.specs.declared.errors.ParserError.TheVariants as parser_errors
+use Rattle.amqp_fields.specs.declared.reading.FieldsError.{FieldsError}
+use Rattle.amqp_fields.specs.declared.reading.FieldsError.TheVariants as errors
+use Rattle.amqp_fields.specs.Meaning.{AreNodesOf}
+use Rattle.amqp_fields.specs.Contents.{HasEntries, HasValues}
+use Rattle.amqp_c.specs.declared.check.PayloadSummary.{PayloadSummary}
+use Rattle.amqp_c.specs.declared.fields.PayloadFields.{PayloadFields}
+use Rattle.amqp_c.specs.Checks.{raw_after, summed}
+use Rattle.amqp_c.specs.Scans.{fault_status}
+use Rattle.amqp_c.specs.Statuses.{bad_argument, buffer_too_small}
+
+-- a status, and a number of nodes
+abbrev pub counted : ℕ → ℕ → PayloadFields
+counted status count = record { body_size = 0; nodes = count; class_id = 0; method_id = 0; canonical = false; tidy = false; status = status; unused = 0 }
+
+-- what stands in a payload, and how many nodes its fields have
+abbrev pub fields_with : PayloadSummary → ℕ → PayloadFields
+fields_with summary count = record {
+  body_size = summary.body_size;
+  nodes = count;
+  class_id = summary.class_id;
+  method_id = summary.method_id;
+  canonical = summary.canonical;
+  tidy = summary.tidy;
+  status = summary.status;
+  unused = 0;
+}
+
+-- the same where the list has room for them, and else how many there are
+abbrev pub fields_in : ℕ → PayloadSummary → ℕ → PayloadFields
+fields_in room summary count = if nat_lt room count then counted buffer_too_small count else fields_with summary count
+
+-- 0 asks for fields alone, 1 for all that lies inside them too
+abbrev pub deep_at : ℕ → Option Bool
+deep_at detail = if detail == 0 then Some false else (if detail == 1 then Some true else None)
+
+-- The nodes of a frame with this payload: how many they are is said, and where the list has room for all, they stand in front of it.
+pub record GivesNodes (deep : Bool) (raw : Raw) (frame : Frame) (list : List Node) (result : PayloadFields) : Type 0 where
+  pub nodes : List Node
+  pub nodes_are : AreNodesOf deep raw.payload frame nodes
+  pub result_is : result ≡ fields_in (length list) (summed (is_at strict raw) (is_at tidy raw) (outline_of frame)) (length nodes)
+  pub in_front : length nodes ≤ length list → take (length nodes) list ≡ nodes
+
+-- the fields of a frame, or the fault of its payload
+abbrev pub ReadsFrame : Bool → Raw → Result Frame Fault → List Node → PayloadFields → Type 0
+ReadsFrame deep raw (Ok frame) list result = GivesNodes deep raw frame list result
+ReadsFrame deep raw (Err bad) list result = result ≡ counted (fault_status bad) 0
+
+-- the fields of a whole payload
+abbrev pub ReadsWhole : Bool → Raw → List Node → PayloadFields → Type 0
+ReadsWhole deep raw list result = ReadsFrame deep raw (whole raw) list result
+
+-- the same of a payload after a type byte; a fault of that byte, or of the payload's length, comes next
+abbrev pub ReadsRaw : Bool → Result Raw Fault → List Node → PayloadFields → Type 0
+ReadsRaw deep (Ok raw) list result = ReadsWhole deep raw list result
+ReadsRaw deep (Err bad) list result = result ≡ counted (fault_status bad) 0
+
+-- the same with what is asked for; a number that asks for nothing comes first
+abbrev pub ReadsAfter : ℕ → List ℕ → Option Bool → List Node → PayloadFields → Type 0
+ReadsAfter byte payload (Some deep) list result = ReadsRaw deep (raw_after byte 0 payload) list result
+ReadsAfter byte payload None list result = result ≡ counted bad_argument 0
+
+-- ---- contents that stand alone
+
+-- The nodes of what fills some content: how many they are is said, and where the list has room for all, they stand in front of it.
+pub record GivesItems (Has : List Node → Type 0) (list : List Node) (result : PayloadFields) : Type 0 where
+  pub nodes : List Node
+  pub has : Has nodes
+  pub result_is : result ≡ (if nat_lt (length list) (length nodes) then counted buffer_too_small (length nodes) else counted 0 (length nodes))
+  pub in_front : length nodes ≤ length list → take (length nodes) list ≡ nodes
+
+-- what fills some content, or its fault
+abbrev pub OpensFilled : {A : Type 0} → (List Node → Type 0) → Result (List A) Fault → List Node → PayloadFields → Type 0
+OpensFilled Has (Ok things) list result = GivesItems Has list result
+OpensFilled Has (Err bad) list result = result ≡ counted (fault_status bad) 0
+
+-- the same of a content that may be longer than four bytes can say
+abbrev pub OpensIf : {A : Type 0} → Bool → (List Node → Type 0) → Result (List A) Fault → List Node → PayloadFields → Type 0
+OpensIf true Has read list result = result ≡ counted (fault_status too_large) 0
+OpensIf false Has read list result = OpensFilled Has read list result
+
+-- the entries of a table, or the fault of what stands in it
+abbrev pub OpensEntries : List ℕ → List Node → PayloadFields → Type 0
+OpensEntries content list result = OpensIf (nat_lt 4294967295 (length content)) (HasEntries content) (filled (judge_entry (judge_value inner_depth)) 0 content) list result
+
+-- the values of an array, or the fault of what stands in it
+abbrev pub OpensValues : List ℕ → List Node → PayloadFields → Type 0
+OpensValues content list result = OpensIf (nat_lt 4294967295 (length content)) (HasValues content) (filled (judge_value inner_depth) 0 content) list result
+
+-- the content of an array or a table, by its tag; a byte that is neither comes first
+abbrev pub Opens : Option FieldTag → List ℕ → List Node → PayloadFields → Type 0
+Opens (Some tag.FieldArray) content list result = OpensValues content list result
+Opens (Some tag.FieldTable) content list result = OpensEntries content list result
+Opens other content list result = result ≡ counted bad_argument 0
+
+-- the status of an error of what stands in a table or an array
+abbrev pub content_status : ParserError → ℕ
+content_status parser_errors.Incomplete = 21
+content_status parser_errors.UnknownFrameType = 10
+content_status parser_errors.BadProtocolHeader = 11
+content_status parser_errors.BadFrameEnd = 13
+content_status parser_errors.UnknownClass = 14
+content_status parser_errors.UnknownMethod = 15
+content_status parser_errors.ShortPayload = 16
+content_status parser_errors.TrailingBytes = 17
+content_status parser_errors.NotUtf8 = 18
+content_status parser_errors.UnknownTag = 19
+content_status parser_errors.TooDeep = 20
+content_status parser_errors.NoMemory = 3
+
+-- what is reported of an error
+abbrev pub refused_content : FieldsError → PayloadFields
+refused_content (errors.Payload error) = counted (content_status error) 0
+refused_content (errors.TooFew needed) = counted buffer_too_small needed
