@@ -36,6 +36,24 @@
 #include <string.h>
 
 #define FEKSROUM_VERSION "0.1.0"
+#define FEKSROUM_VERSION_MAJOR 0
+#define FEKSROUM_VERSION_MINOR 1
+#define FEKSROUM_VERSION_PATCH 0
+
+/* What compilers can be told of a function: its result is what it is called for; it only reads, or may write, as many bytes
+ * as the argument of a number says. */
+#if defined(__GNUC__)
+#define FEKSROUM_RESULT __attribute__((warn_unused_result))
+#else
+#define FEKSROUM_RESULT
+#endif
+#if defined(__GNUC__) && !defined(__clang__) && __GNUC__ >= 10
+#define FEKSROUM_READS(pointer, count) __attribute__((access(read_only, pointer, count)))
+#define FEKSROUM_WRITES(pointer, count) __attribute__((access(write_only, pointer, count)))
+#else
+#define FEKSROUM_READS(pointer, count)
+#define FEKSROUM_WRITES(pointer, count)
+#endif
 
 #ifdef __cplusplus
 extern "C" {
@@ -128,7 +146,7 @@ typedef struct feksroum_frame {
  *
  * status: 0 where a whole frame is in front; 21 where the bytes end inside one, or there are none; else its fault, 10 to
  * 13. A frame or a fault stays the same, whatever bytes follow. */
-feksroum_frame feksroum_next(const uint8_t *bytes, size_t length, uint32_t max_payload);
+feksroum_frame feksroum_next(const uint8_t *bytes, size_t length, uint32_t max_payload) FEKSROUM_RESULT FEKSROUM_READS(1, 2);
 
 /* What stands in a whole payload. Where it is no frame, all but status is 0 and false. */
 typedef struct feksroum_payload {
@@ -145,7 +163,7 @@ typedef struct feksroum_payload {
  *
  * status: 0 where it is a frame; 10 where the byte names no type; 12 where the payload is longer than a frame can say,
  * 2^32 - 1 bytes; else its fault, 14 to 20. */
-feksroum_payload feksroum_check(uint8_t type, const uint8_t *payload, size_t length);
+feksroum_payload feksroum_check(uint8_t type, const uint8_t *payload, size_t length) FEKSROUM_RESULT FEKSROUM_READS(2, 3);
 
 /* Kinds of fields of methods and content headers. */
 enum {
@@ -202,14 +220,15 @@ enum { FEKSROUM_SHALLOW = 0, FEKSROUM_DEEP = 1 };
  * status: 0 where the nodes are given; 41 where the detail is none; 10, 12, 14 to 20 as feksroum_check has them; 40 where the
  * list is shorter than `nodes` says. What stands in the list behind the nodes, or at other statuses than 0, is not specified. */
 feksroum_fields feksroum_read(uint8_t type, const uint8_t *payload, size_t length, uint8_t detail, feksroum_node *nodes,
-                              size_t room);
+                              size_t room) FEKSROUM_RESULT FEKSROUM_READS(2, 3);
 
 /* The same of what fills a table (kind 'F') or an array ('A') that stands alone, without its length: its entries or values, with
  * all that lies inside them. Of the result all but status and nodes is 0 and false.
  *
  * status: 0 where the nodes are given; 41 where the kind is neither; 12 where the content has more than 2^32 - 1 bytes; 16 and
  * 18 to 20 where it has a fault; 40 where the list is too short. */
-feksroum_fields feksroum_open(uint8_t kind, const uint8_t *content, size_t length, feksroum_node *nodes, size_t room);
+feksroum_fields feksroum_open(uint8_t kind, const uint8_t *content, size_t length, feksroum_node *nodes, size_t room)
+    FEKSROUM_RESULT FEKSROUM_READS(2, 3);
 
 /* The value of a key in a table: `table` is its node, followed by those inside it, and `bytes` what was read. NULL where the
  * table does not have the key. */
@@ -246,7 +265,8 @@ typedef struct feksroum_progress {
  * written, what is left and the last status are then those of one call with all the bytes. A fault stays, whatever follows.
  * At most max_payload + 7 bytes are ever left at status 21, so max_payload + 8 bytes of room never fill up. */
 feksroum_progress feksroum_canonicalize(const uint8_t *bytes, size_t length, uint8_t *out, size_t out_length,
-                                        feksroum_mark *scratch, size_t scratch_length, uint32_t max_payload, uint8_t level);
+                                        feksroum_mark *scratch, size_t scratch_length, uint32_t max_payload, uint8_t level)
+    FEKSROUM_RESULT FEKSROUM_READS(1, 2) FEKSROUM_WRITES(3, 4);
 
 /* One frame and its line, of which one was read and the other written. At statuses other than 0 and 40 both counts are 0. */
 typedef struct feksroum_line {
@@ -262,7 +282,8 @@ typedef struct feksroum_line {
  * status: 0 where the line is written; 40 where `out` is shorter than `length`, which is then what it needs, and nothing is
  * written; 3 where memory ran out; 21 where the bytes end inside a frame, or there are none; else the frame's fault, 10 to
  * 20. At 3, 10 to 21 and 40 `out` is as it was. */
-feksroum_line feksroum_dump(const uint8_t *bytes, size_t length, uint8_t *out, size_t out_length, uint32_t max_payload);
+feksroum_line feksroum_dump(const uint8_t *bytes, size_t length, uint8_t *out, size_t out_length, uint32_t max_payload)
+    FEKSROUM_RESULT FEKSROUM_READS(1, 2) FEKSROUM_WRITES(3, 4);
 
 /* Writes into `out` the canonical bytes of the frame whose line is in front of the text, up to the first newline. What comes
  * after them is left as it was. A frame's line is read as it is written: each number, string and table in its one form.
@@ -270,11 +291,60 @@ feksroum_line feksroum_dump(const uint8_t *bytes, size_t length, uint8_t *out, s
  * status: 0 where they are written; 40 where `out` is shorter than `length`, which is then what it needs; 3 where memory ran
  * out; 21 where no newline is in the text; 26 where what is in front of it is the line of no frame with a payload of at
  * most max_payload bytes. At 3, 21, 26 and 40 `out` is as it was. */
-feksroum_line feksroum_undump(const uint8_t *text, size_t length, uint8_t *out, size_t out_length, uint32_t max_payload);
+feksroum_line feksroum_undump(const uint8_t *text, size_t length, uint8_t *out, size_t out_length, uint32_t max_payload)
+    FEKSROUM_RESULT FEKSROUM_READS(1, 2) FEKSROUM_WRITES(3, 4);
 
 /* Writes the name of a status, as "BadFrameEnd", at the front of `out` where it fits, and returns its length. No 0 byte
  * follows it. Returns 0 where the status is no error's. A buffer of FEKSROUM_NAME_MAX bytes is enough for each. */
-size_t feksroum_name(uint8_t status, uint8_t *out, size_t out_length);
+size_t feksroum_name(uint8_t status, uint8_t *out, size_t out_length) FEKSROUM_WRITES(2, 3);
+
+/* The same name as a string, for printf; "" where the status is no error's. */
+static inline const char *feksroum_status_name(uint8_t status) {
+    switch (status) {
+    case FEKSROUM_NO_MEMORY:
+        return "NoMemory";
+    case FEKSROUM_READ_FAULT:
+        return "ReadFault";
+    case FEKSROUM_WRITE_FAULT:
+        return "WriteFault";
+    case FEKSROUM_UNKNOWN_FRAME_TYPE:
+        return "UnknownFrameType";
+    case FEKSROUM_BAD_PROTOCOL_HEADER:
+        return "BadProtocolHeader";
+    case FEKSROUM_TOO_LARGE:
+        return "TooLarge";
+    case FEKSROUM_BAD_FRAME_END:
+        return "BadFrameEnd";
+    case FEKSROUM_UNKNOWN_CLASS:
+        return "UnknownClass";
+    case FEKSROUM_UNKNOWN_METHOD:
+        return "UnknownMethod";
+    case FEKSROUM_SHORT_PAYLOAD:
+        return "ShortPayload";
+    case FEKSROUM_TRAILING_BYTES:
+        return "TrailingBytes";
+    case FEKSROUM_NOT_UTF8:
+        return "NotUtf8";
+    case FEKSROUM_UNKNOWN_TAG:
+        return "UnknownTag";
+    case FEKSROUM_TOO_DEEP:
+        return "TooDeep";
+    case FEKSROUM_INCOMPLETE:
+        return "CutShort";
+    case FEKSROUM_TURNS_SPENT:
+        return "TurnsSpent";
+    case FEKSROUM_NOT_TIDY:
+        return "NotTidy";
+    case FEKSROUM_BAD_TEXT:
+        return "BadText";
+    case FEKSROUM_BUFFER_TOO_SMALL:
+        return "BufferTooSmall";
+    case FEKSROUM_BAD_ARGUMENT:
+        return "BadArgument";
+    default:
+        return "";
+    }
+}
 
 #ifdef __cplusplus
 }

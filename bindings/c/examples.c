@@ -13,6 +13,10 @@
 
 #include "fields.h"
 
+/* Three numbers as a version is written. */
+#define VERSION_OF(major, minor, patch) WRITTEN(major, minor, patch)
+#define WRITTEN(major, minor, patch) #major "." #minor "." #patch
+
 enum { MAX_PAYLOAD = 131072, SIZE = 1 << 20 };
 
 static uint8_t input[SIZE], wanted[SIZE], bytes[SIZE], out[SIZE], text[SIZE];
@@ -110,44 +114,19 @@ static bool frames_agree(size_t length, feksroum_progress progress) {
     return progress.status == FEKSROUM_OK && at == progress.used;
 }
 
-/* The statuses of the header and the names that the library has for them. */
+/* The names that the header has for statuses are those that the library has. */
 static bool names_agree(void) {
-    static const struct {
-        uint8_t status;
-        const char *name;
-    } names[] = {
-        {FEKSROUM_NO_MEMORY, "NoMemory"},
-        {FEKSROUM_READ_FAULT, "ReadFault"},
-        {FEKSROUM_WRITE_FAULT, "WriteFault"},
-        {FEKSROUM_UNKNOWN_FRAME_TYPE, "UnknownFrameType"},
-        {FEKSROUM_BAD_PROTOCOL_HEADER, "BadProtocolHeader"},
-        {FEKSROUM_TOO_LARGE, "TooLarge"},
-        {FEKSROUM_BAD_FRAME_END, "BadFrameEnd"},
-        {FEKSROUM_UNKNOWN_CLASS, "UnknownClass"},
-        {FEKSROUM_UNKNOWN_METHOD, "UnknownMethod"},
-        {FEKSROUM_SHORT_PAYLOAD, "ShortPayload"},
-        {FEKSROUM_TRAILING_BYTES, "TrailingBytes"},
-        {FEKSROUM_NOT_UTF8, "NotUtf8"},
-        {FEKSROUM_UNKNOWN_TAG, "UnknownTag"},
-        {FEKSROUM_TOO_DEEP, "TooDeep"},
-        {FEKSROUM_INCOMPLETE, "CutShort"},
-        {FEKSROUM_TURNS_SPENT, "TurnsSpent"},
-        {FEKSROUM_NOT_TIDY, "NotTidy"},
-        {FEKSROUM_BAD_TEXT, "BadText"},
-        {FEKSROUM_BUFFER_TOO_SMALL, "BufferTooSmall"},
-        {FEKSROUM_BAD_ARGUMENT, "BadArgument"},
-    };
     size_t named = 0;
     for (int status = 0; status < 256; status++) {
-        named += feksroum_name((uint8_t)status, text, SIZE) > 0;
-    }
-    for (size_t k = 0; k < sizeof names / sizeof *names; k++) {
-        size_t length = feksroum_name(names[k].status, text, FEKSROUM_NAME_MAX);
-        if (length != strlen(names[k].name) || memcmp(text, names[k].name, length) != 0) {
+        const char *name = feksroum_status_name((uint8_t)status);
+        size_t length = feksroum_name((uint8_t)status, text, FEKSROUM_NAME_MAX);
+        if (length != strlen(name) || memcmp(text, name, length) != 0) {
             return false;
         }
+        named += length > 0;
     }
-    return named == sizeof names / sizeof *names;
+    const char *version = VERSION_OF(FEKSROUM_VERSION_MAJOR, FEKSROUM_VERSION_MINOR, FEKSROUM_VERSION_PATCH);
+    return named == 20 && strcmp(FEKSROUM_VERSION, version) == 0;
 }
 
 /* Arguments at their bounds: no bytes at all, and what is tested. */
