@@ -1,17 +1,20 @@
-/* Decodes each frame of a file by one of three ways, and prints how many there are:
+/* Decodes each frame of a file by one of some ways, and prints how many there are:
  *
- *     decoders librabbitmq|check|canonicalize FILE
+ *     decoders librabbitmq|check|shallow|deep|frames|canonicalize FILE
  *
  * `librabbitmq` is its amqp_handle_input, with what it keeps of a channel released after each frame. `check` is feksroum_next
- * and feksroum_check. `canonicalize` is feksroum_canonicalize, frame by frame, which also writes. */
+ * and feksroum_check, `shallow` and `deep` are feksroum_next and feksroum_read, `frames` is feksroum_frames with all that lies inside, as
+ * many frames as 4096 heads and 65536 nodes hold. `canonicalize` is feksroum_canonicalize, frame by frame, which also writes. */
 #include <amqp.h>
 #include <feksroum.h>
 #include <stdio.h>
 #include <stdlib.h>
 #include <string.h>
 
-enum { MAX_PAYLOAD = 131072 };
+enum { MAX_PAYLOAD = 131072, HEADS = 4096, NODES = 65536 };
 
+static feksroum_head heads[HEADS];
+static feksroum_node nodes[NODES];
 static uint8_t out[MAX_PAYLOAD + FEKSROUM_AROUND_PAYLOAD];
 static feksroum_mark scratch[MAX_PAYLOAD / 2];
 
@@ -70,6 +73,24 @@ static size_t check(const uint8_t *bytes, size_t length) {
     return frame.used;
 }
 
+static size_t read_fields(const uint8_t *bytes, size_t length, uint8_t detail) {
+    feksroum_frame frame = feksroum_next(bytes, length, MAX_PAYLOAD);
+    if (frame.status || feksroum_read(frame.type, bytes + frame.payload_start, frame.payload_length, detail, nodes, NODES).status) {
+        stop("a frame is none");
+    }
+    return frame.used;
+}
+
+/* As many frames as fit; returns how many bytes they have, and says how many they are. */
+static size_t read_frames(const uint8_t *bytes, size_t length, size_t *frames) {
+    feksroum_batch batch = feksroum_frames(bytes, length, MAX_PAYLOAD, FEKSROUM_DEEP, heads, HEADS, nodes, NODES);
+    if (batch.heads == 0) {
+        stop("a frame is none");
+    }
+    *frames += batch.heads;
+    return batch.used;
+}
+
 static size_t canonicalize(const uint8_t *bytes, size_t length) {
     feksroum_frame frame = feksroum_next(bytes, length, MAX_PAYLOAD);
     feksroum_progress progress = feksroum_canonicalize(bytes, frame.used, out, sizeof out, scratch, MAX_PAYLOAD / 2, MAX_PAYLOAD,
@@ -80,18 +101,36 @@ static size_t canonicalize(const uint8_t *bytes, size_t length) {
     return progress.used;
 }
 
+/* Decodes what is in front by a way, and returns how many bytes that has. */
+static size_t decode(char way, amqp_connection_state_t state, uint8_t *bytes, size_t length, size_t *frames) {
+    if (way == 'f') {
+        return read_frames(bytes, length, frames);
+    }
+    ++*frames;
+    switch (way) {
+    case 'l':
+        return handle_input(state, bytes, length);
+    case 's':
+        return read_fields(bytes, length, FEKSROUM_SHALLOW);
+    case 'd':
+        return read_fields(bytes, length, FEKSROUM_DEEP);
+    case 'k':
+        return canonicalize(bytes, length);
+    default:
+        return check(bytes, length);
+    }
+}
+
 int main(int argc, char **argv) {
     if (argc != 3) {
-        stop("librabbitmq|check|canonicalize FILE");
+        stop("librabbitmq|check|shallow|deep|frames|canonicalize FILE");
     }
     uint8_t *bytes;
     size_t length = read_file(argv[2], &bytes), at = 0, frames = 0;
-    amqp_connection_state_t state = argv[1][0] == 'l' ? open_connection() : NULL;
+    char way = strcmp(argv[1], "canonicalize") == 0 ? 'k' : argv[1][0];
+    amqp_connection_state_t state = way == 'l' ? open_connection() : NULL;
     while (at < length) {
-        at += state               ? handle_input(state, bytes + at, length - at)
-              : argv[1][1] == 'h' ? check(bytes + at, length - at)
-                                  : canonicalize(bytes + at, length - at);
-        frames++;
+        at += decode(way, state, bytes + at, length - at, &frames);
     }
     printf("%zu\n", frames);
     free(bytes);

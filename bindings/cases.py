@@ -3,12 +3,15 @@
 
     cases.py make CASES COUNT [SEED]   makes so many
     cases.py run CASES RESULTS         runs them through the Python module, in pieces, and compares with one whole call
+    cases.py typed CASES RESULTS       reads their frames with all fields, and writes what was read (`typed` says in which form);
+                                       what is written of each frame has to be its canonical bytes
 """
 
 import os
 import random
 import struct
 import sys
+import zlib
 
 HERE = os.path.dirname(os.path.abspath(__file__))
 sys.path.insert(0, os.path.join(HERE, "python"))
@@ -134,10 +137,103 @@ def run(path, results):
     print("python:", sum(faults.values()), "cases by status", dict(sorted(faults.items())))
 
 
+def sized(octets):
+    """Some bytes, after their number."""
+    return struct.pack("<I", len(octets)) + octets
+
+
+def typed_value(value):
+    """A value of a table or array, as `typed` has it."""
+    from feksroum import _writing
+
+    if isinstance(value, dict):
+        return b"F" + typed_table(value)
+    if isinstance(value, list):
+        return b"A" + struct.pack("<I", len(value)) + b"".join(map(typed_value, value))
+    tag, number, octets, scale = _writing.plain(value)
+    if tag == ord("V"):
+        return b"V"
+    if tag in b"Sx":
+        return bytes([tag]) + sized(octets)
+    return bytes([tag]) + (bytes([scale]) if tag == ord("D") else b"") + struct.pack("<Q", number & 2**64 - 1)
+
+
+def typed_table(table):
+    """A table: its keys in ascending order of their bytes."""
+    entries = sorted((key.encode(), value) for key, value in table.items())
+    return struct.pack("<I", len(entries)) + b"".join(sized(key) + typed_value(value) for key, value in entries)
+
+
+def typed_field(kind, value):
+    """A field of a method or a property."""
+    from feksroum.values import seconds_of
+
+    if kind == 8:
+        return b"\x08" + typed_table(value)
+    if kind in (6, 7):
+        return bytes([kind]) + sized(value.encode() if kind == 6 else value)
+    return bytes([kind]) + struct.pack("<Q", value if isinstance(value, int) else seconds_of(value))
+
+
+def typed_frame(frame):
+    """A frame with all its fields."""
+    head = struct.pack("<BH", frame.type, frame.channel)
+    if frame.method is not None:
+        fields = [typed_field(kind, getattr(frame.method, name)) for name, kind in frame.method.fields]
+        return head + struct.pack("<HH", *frame.method.ids) + b"".join(fields)
+    if frame.properties is not None:
+        values = [(place, kind, getattr(frame.properties, name)) for place, (name, kind) in enumerate(frame.properties.fields)]
+        fields = [bytes([place]) + typed_field(kind, value) for place, kind, value in values if value is not None]
+        return head + struct.pack("<HQ", frame.class_id, frame.body_size) + b"".join(fields)
+    if frame.version is not None:
+        return head + bytes(frame.version)
+    return head + (sized(bytes(frame.payload)) if frame.type == 3 else b"")
+
+
+def written(frame):
+    """What `encode` makes of what was read of a frame."""
+    import feksroum
+
+    if frame.properties is not None:
+        return feksroum.encode(frame.channel, frame.properties, frame_max=0, body_size=frame.body_size, class_id=frame.class_id)
+    if frame.version is not None:
+        return feksroum.encode(0, feksroum.ProtocolHeader(*frame.version))
+    if frame.method is not None:
+        return feksroum.encode(frame.channel, frame.method, frame_max=0)
+    return feksroum.canonicalize(frame.bytes)
+
+
+def typed(path, results):
+    """Writes what each case reads as: numbers little-endian; of each frame its type, its channel and what stands in it, by kinds as
+    feksroum.h numbers them, with properties by their places; then 255, the status, and how many bytes the frames have."""
+    import feksroum
+
+    checksum = size = frames = 0
+    with open(results, "wb") as file:
+        for _, data, _ in cases(path):
+            status, used, read = 0, 0, []
+            try:
+                for frame in feksroum.frames(data):
+                    read.append(typed_frame(frame))
+                    used += frame.bytes.nbytes
+                    frames += 1
+                    if written(frame) != feksroum.canonicalize(frame.bytes):
+                        sys.exit(f"cases: what was read is written otherwise: {frame.bytes.hex()}")
+            except feksroum.Error as error:
+                status = error.status
+            result = b"".join(read) + struct.pack("<BBQ", 255, status, used)
+            checksum, size = zlib.crc32(result, checksum), size + len(result)
+            file.write(result)
+    print(f"typed: {size} bytes, crc32 {checksum:08x}")
+    print(f"python: {frames} frames typed")
+
+
 if __name__ == "__main__":
     if sys.argv[1:2] == ["make"] and len(sys.argv) in (4, 5):
         make(sys.argv[2], int(sys.argv[3]), int((sys.argv[4:] or [1])[0]))
     elif sys.argv[1:2] == ["run"] and len(sys.argv) == 4:
         run(sys.argv[2], sys.argv[3])
+    elif sys.argv[1:2] == ["typed"] and len(sys.argv) == 4:
+        typed(sys.argv[2], sys.argv[3])
     else:
         sys.exit(__doc__)

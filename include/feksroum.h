@@ -14,17 +14,22 @@
  *
  * Arguments
  *
- *   A pointer comes with a length: of bytes in bytes, of marks in marks, of nodes in nodes. Both belong together: so much has
- *   to be there, and it has to stay as it is until the call returns. Where the length is 0 the pointer may be NULL. A buffer or a scratch
- *   that is written must overlap nothing else that is passed. Nothing else is asked of a caller: all other arguments are
- *   tested. No pointer is kept after a call.
+ *   A pointer comes with a length: of bytes in bytes, of marks in marks, of nodes in nodes, of heads in heads. Both belong together: so
+ *   much has to be there, and it has to stay as it is until the call returns. Where the length is 0 the pointer may be NULL. A buffer or a scratch
+ *   that is written must overlap nothing else that is passed. All other arguments are tested. No pointer is kept after a call.
+ *
+ *   Beside that, a caller owes this:
+ *   - there is enough stack, see below;
+ *   - for feksroum_dump and feksroum_undump alone, which take memory: malloc, realloc and free are those of one allocator, which
+ *     aligns a block of n bytes to each power of two up to 16 that divides n; these two are called in no signal handler, and not
+ *     in a child that a process with threads has forked. The others call nothing but memcpy, memmove and memset.
  *
  *   max_payload is the longest payload that is accepted, in bytes, without the 8 bytes around it. The program uses
  *   131072. It does not hold for protocol headers, which have 8 bytes in all.
  *
  * Stack: a call takes at most about 40 KiB of it, however large a frame is.
  * Time: linear in the bytes, but for tables whose entries stand in no order. Those are sorted, in time n log n for n entries,
- * where feksroum_canonicalize is given a scratch (feksroum_scratch says how long); without one a table of more than 256
+ * where a call that canonicalizes is given a scratch (feksroum_scratch says how long); without one a table of more than 256
  * entries takes time quadratic in their number. The README beside the bindings has numbers.
  */
 #ifndef FEKSROUM_H
@@ -39,6 +44,9 @@
 #define FEKSROUM_VERSION_MAJOR 0
 #define FEKSROUM_VERSION_MINOR 1
 #define FEKSROUM_VERSION_PATCH 0
+
+/* The same as one number, which feksroum_version gives of the library that runs. */
+#define FEKSROUM_VERSION_NUMBER (FEKSROUM_VERSION_MAJOR * 65536 + FEKSROUM_VERSION_MINOR * 256 + FEKSROUM_VERSION_PATCH)
 
 /* What compilers can be told of a function: its result is what it is called for; it only reads, or may write, as many bytes
  * as the argument of a number says. */
@@ -59,7 +67,7 @@
 extern "C" {
 #endif
 
-/* Statuses. They are the exit statuses of the program, and two that only calls have. feksroum_name has their names. */
+/* Statuses. They are the exit statuses of the program, and three that only calls have. feksroum_name has their names. */
 enum {
     FEKSROUM_OK = 0,
 
@@ -95,12 +103,13 @@ enum {
     /* At level tidy: a frame that can be read and is not tidy. */
     FEKSROUM_NOT_TIDY = 23,
 
-    /* Of text: a line that is the line of no frame with a payload of at most max_payload bytes. */
+    /* Of text: a line that is not the exact text form of any frame with a payload of at most max_payload bytes. */
     FEKSROUM_BAD_TEXT = 26,
 
     /* Of calls. */
     FEKSROUM_BUFFER_TOO_SMALL = 40, /* the buffer is too short for what is written, or the list for the nodes */
-    FEKSROUM_BAD_ARGUMENT = 41 /* a number that names none of what is asked for: a level, a detail, a kind */
+    FEKSROUM_BAD_ARGUMENT = 41, /* a number that names none of what is asked for: a level, a detail, a kind */
+    FEKSROUM_TOO_LONG = 42 /* a short string to be written is longer than 255 bytes, or what fills a table or an array than 2^32 - 1 */
 };
 
 /* Levels. */
@@ -115,8 +124,9 @@ enum {
     FEKSROUM_PROTOCOL_HEADER = 65
 };
 
-/* How many bytes a frame has beside its payload, at most. */
+/* How many bytes a frame has beside its payload, at most; and the byte after the payload. */
 #define FEKSROUM_AROUND_PAYLOAD 8
+#define FEKSROUM_FRAME_END 206
 
 /* How long the name of a status is at most. */
 #define FEKSROUM_NAME_MAX 17
@@ -131,11 +141,13 @@ typedef struct feksroum_mark {
  * the limit of 131072 bytes those take 1 MiB. */
 size_t feksroum_scratch(size_t length);
 
-/* The frame in front of some bytes. Where there is none, all but status is 0. */
+/* The frame in front of some bytes. Where there is none, all but status and needed is 0. 32 bytes, no padding. */
 typedef struct feksroum_frame {
-    size_t used; /* how many bytes the whole frame has */
-    size_t payload_start; /* how many bytes come before its payload */
-    size_t payload_length; /* how many bytes the payload has */
+    uint64_t used; /* how many bytes the whole frame has */
+    uint64_t needed; /* how many bytes a frame that begins so has at least: at status 0 as `used`; at 21 more than are there: 8
+                        until its length is, then all it has, at most max_payload + 8; at a fault 0 */
+    uint64_t payload_length; /* how many bytes the payload has */
+    uint32_t payload_start; /* how many bytes come before its payload */
     uint16_t channel; /* 0 for a protocol header */
     uint8_t type;
     uint8_t status; /* 0, 21, or 10 to 13 */
@@ -148,7 +160,7 @@ typedef struct feksroum_frame {
  * 13. A frame or a fault stays the same, whatever bytes follow. */
 feksroum_frame feksroum_next(const uint8_t *bytes, size_t length, uint32_t max_payload) FEKSROUM_RESULT FEKSROUM_READS(1, 2);
 
-/* What stands in a whole payload. Where it is no frame, all but status is 0 and false. */
+/* What stands in a whole payload. Where it is no frame, all but status is 0 and false. 16 bytes, no padding. */
 typedef struct feksroum_payload {
     uint64_t body_size; /* of a content header: the size in bytes of the body that it announces; else 0 */
     uint16_t class_id; /* of a method or content header; else 0 */
@@ -156,6 +168,8 @@ typedef struct feksroum_payload {
     bool canonical; /* the payload is the canonical one: nothing would be written differently */
     bool tidy;
     uint8_t status; /* 0, 10, 12, or 14 to 20 */
+    uint8_t fields; /* how many fields it has: of a method those that are not reserved, each flag one; the properties that are
+                       set; 3 of a protocol header */
 } feksroum_payload;
 
 /* Whether a whole payload is a frame of the type that this byte names, and what stands in it. That is the same on each
@@ -243,11 +257,156 @@ static inline const feksroum_node *feksroum_find(const feksroum_node *table, con
     return found;
 }
 
-/* How far a call came. */
+/* A frame among others. Its payload's bytes are counted from the front of what was read, and its nodes are a part of one list:
+ * nodes[first] to nodes[first + nodes - 1]. 32 bytes, no padding. */
+typedef struct feksroum_head {
+    uint64_t body_size; /* of a content header: the size in bytes of the body that it announces; else 0 */
+    uint32_t start; /* where the payload begins */
+    uint32_t length; /* how many bytes it has */
+    uint32_t first; /* which node is its first */
+    uint32_t nodes; /* how many nodes it has */
+    uint16_t channel; /* 0 for a protocol header */
+    uint16_t class_id; /* of a method or content header; else 0 */
+    uint16_t method_id; /* of a method; else 0 */
+    uint8_t type;
+    uint8_t form; /* FEKSROUM_FORM_CANONICAL and FEKSROUM_FORM_TIDY, each where the payload is so */
+} feksroum_head;
+
+/* Bits of a form. */
+enum { FEKSROUM_FORM_CANONICAL = 1, FEKSROUM_FORM_TIDY = 2 };
+
+/* How many frames are given, and what comes after them. 32 bytes, no padding. */
+typedef struct feksroum_batch {
+    uint64_t used; /* how many bytes the frames have */
+    uint64_t needed; /* at status 21: how many bytes the next frame has at least, 8 until its length is there; at 40: how many
+                        nodes it has; else 0 */
+    uint32_t heads; /* how many frames are given: so many heads */
+    uint32_t nodes; /* how many nodes they have */
+    uint32_t status; /* 0, 10 to 21, 40 or 41 */
+    uint32_t unused; /* 0 */
+} feksroum_batch;
+
+/* Reads as many whole frames in front of the bytes as both lists have room for, with one call: a head for each, and its nodes as
+ * feksroum_read gives them. All spans, in heads and in nodes, are counted from the front of `bytes`. The time is linear; n bytes
+ * have at most n / 8 frames, and at most n nodes. Of more than 2^32 - 1 bytes only so many in front are looked at; the others
+ * come with the next call.
+ *
+ * status: 0 where nothing comes after these frames; 21 where the bytes end inside the next one; its fault, 10 to 20; 40 where it
+ * is whole and has none, and a list has no room for it; 41 where the detail is none: then nothing is given. What stands in the
+ * lists behind what is given is not specified. The next call goes on at bytes + used. */
+feksroum_batch feksroum_frames(const uint8_t *bytes, size_t length, uint32_t max_payload, uint8_t detail, feksroum_head *heads,
+                               size_t head_room, feksroum_node *nodes, size_t node_room)
+    FEKSROUM_RESULT FEKSROUM_READS(1, 2);
+
+/* How many bytes were written, or why none. 24 bytes, no padding. */
+typedef struct feksroum_written {
+    uint64_t length; /* how many bytes were written; at status 40, how many `out` needs; else 0 */
+    uint32_t head; /* at other statuses than 0 and 40: which head is refused, of feksroum_write_content 0; else 0 */
+    uint32_t node; /* at these: which one of all nodes is refused, and 0 where the head itself is; where a field misses, the place behind
+                      the last node of the head; else 0 */
+    uint32_t status; /* 0, 12, 14 to 16, 18 to 20, or 40 to 42 */
+    uint32_t unused; /* 0 */
+} feksroum_written;
+
+/* Writes the frames that heads and nodes mean at the front of `out`, one after another. All spans lie in the pool: those of nodes, and of
+ * bodies. Reserved fields are written at their constants, entries of tables in the order of their nodes. So what is written is canonical
+ * where the keys of each table ascend and none stands twice; else feksroum_canonicalize or feksroum_canonicalize_in_place makes it so. What
+ * feksroum_frames gave at FEKSROUM_DEEP can be passed as it is, with the bytes that were read as the pool. `out` must overlap no other.
+ *
+ * Of a head these members count, and the others that its type does not have are 0:
+ *   a method           channel, class_id, method_id, first, nodes: its fields that are not reserved, all of them, in their order
+ *   a content header   channel, class_id, body_size, first, nodes: the properties that are set, by ascending place
+ *   a body             channel, start, length
+ *   a heartbeat        channel
+ *   a protocol header  first, nodes: three numbers
+ * No use is made of `form`, and of start and length but of a body.
+ * Of a node, its kind and place are as the table of names has them, and a value in a table or an array has one of the 17 tag bytes as its kind
+ * ('U' and 'L' are not written). Of a table or an array with `inside` 0 the span is the content, which is tested and written as it stands; else the
+ * nodes inside are its entries or values, and its span is not looked at. The key of a value in an array, `items`, and the place of
+ * an entry or value are not looked at.
+ *
+ * Nothing is written but at status 0, and what comes after the bytes written is as it was. The status is that of the first refusal, frame by frame and
+ * from left to right:
+ *   41 the type is none; 14 and 15 both ids are no method;
+ *   41 the head has what its type has not, or its nodes or its bytes pass the end of the list or the pool;
+ *   of each node 41 a kind, place or `inside` that does not fit, a number outside its width, a truth value above 1, a span outside the pool; 42 a
+ *      short string longer than 255 bytes, or what fills a table or an array longer than 2^32 - 1; 18 a short string or a key that is
+ *      not UTF-8; 20 tables and arrays nest too deep; 16, 18, 19, 20 the fault of a content that stands in the pool; 41 a field that
+ *      misses or is too many;
+ *   12 the payload is longer than max_payload.
+ * Where nothing is refused it is 40 if `out` is shorter than `length` says; so a call with no buffer tells how long it has to be. */
+feksroum_written feksroum_write(const feksroum_head *heads, size_t head_count, const feksroum_node *nodes, size_t node_count,
+                                const uint8_t *pool, size_t pool_length, uint32_t max_payload, uint8_t *out, size_t out_length)
+    FEKSROUM_RESULT FEKSROUM_READS(1, 2) FEKSROUM_READS(3, 4) FEKSROUM_READS(5, 6) FEKSROUM_WRITES(8, 9);
+
+/* The same of what fills a table (kind 'F') or an array ('A') alone, without its length: the nodes are its entries or values, with those
+ * inside them. 41 where the kind is neither. */
+feksroum_written feksroum_write_content(uint8_t kind, const feksroum_node *nodes, size_t node_count, const uint8_t *pool,
+                                        size_t pool_length, uint8_t *out, size_t out_length)
+    FEKSROUM_RESULT FEKSROUM_READS(2, 3) FEKSROUM_READS(4, 5) FEKSROUM_WRITES(6, 7);
+
+/* What is kept of a channel between two of its frames. Zeros, for a channel on which no message is open. A channel that was closed and
+ * opened again begins with zeros. 24 bytes, no padding. */
+typedef struct feksroum_channel {
+    uint64_t size; /* of a message whose content header has come: how many bytes its body has */
+    uint64_t seen; /* how many of these have come, fewer than size */
+    uint32_t state; /* 0 no message is open; 1 its opening has come; 2 its content header too; 3 a frame may not have come */
+    uint32_t unused; /* 0 */
+} feksroum_channel;
+
+/* What a frame is to its channel. 56 bytes, no padding. */
+typedef struct feksroum_turn {
+    feksroum_channel after; /* what is kept after the frame; zeros where no step is made */
+    uint64_t before; /* of a body: how many bytes of the whole body came before it */
+    uint64_t up_to; /* of a body: how many have come with it */
+    uint64_t size; /* of a body: how many the whole body has */
+    uint8_t part; /* 0 no part of a message, 1 the method that opens one, 2 its content header, 3 a body */
+    bool finished; /* the message is complete with this frame */
+    uint8_t fault; /* at status 24: 1 a method inside a message, 2 a content header that nothing announced, 3 a body before the content
+                      header or outside of a message, 4 a content header of a class other than 60, 5 one that announces more than max_body
+                      bytes, 6 a body that goes beyond the size, 7 an earlier frame of the channel may not have come */
+    uint8_t status; /* 0, 24, 10 or 41 */
+    uint32_t unused; /* 0 */
+} feksroum_turn;
+
+/* What one more frame is to its channel, and what is kept of the channel after it. Frames of one channel are given in their order; those
+ * of different channels in any order. The frame is said by its numbers, as feksroum_next and feksroum_check have them. `size` is the
+ * body_size of a content header, and the length of a body; else it is not looked at, as ids that the type does not have. A content header may announce
+ * at most max_body bytes.
+ *
+ * status: 0 where the frame may come next; 24 where not, and then each later frame of the channel has fault 7; 10 where the type is none;
+ * 41 where the numbers that are kept are none of a channel. */
+feksroum_turn feksroum_step(feksroum_channel channel, uint8_t type, uint16_t class_id, uint16_t method_id, uint64_t size,
+                            uint64_t max_body) FEKSROUM_RESULT;
+
+/* A rule: keeps or drops the frames for which each part that is there holds. 14 bytes, no padding. */
+typedef struct feksroum_frame_rule {
+    uint16_t first_channel, last_channel; /* the channels, both included; the first is not above the last */
+    uint16_t class_id; /* which only methods and content headers have */
+    uint16_t method_id; /* which only methods have */
+    uint8_t keep; /* 1 the frames are kept, 0 they are dropped */
+    uint8_t has_channels; /* 1 there is a part on channels, else 0 */
+    uint8_t type; /* the first byte of the frames; 0 for any */
+    uint8_t has_class; /* 1 there is a part on the class, else 0 */
+    uint8_t has_method; /* 1 there is a part on the method, else 0 */
+    uint8_t status; /* 0; 41 where a word was no rule, and then all else is 0 */
+} feksroum_frame_rule;
+
+/* The rule that a word is, as `drop,channel=1-5,class=60,method=40` (docs/FORMAT.md). One channel is a range of one. */
+feksroum_frame_rule feksroum_rule(const uint8_t *word, size_t length) FEKSROUM_RESULT FEKSROUM_READS(1, 2);
+
+/* Whether rules keep a frame, by its type, channel and ids, as feksroum_next and feksroum_check have them: 1 where the first rule that
+ * matches says keep; 0 where it says drop, or none matches; 10 where the type is none; 41 where a rule has other numbers than are said
+ * above. For whole messages, decide at the method that opens one (part 1 of feksroum_step), and let its content header and bodies follow. */
+uint8_t feksroum_decide(const feksroum_frame_rule *rules, size_t count, uint8_t type, uint16_t channel, uint16_t class_id,
+                        uint16_t method_id) FEKSROUM_RESULT FEKSROUM_READS(1, 2);
+
+/* How far a call came. 24 bytes, no padding. */
 typedef struct feksroum_progress {
-    size_t used; /* how many bytes the whole frames in front have */
-    size_t written; /* how many canonical bytes were written for them, no more than used */
-    uint8_t status; /* 0, 10 to 21, 23, 40 or 41 */
+    uint64_t used; /* how many bytes the whole frames in front have */
+    uint64_t written; /* how many canonical bytes were written for them, no more than used */
+    uint32_t status; /* 0, 10 to 21, 23, 40 or 41 */
+    uint32_t unused; /* 0 */
 } feksroum_progress;
 
 /* Writes the canonical bytes of the whole frames in front into `out`, which has to be at least as long as the bytes. What
@@ -268,11 +427,27 @@ feksroum_progress feksroum_canonicalize(const uint8_t *bytes, size_t length, uin
                                         feksroum_mark *scratch, size_t scratch_length, uint32_t max_payload, uint8_t level)
     FEKSROUM_RESULT FEKSROUM_READS(1, 2) FEKSROUM_WRITES(3, 4);
 
-/* One frame and its line, of which one was read and the other written. At statuses other than 0 and 40 both counts are 0. */
+/* How many bytes in front are whole frames of which each is canonical already. What follows them is no such frame; so a proxy writes
+ * that many from where they were read. Payloads are decoded, and nothing is written. */
+size_t feksroum_canonical_run(const uint8_t *bytes, size_t length, uint32_t max_payload) FEKSROUM_RESULT FEKSROUM_READS(1, 2);
+
+/* As feksroum_canonicalize, within one buffer: the canonical bytes stand at the front of `bytes`, and what comes after those that
+ * were written is as it was. A frame that is canonical is moved, one that is not goes through `spare`, in which nothing is
+ * specified afterwards.
+ *
+ * status: as feksroum_canonicalize has it, but 40 where a frame that is not canonical is longer than `spare`: used and written say
+ * how far the call came, and it can go on from there with a longer one. max_payload + 8 bytes are enough for every frame. */
+feksroum_progress feksroum_canonicalize_in_place(uint8_t *bytes, size_t length, uint8_t *spare, size_t spare_length,
+                                                 feksroum_mark *scratch, size_t scratch_length, uint32_t max_payload,
+                                                 uint8_t level) FEKSROUM_RESULT;
+
+/* One frame and its line, of which one was read and the other written. At statuses other than 0 and 40 both counts are 0. 24
+ * bytes, no padding. */
 typedef struct feksroum_line {
-    size_t used; /* how many bytes of what was given the frame, or its line, has */
-    size_t length; /* how many bytes the other one has: those that are written, or at status 40 those that `out` needs */
-    uint8_t status; /* 0, 3, 26, 40, or 10 to 21 */
+    uint64_t used; /* how many bytes of what was given the frame, or its line, has */
+    uint64_t length; /* how many bytes the other one has: those that are written, or at status 40 those that `out` needs */
+    uint32_t status; /* 0, 3, 26, 40, or 10 to 21 */
+    uint32_t unused; /* 0 */
 } feksroum_line;
 
 /* Writes the line of the frame in front, as `body 1 x6869`, into `out`. The line is ASCII and ends with a newline; no 0 byte
@@ -289,10 +464,25 @@ feksroum_line feksroum_dump(const uint8_t *bytes, size_t length, uint8_t *out, s
  * after them is left as it was. A frame's line is read as it is written: each number, string and table in its one form.
  *
  * status: 0 where they are written; 40 where `out` is shorter than `length`, which is then what it needs; 3 where memory ran
- * out; 21 where no newline is in the text; 26 where what is in front of it is the line of no frame with a payload of at
- * most max_payload bytes. At 3, 21, 26 and 40 `out` is as it was. */
+ * out; 21 where no newline is in the text; 26 where what is in front of it is not the exact text form of any frame with a
+ * payload of at most max_payload bytes. At 3, 21, 26 and 40 `out` is as it was. */
 feksroum_line feksroum_undump(const uint8_t *text, size_t length, uint8_t *out, size_t out_length, uint32_t max_payload)
     FEKSROUM_RESULT FEKSROUM_READS(1, 2) FEKSROUM_WRITES(3, 4);
+
+/* The longest payload of a frame of at most `frame_max` bytes, as the two ends of a connection agree on it (connection.tune):
+ * what 8 bytes less leave, and 0 below 8. A frame_max of 0 is no limit: 2^32 - 1. */
+uint32_t feksroum_max_payload(uint32_t frame_max) FEKSROUM_RESULT;
+
+/* How long what comes before a body is. */
+#define FEKSROUM_BODY_HEAD 7
+
+/* Writes what comes before a body of so many bytes at the front of `out`, where it fits, and returns FEKSROUM_BODY_HEAD: type,
+ * channel and length. The body follows, and then FEKSROUM_FRAME_END: all together are the canonical bytes of the frame. So a
+ * writer of vectors sends bodies from where they lie. */
+size_t feksroum_body_head(uint16_t channel, uint32_t length, uint8_t *out, size_t out_length) FEKSROUM_WRITES(3, 4);
+
+/* The version of the library that runs: FEKSROUM_VERSION_NUMBER where it is that of this header. */
+uint32_t feksroum_version(void) FEKSROUM_RESULT;
 
 /* Writes the name of a status, as "BadFrameEnd", at the front of `out` where it fits, and returns its length. No 0 byte
  * follows it. Returns 0 where the status is no error's. A buffer of FEKSROUM_NAME_MAX bytes is enough for each. */
@@ -341,10 +531,51 @@ static inline const char *feksroum_status_name(uint8_t status) {
         return "BufferTooSmall";
     case FEKSROUM_BAD_ARGUMENT:
         return "BadArgument";
+    case FEKSROUM_TOO_LONG:
+        return "TooLong";
     default:
         return "";
     }
 }
+
+/* ---- The table of names
+ *
+ * Which methods, fields and properties there are, and what the standard calls them: in lower case and with hyphens, as
+ * `get-ok` and `delivery-tag`; the extensions of RabbitMQ as it spells them, so the flag of confirm.select is `nowait`. Reserved
+ * fields have neither place nor name. feksroum_names.h has all of it as enums and strings. */
+
+/* How many methods and properties there are, and how many fields a method has at most. */
+#define FEKSROUM_METHODS 66
+#define FEKSROUM_PROPERTIES 14
+#define FEKSROUM_FIELDS_MAX 8
+
+/* A method. Where there is none, all but status is 0. */
+typedef struct feksroum_method {
+    uint16_t class_id;
+    uint16_t method_id; /* in its class */
+    uint8_t fields; /* how many it has that are not reserved, each flag one */
+    bool carries_content; /* a content header and bodies follow it */
+    bool wants_answer; /* a method of the peer answers it */
+    uint8_t status; /* 0; 41 where there is no such method */
+} feksroum_method;
+
+/* Method `k`, counted from 0: by ascending ids of classes, and of methods in each. */
+feksroum_method feksroum_method_at(uint8_t k) FEKSROUM_RESULT;
+
+/* How many fields a method has that are not reserved, each flag one; their kinds, 1 to 8, are written into `kinds` where all
+ * fit, which has room for so many bytes. The index is the place of a node. 0 where there is no such method, too. */
+size_t feksroum_shape(uint16_t class_id, uint16_t method_id, uint8_t *kinds, size_t room) FEKSROUM_WRITES(3, 4);
+
+/* The kind of the property at a place, counted from 0; 0 where there is none. */
+uint8_t feksroum_property_kind(uint8_t place) FEKSROUM_RESULT;
+
+/* Each writes a name at the front of `out` where it fits, and returns its length. No 0 byte follows it. 0 where there is nothing
+ * of this id or at this place. A buffer of FEKSROUM_NAME_MAX bytes is enough for each. */
+size_t feksroum_class_name(uint16_t class_id, uint8_t *out, size_t out_length) FEKSROUM_WRITES(2, 3);
+size_t feksroum_method_name(uint16_t class_id, uint16_t method_id, uint8_t *out, size_t out_length) FEKSROUM_WRITES(3, 4);
+size_t feksroum_field_name(uint16_t class_id, uint16_t method_id, uint8_t place, uint8_t *out, size_t out_length)
+    FEKSROUM_WRITES(4, 5);
+size_t feksroum_property_name(uint8_t place, uint8_t *out, size_t out_length) FEKSROUM_WRITES(2, 3);
 
 #ifdef __cplusplus
 }

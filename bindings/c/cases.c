@@ -1,8 +1,10 @@
 /* Runs cases through one of the drivers, and writes what came out:
  *
- *     cases whole|filter|proxy|lines CASES RESULTS
+ *     cases whole|filter|proxy|lines|place|write CASES RESULTS
  *
- * `lines` goes from frame to frame, reads the fields of each, writes its line, and reads that back: all have to write the same.
+ * `write` reads the frames as heads and nodes, as many at once as fit lists of the sizes of pieces, writes them anew, and canonicalizes
+ * what was written. `place` does it within the bytes themselves, with a spare buffer that is too short at first. `lines` goes from frame
+ * to frame, reads the fields of each and of all at once, writes its line, and reads that back: all have to write the same.
  *
  * CASES has, one after another: the level (1 byte), a length (4 bytes, the lowest first) and as many bytes, a count (2 bytes)
  * and as many sizes of pieces (2 bytes each) in which they are read; what is left after these is read at once. RESULTS has
@@ -12,6 +14,7 @@
 #include <stdlib.h>
 #include <string.h>
 
+#include "batches.h"
 #include "fields.h"
 #include "filter.h"
 #include "proxy.h"
@@ -140,6 +143,9 @@ static void write_by_line(test_case *test, const uint8_t *bytes, size_t length, 
 }
 
 static int run_lines(test_case *test) {
+    if (!batches_agree(test->bytes, test->length, MAX_PAYLOAD)) {
+        stop("frames are not as wanted");
+    }
     while (test->done < test->length) {
         const uint8_t *rest = test->bytes + test->done;
         feksroum_frame frame = feksroum_next(rest, test->length - test->done, MAX_PAYLOAD);
@@ -162,10 +168,103 @@ static int run_lines(test_case *test) {
     return FEKSROUM_OK;
 }
 
+/* So many bytes in front are written as they are, and what follows is no frame or another. */
+static bool is_run(const test_case *test, size_t run) {
+    const uint8_t *rest = test->bytes + run;
+    feksroum_frame frame = feksroum_next(rest, test->length - run, MAX_PAYLOAD);
+    return run <= test->written && memcmp(test->out, test->bytes, run) == 0 &&
+           (frame.status != FEKSROUM_OK ||
+            !feksroum_check(frame.type, rest + frame.payload_start, (size_t)frame.payload_length).canonical);
+}
+
+/* Where the spare buffer is too short, goes on with the next one. */
+static int run_place(test_case *test) {
+    uint8_t *copy = malloc(test->length + 1);
+    memcpy(copy, test->bytes, test->length);
+    for (;;) {
+        size_t spare_length = next_size(test), left = test->length - test->done;
+        uint8_t *spare = malloc(spare_length + 1), *front = copy + test->done;
+        feksroum_progress progress =
+            feksroum_canonicalize_in_place(front, left, spare, spare_length, NULL, 0, MAX_PAYLOAD, test->level);
+        if (memcmp(front + progress.written, test->bytes + test->done + progress.written, left - progress.written) != 0) {
+            stop("what was not written is not as it was");
+        }
+        memcpy(test->out + test->written, front, progress.written);
+        test->written += progress.written;
+        test->done += progress.used;
+        free(spare);
+        if (progress.status != FEKSROUM_BUFFER_TOO_SMALL) {
+            free(copy);
+            if (!is_run(test, feksroum_canonical_run(test->bytes, test->length, MAX_PAYLOAD))) {
+                stop("a run is not as wanted");
+            }
+            return (int)progress.status;
+        }
+    }
+}
+
+/* How many frames in front the level accepts. */
+static size_t accepted(const test_case *test, const feksroum_head *heads, size_t count) {
+    size_t k = 0;
+    while (k < count && (test->level == FEKSROUM_PLAIN || heads[k].form & FEKSROUM_FORM_TIDY)) {
+        k++;
+    }
+    return k;
+}
+
+/* Writes frames that were read into exactly as many bytes as they need, and appends the canonical bytes of these. */
+static void write_anew(test_case *test, const feksroum_head *heads, size_t head_count, const feksroum_node *nodes, size_t node_count) {
+    const uint8_t *pool = test->bytes + test->done;
+    size_t pool_length = test->length - test->done;
+    feksroum_written needed = feksroum_write(heads, head_count, nodes, node_count, pool, pool_length, MAX_PAYLOAD, NULL, 0);
+    uint8_t *anew = malloc((size_t)needed.length + 1);
+    feksroum_written found =
+        feksroum_write(heads, head_count, nodes, node_count, pool, pool_length, MAX_PAYLOAD, anew, (size_t)needed.length);
+    feksroum_progress progress = feksroum_canonicalize(anew, (size_t)needed.length, test->out + test->written, test->length - test->written,
+                                                       NULL, 0, MAX_PAYLOAD, FEKSROUM_TIDY);
+    if (found.status != FEKSROUM_OK || found.length != needed.length || progress.status != FEKSROUM_OK || progress.used != found.length) {
+        stop("frames that were read are not written");
+    }
+    bool canonical = true;
+    for (size_t k = 0; k < head_count; k++) {
+        canonical = canonical && heads[k].form & FEKSROUM_FORM_CANONICAL;
+    }
+    if (canonical && memcmp(anew, pool, (size_t)found.length) != 0) {
+        stop("canonical frames are written otherwise");
+    }
+    test->written += (size_t)progress.written;
+    free(anew);
+}
+
+/* The lists are as long as the next pieces say; where the next frame has more nodes, as it needs. */
+static int run_write(test_case *test) {
+    size_t needed = 0;
+    for (;;) {
+        const uint8_t *rest = test->bytes + test->done;
+        size_t left = test->length - test->done, head_room = least(next_size(test), left + 1), node_room = least(next_size(test), left + 1);
+        node_room = node_room < needed ? needed : node_room;
+        head_room = head_room ? head_room : 1;
+        feksroum_head *heads = malloc(head_room * sizeof *heads);
+        feksroum_node *nodes = malloc((node_room + 1) * sizeof *nodes);
+        feksroum_batch batch = feksroum_frames(rest, left, MAX_PAYLOAD, FEKSROUM_DEEP, heads, head_room, nodes, node_room);
+        size_t count = accepted(test, heads, batch.heads);
+        write_anew(test, heads, count, nodes, batch.nodes);
+        bool tidy = count == batch.heads;
+        free(heads);
+        free(nodes);
+        test->done += (size_t)batch.used;
+        needed = (size_t)batch.needed;
+        if (!tidy || batch.status != FEKSROUM_BUFFER_TOO_SMALL) {
+            return tidy ? (int)batch.status : FEKSROUM_NOT_TIDY;
+        }
+    }
+}
+
 static const struct {
     const char *name;
     int (*run)(test_case *);
-} drivers[] = {{"whole", run_whole}, {"filter", run_filter}, {"proxy", run_proxy}, {"lines", run_lines}};
+} drivers[] = {{"whole", run_whole}, {"filter", run_filter}, {"proxy", run_proxy}, {"lines", run_lines}, {"place", run_place},
+               {"write", run_write}};
 
 static int (*driver(const char *name))(test_case *) {
     for (size_t k = 0; k < sizeof drivers / sizeof *drivers; k++) {
@@ -173,7 +272,7 @@ static int (*driver(const char *name))(test_case *) {
             return drivers[k].run;
         }
     }
-    stop("whole, filter, proxy or lines");
+    stop("whole, filter, proxy, lines, place or write");
     return NULL;
 }
 
@@ -188,7 +287,7 @@ static void put_result(FILE *file, const test_case *test, int status) {
 
 int main(int argc, char **argv) {
     if (argc != 4) {
-        stop("cases whole|filter|proxy|lines CASES RESULTS");
+        stop("cases whole|filter|proxy|lines|place|write CASES RESULTS");
     }
     int (*run)(test_case *) = driver(argv[1]);
     FILE *cases = fopen(argv[2], "rb");

@@ -4,7 +4,7 @@
  *
  * `raw` and `lent` are bytes; `hex` and `tidy` are hex texts, for which the canonical bytes in hex and, on a line of its
  * own, the name of the fault are printed; `dump` are bytes whose lines are printed, and `undump` lines whose bytes are. Also
- * tests the frames, payloads and fields of each against what canonicalizing says, lines against those that are read back, the names
+ * tests what is read and written of each method and property, the frames, payloads and fields of each example against what canonicalizing says, lines against those that are read back, the names
  * of statuses, arguments at their bounds, and that a scratch changes nothing that is written. */
 #include <feksroum.h>
 #include <stdio.h>
@@ -12,6 +12,7 @@
 #include <string.h>
 
 #include "fields.h"
+#include "table.h"
 
 /* Three numbers as a version is written. */
 #define VERSION_OF(major, minor, patch) WRITTEN(major, minor, patch)
@@ -67,7 +68,7 @@ typedef feksroum_line (*convert)(const uint8_t *, size_t, uint8_t *, size_t, uin
 
 /* What it writes for all of some bytes, and the status of what follows those that it could read. */
 static feksroum_line convert_all(convert call, const uint8_t *from, size_t length, uint8_t *to) {
-    feksroum_line all = {0, 0, FEKSROUM_OK};
+    feksroum_line all = {.status = FEKSROUM_OK};
     while (all.used < length && all.status == FEKSROUM_OK) {
         feksroum_line one = call(from + all.used, length - all.used, to + all.length, SIZE - all.length, MAX_PAYLOAD);
         all.used += one.used;
@@ -83,14 +84,33 @@ static bool run_lines(const char *folder, const char *name, const char *command,
     size_t length = read_file(folder, name, command, input);
     size_t wanted_length = read_file(folder, name, "out", wanted);
     feksroum_line found = convert_all(is_dump ? feksroum_dump : feksroum_undump, input, length, text);
-    feksroum_progress canonical = {0, found.length, 0};
-    feksroum_line back = {0, found.length, 0};
+    feksroum_progress canonical = {.written = found.length};
+    feksroum_line back = {.length = found.length};
     if (is_dump) {
         canonical = feksroum_canonicalize(input, length, out, length, NULL, 0, MAX_PAYLOAD, FEKSROUM_PLAIN);
         back = convert_all(feksroum_undump, text, found.length, bytes);
     }
-    return found.status == status && found.length == wanted_length && memcmp(text, wanted, wanted_length) == 0 &&
+    return found.status == (uint32_t)status && found.length == wanted_length && memcmp(text, wanted, wanted_length) == 0 &&
            back.status == FEKSROUM_OK && back.length == canonical.written && (!is_dump || memcmp(bytes, out, back.length) == 0);
+}
+
+/* Each part of the front of a frame needs more bytes: as many as the frame has, once its length is there. */
+static bool needs_more(const uint8_t *frame, size_t length) {
+    for (size_t k = 0; k < length; k++) {
+        feksroum_frame part = feksroum_next(frame, k, MAX_PAYLOAD);
+        if (part.status != FEKSROUM_INCOMPLETE || part.needed != (k < 7 ? 8 : length) || part.used != 0) {
+            return false;
+        }
+    }
+    return true;
+}
+
+/* What comes before a body, and after it. */
+static bool has_head(const uint8_t *bytes, feksroum_frame frame) {
+    uint8_t head[FEKSROUM_BODY_HEAD];
+    return frame.type != FEKSROUM_BODY ||
+           (feksroum_body_head(frame.channel, (uint32_t)frame.payload_length, head, sizeof head) == sizeof head &&
+            memcmp(head, bytes, sizeof head) == 0 && bytes[frame.used - 1] == FEKSROUM_FRAME_END);
 }
 
 /* Goes from frame to frame, and finds the same end. */
@@ -102,7 +122,8 @@ static bool frames_agree(size_t length, feksroum_progress progress) {
         if (status == FEKSROUM_OK) {
             const uint8_t *payload = bytes + at + frame.payload_start;
             status = feksroum_check(frame.type, payload, frame.payload_length).status;
-            if (!fields_agree(frame.type, payload, frame.payload_length)) {
+            if (!fields_agree(frame.type, payload, frame.payload_length) || frame.needed != frame.used ||
+                !needs_more(bytes + at, frame.used) || !has_head(bytes + at, frame)) {
                 return false;
             }
         }
@@ -126,7 +147,7 @@ static bool names_agree(void) {
         named += length > 0;
     }
     const char *version = VERSION_OF(FEKSROUM_VERSION_MAJOR, FEKSROUM_VERSION_MINOR, FEKSROUM_VERSION_PATCH);
-    return named == 20 && strcmp(FEKSROUM_VERSION, version) == 0;
+    return named == 21 && strcmp(FEKSROUM_VERSION, version) == 0 && feksroum_version() == FEKSROUM_VERSION_NUMBER;
 }
 
 /* Arguments at their bounds: no bytes at all, and what is tested. */
@@ -144,7 +165,8 @@ static bool arguments_are_tested(void) {
     bool scratches = feksroum_scratch(0) == 0 && feksroum_scratch(MAX_PAYLOAD) == MAX_PAYLOAD / 2;
     return lines && scratches && none.status == FEKSROUM_OK && shorter.status == FEKSROUM_BUFFER_TOO_SMALL &&
            level.status == FEKSROUM_BAD_ARGUMENT && shorter.used + shorter.written + level.used + level.written == 0 &&
-           feksroum_next(NULL, 0, 0).status == FEKSROUM_INCOMPLETE &&
+           feksroum_next(NULL, 0, 0).status == FEKSROUM_INCOMPLETE && feksroum_max_payload(131072) == 131064 &&
+           feksroum_max_payload(7) == 0 && feksroum_max_payload(0) == UINT32_MAX && feksroum_body_head(1, 2, NULL, 0) == 7 &&
            feksroum_check(FEKSROUM_HEARTBEAT, NULL, 0).canonical && feksroum_name(FEKSROUM_TOO_DEEP, NULL, 0) == 7;
 }
 
@@ -192,13 +214,14 @@ static bool run(const char *folder, const char *name, const char *command, int s
     const uint8_t *printed = is_text ? text : out;
     size_t printed_length = is_text ? report(progress) : progress.written;
     bool agrees = level == FEKSROUM_TIDY || frames_agree(length, progress);
-    return progress.status == status && printed_length == wanted_length && agrees &&
+    return progress.status == (uint32_t)status && printed_length == wanted_length && agrees &&
            memcmp(printed, wanted, wanted_length) == 0;
 }
 
 int main(int argc, char **argv) {
     char path[4096], line[4096], name[256], command[256];
-    int status, done = 0, failed = !names_agree() || !arguments_are_tested() || !fields_are_known() || !scratch_agrees();
+    int status, done = 0, failed = !names_agree() || !arguments_are_tested() || !fields_are_known() || !table_is_known() ||
+                                                         !scratch_agrees();
     snprintf(path, sizeof path, "%s/statuses", argc == 2 ? argv[1] : "");
     FILE *list = fopen(path, "r");
     if (!list) {

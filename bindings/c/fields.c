@@ -76,7 +76,7 @@ static bool list_agrees(uint8_t type, const uint8_t *payload, size_t length, fek
     size_t siblings, count = (size_t)deep.nodes;
     feksroum_fields alone = feksroum_read(type, payload, length, FEKSROUM_SHALLOW, other, count);
     if (alone.status != FEKSROUM_OK || !nest(nodes, count, 0, length, &siblings) || siblings != alone.nodes ||
-        !alone_agree(other, siblings, nodes)) {
+        siblings != feksroum_check(type, payload, length).fields || !alone_agree(other, siblings, nodes)) {
         return false;
     }
     for (size_t k = 0; k < count; k++) {

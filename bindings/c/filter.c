@@ -39,7 +39,7 @@ static bool flush(filter *f) {
 
 /* Canonicalizes the whole frames in front whose payloads have at most so many bytes. Their canonical bytes fit after the
  * pending ones, since no more bytes are pending than were used of `held`. */
-static uint8_t gather(filter *f, uint32_t max_payload) {
+static uint32_t gather(filter *f, uint32_t max_payload) {
     feksroum_progress progress =
         feksroum_canonicalize(f->held + f->start, f->end - f->start, f->out + f->pending, 2 * f->size - f->pending, f->scratch,
                               f->scratch_length, max_payload, f->level);
@@ -49,7 +49,7 @@ static uint8_t gather(filter *f, uint32_t max_payload) {
 }
 
 /* Passes on a frame in front that is not small. The canonical bytes of a body are its own, at each level. */
-static uint8_t pass_large(filter *f) {
+static uint32_t pass_large(filter *f) {
     feksroum_frame frame = feksroum_next(f->held + f->start, f->end - f->start, f->max_payload);
     if (frame.status != FEKSROUM_OK || frame.type != FEKSROUM_BODY) {
         return frame.status != FEKSROUM_OK ? frame.status : gather(f, f->max_payload);
@@ -62,10 +62,10 @@ static uint8_t pass_large(filter *f) {
 }
 
 /* Passes on the frames in front, and returns the status of what follows them. */
-static uint8_t pass_on(filter *f) {
+static uint32_t pass_on(filter *f) {
     uint32_t small = f->max_payload < SMALL_BODY ? f->max_payload : SMALL_BODY;
     for (;;) {
-        uint8_t status = gather(f, small);
+        uint32_t status = gather(f, small);
         if (status == FEKSROUM_TOO_LARGE) {
             status = pass_large(f);
             if (status == FEKSROUM_OK) {
@@ -76,16 +76,12 @@ static uint8_t pass_on(filter *f) {
     }
 }
 
-/* How many bytes to read: those that a large frame lacks whose header is held, so that the read ends with it; else as many as
+/* How many bytes to read: those that a large frame lacks whose length is held, so that the read ends with it; else as many as
  * the largest frame has. */
 static size_t read_size(const filter *f) {
-    const uint8_t *frame = f->held + f->start;
     size_t count = f->end - f->start;
-    if (count < 7 || frame[0] == FEKSROUM_PROTOCOL_HEADER) {
-        return f->size;
-    }
-    size_t payload = (size_t)frame[3] << 24 | (size_t)frame[4] << 16 | (size_t)frame[5] << 8 | frame[6];
-    return payload > SMALL_BODY ? payload + FEKSROUM_AROUND_PAYLOAD - count : f->size;
+    feksroum_frame frame = feksroum_next(f->held + f->start, count, f->max_payload);
+    return frame.needed > SMALL_BODY + FEKSROUM_AROUND_PAYLOAD ? (size_t)frame.needed - count : f->size;
 }
 
 /* Makes room for a read of so many bytes after what is held, which moves to the front where that takes it. */
@@ -111,18 +107,23 @@ static int run(filter *f) {
             return f->start == f->end ? FEKSROUM_OK : FEKSROUM_INCOMPLETE;
         }
         f->end += (size_t)more;
-        uint8_t status = pass_on(f);
+        uint32_t status = pass_on(f);
         if (status != FEKSROUM_OK && status != FEKSROUM_INCOMPLETE) {
-            return status;
+            return (int)status;
         }
     }
 }
 
 int filter_run(const filter_ends *ends, uint32_t max_payload, uint8_t level) {
-    size_t size = (size_t)max_payload + FEKSROUM_AROUND_PAYLOAD, marks = feksroum_scratch(max_payload);
-    filter f = {.ends = ends, .size = size, .scratch_length = marks, .max_payload = max_payload, .level = level};
-    f.held = malloc(2 * size);
-    f.out = malloc(2 * size);
+    uint64_t size = (uint64_t)max_payload + FEKSROUM_AROUND_PAYLOAD;
+    size_t marks = feksroum_scratch(max_payload);
+    filter f = {.ends = ends, .scratch_length = marks, .max_payload = max_payload, .level = level};
+    if (size > SIZE_MAX / 2 || marks > SIZE_MAX / sizeof *f.scratch) {
+        return FEKSROUM_NO_MEMORY;
+    }
+    f.size = (size_t)size;
+    f.held = malloc(2 * f.size);
+    f.out = malloc(2 * f.size);
     f.scratch = malloc(marks * sizeof *f.scratch);
     int status = f.held && f.out && (f.scratch || marks == 0) ? run(&f) : FEKSROUM_NO_MEMORY;
     free(f.held);

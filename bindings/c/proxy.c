@@ -19,11 +19,11 @@ static void pass_on(proxy_connection *connection, proxy_scratch *scratch) {
         feksroum_canonicalize(connection->held, connection->held_count, connection->out, PROXY_SIZE, scratch->marks,
                               sizeof scratch->marks / sizeof *scratch->marks, PROXY_MAX_PAYLOAD, connection->level);
     connection->out_start = 0;
-    connection->out_end = progress.written;
-    connection->held_count -= progress.used;
+    connection->out_end = (size_t)progress.written;
+    connection->held_count -= (size_t)progress.used;
     memmove(connection->held, connection->held + progress.used, connection->held_count);
     if (progress.status != FEKSROUM_INCOMPLETE) {
-        connection->status = progress.status;
+        connection->status = (uint8_t)progress.status;
     }
 }
 

@@ -1,13 +1,14 @@
-"""Frames and their canonical bytes."""
+"""Frames out of bytes, with what stands in them."""
 
-import ctypes
 import enum
-from dataclasses import dataclass
+import threading
+from typing import Any, Iterator, List, Optional, Tuple
 
-from ._library import LIBRARY, CutShort, Mark, error_of
-
-#: The longest payload that the program accepts, in bytes.
-MAX_PAYLOAD = 131072
+from ._buffers import MAX_PAYLOAD, SHORTEST, Room, address_of, bytes_of, limit_of, view_of
+from ._errors import BUFFER_TOO_SMALL, CutShort, error_of
+from ._library import HEAD, NODE, library_for
+from ._reading import method_of, properties_of
+from .methods import METHODS, Method, Properties
 
 
 class FrameType(enum.IntEnum):
@@ -20,137 +21,236 @@ class FrameType(enum.IntEnum):
     PROTOCOL_HEADER = 65
 
 
-class Level(enum.IntEnum):
-    """How closely frames have to keep to their canonical bytes."""
+_TYPES = {int(type): type for type in FrameType}
+_CANONICAL, _TIDY = 1, 2
+#: How many bytes come before a payload, and after it.
+_AROUND = {FrameType.PROTOCOL_HEADER: (5, 0)}
+_AROUND_OTHERS = (7, 1)
 
-    PLAIN = 0
-    TIDY = 1
 
-
-@dataclass(frozen=True)
 class Frame:
-    """A whole frame. Its payload is a part of the bytes it was read from: bytes(frame.payload) copies it."""
+    """A whole frame, and what stands in it. Equal to each frame of the same bytes."""
 
+    __slots__ = ("type", "channel", "method", "properties", "_head", "_source", "_start")
     type: FrameType
+    #: 0 for a protocol header.
     channel: int
-    payload: memoryview
-    #: Of a method or content header, else 0.
-    class_id: int
-    #: Of a method, else 0.
-    method_id: int
-    #: The size of the body that a content header announces, else 0.
-    body_size: int
-    #: Whether the payload is the canonical one.
-    canonical: bool
-    tidy: bool
+    #: The method of a method frame, else None.
+    method: Optional[Method]
+    #: The properties of a content header, else None.
+    properties: Optional[Properties]
+
+    def __init__(self, head: Tuple[int, ...], source: bytes, base: int) -> None:
+        """From a head whose spans count from `base` in the source."""
+        self.type = _TYPES[head[8]]
+        self.channel = head[5]
+        self.method = None
+        self.properties = None
+        self._head = head
+        self._source = source
+        self._start = base + head[1]
+
+    @property
+    def class_id(self) -> int:
+        """Of a method or content header, else 0."""
+        return self._head[6]
+
+    @property
+    def method_id(self) -> int:
+        """Of a method, else 0."""
+        return self._head[7]
+
+    @property
+    def body_size(self) -> int:
+        """How many bytes of body a content header announces, else 0."""
+        return self._head[0]
+
+    @property
+    def canonical(self) -> bool:
+        """Whether its bytes are the canonical ones."""
+        return self._head[9] & _CANONICAL != 0
+
+    @property
+    def tidy(self) -> bool:
+        """Whether all that reading drops is canonical."""
+        return self._head[9] & _TIDY != 0
+
+    @property
+    def payload(self) -> memoryview:
+        """The payload; of a protocol header its three version bytes. It is a part of what the frame was read from."""
+        return memoryview(self._source)[self._start : self._start + self._head[2]]
+
+    @property
+    def bytes(self) -> memoryview:
+        """All bytes of the frame, as they came."""
+        before, after = _AROUND.get(self.type, _AROUND_OTHERS)
+        return memoryview(self._source)[self._start - before : self._start + self._head[2] + after]
+
+    @property
+    def version(self) -> Optional[Tuple[int, int, int]]:
+        """Of a protocol header: major, minor, revision."""
+        if self.type is not FrameType.PROTOCOL_HEADER:
+            return None
+        major, minor, revision = self.payload
+        return major, minor, revision
+
+    def __eq__(self, other: object) -> bool:
+        return isinstance(other, Frame) and self.bytes == other.bytes
+
+    def __hash__(self) -> int:
+        return hash(self.bytes)
+
+    def __repr__(self) -> str:
+        content = self.method or self.properties or f"{len(self.payload)} bytes"
+        return f"<Frame {self.type.name} on channel {self.channel}: {content}>"
 
 
-def _address(data, view):
-    """Where the bytes of a view lie, for as long as what is returned with it is kept. Bytes that are no `bytes` and cannot be
-    written are copied."""
-    if isinstance(data, bytes):
-        return data, ctypes.cast(ctypes.c_char_p(data), ctypes.c_void_p).value
-    if view.readonly or view.nbytes == 0:
-        kept = ctypes.create_string_buffer(view.tobytes(), max(view.nbytes, 1))
-    else:
-        kept = (ctypes.c_uint8 * view.nbytes).from_buffer(view)
-    return kept, ctypes.addressof(kept)
+#: How many bytes are looked at by one call, at first and at most, where no frame is larger.
+FIRST_WINDOW, LAST_WINDOW = 4096, 262144
+#: Room for so many heads at most, and for so many nodes where no frame has more.
+HEADS, NODES = 2048, 16384
+#: Room for so many of each at first.
+FEW = 64
+_DEEP = 1
+_METHOD, _HEADER = int(FrameType.METHOD), int(FrameType.HEADER)
 
 
-def _view(data):
-    return memoryview(data).cast("B")
+class _Reader:
+    """Reads frames by batches, into lists that it keeps."""
 
+    def __init__(self, max_payload: int) -> None:
+        self.limit = limit_of(max_payload)
+        self._heads = Room(FEW * HEAD.size)
+        self._nodes = Room(FEW * NODE.size)
 
-def _limit(max_payload):
-    if not 0 <= max_payload < 2**32:
-        raise ValueError("max_payload has to fit in 32 bits")
-    return max_payload
-
-
-def check(type, payload):
-    """What stands in a whole payload of this type, as (class_id, method_id, body_size, canonical, tidy). Raises its fault."""
-    view = _view(payload)
-    kept, address = _address(payload, view)
-    return _check(type, address, view.nbytes)
-
-
-def _check(type, address, length):
-    found = LIBRARY.feksroum_check(type, address, length)
-    if found.status:
-        raise error_of(found.status)
-    return found.class_id, found.method_id, found.body_size, found.canonical, found.tidy
-
-
-def frames(data, max_payload=MAX_PAYLOAD):
-    """The frames in front of some bytes, one after another. Raises where they do not all belong to whole frames."""
-    view, limit = _view(data), _limit(max_payload)
-    kept, address = _address(data, view)
-    at = 0
-    while at < view.nbytes:
-        found = LIBRARY.feksroum_next(address + at, view.nbytes - at, limit)
-        if found.status:
-            raise error_of(found.status)
-        start = at + found.payload_start
-        payload = view[start : start + found.payload_length]
-        stands = _check(found.type, address + start, found.payload_length)
-        yield Frame(FrameType(found.type), found.channel, payload, *stands)
-        at += found.used
-
-
-class Canonicalizer:
-    """Canonicalizes a stream that comes in pieces."""
-
-    def __init__(self, max_payload=MAX_PAYLOAD, level=Level.PLAIN):
-        self._limit = _limit(max_payload)
-        self._level = Level(level)
-        self._held = bytearray()
-        self._scratch = (Mark * 0)()
-        #: Why no more frames come: the fault that was met, or None.
-        self.error = None
-
-    def _grow_scratch(self, length):
-        """Makes the scratch long enough for the tables in so many bytes."""
-        marks = LIBRARY.feksroum_scratch(min(length, self._limit))
-        if marks > len(self._scratch):
-            self._scratch = (Mark * marks)()
-
-    def feed(self, data):
-        """The canonical bytes of the frames that this piece completes. Raises nothing: a fault is kept in `error`, and
-        nothing is written for what comes after it."""
-        if self.error is not None:
-            return b""
-        self._held += data
-        length = len(self._held)
-        self._grow_scratch(length)
-        scratch = self._scratch
-        out = ctypes.create_string_buffer(max(length, 1))
-        held = (ctypes.c_uint8 * length).from_buffer(self._held)
-        progress = LIBRARY.feksroum_canonicalize(
-            ctypes.addressof(held), length, ctypes.addressof(out), length, ctypes.addressof(scratch), len(scratch),
-            self._limit, self._level,
+    def _call(self, data: bytes, at: int, size: int) -> Any:
+        """The heads and nodes of as many frames in front of a window as there is room for."""
+        kept, address = address_of(data)
+        heads, nodes = self._heads, self._nodes
+        return library_for(size).feksroum_frames(
+            address + at, size, self.limit, _DEEP, heads.address, len(heads) // HEAD.size, nodes.address, len(nodes) // NODE.size
         )
-        del held
-        del self._held[: progress.used]
-        error = error_of(progress.status)
-        self.error = None if isinstance(error, CutShort) else error
-        return out.raw[: progress.written]
 
-    def close(self):
+    def batch(self, data: bytes, at: int, size: int) -> Tuple[Iterator[Frame], Any]:
+        """Some whole frames in front of a window of so many bytes, made as they are asked for, and how far they go. One at least,
+        where one is in front."""
+        size = min(size, len(data) - at)
+        self._heads.grow(min(size // SHORTEST + 1, HEADS) * HEAD.size)
+        self._nodes.grow(min(size, NODES) * NODE.size)
+        end = self._call(data, at, size)
+        if end.status == BUFFER_TOO_SMALL and end.heads == 0:
+            self._nodes.grow(end.needed * NODE.size)
+            end = self._call(data, at, size)
+        heads, nodes = self._heads.copy(end.heads * HEAD.size), self._nodes.copy(end.nodes * NODE.size)
+        return _listed(data, at, data[at : at + end.used] if end.nodes else b"", heads, nodes), end
+
+
+def _listed(data: bytes, at: int, window: bytes, heads: bytes, nodes: bytes) -> Iterator[Frame]:
+    """The frames of lists of heads and nodes, whose spans count from a place in the data. Their strings are cut out of a copy of
+    that part. One frame after another, since what is let go of at once is quicker to make again."""
+    for head in HEAD.iter_unpack(heads):
+        frame = Frame(head, data, at)
+        if head[8] == _METHOD:
+            frame.method = method_of(METHODS[head[6], head[7]], window, nodes, head[3])
+        elif head[8] == _HEADER:
+            frame.properties = properties_of(window, nodes, head[3], head[3] + head[4])
+        yield frame
+
+
+def frames(data: Any, max_payload: int = MAX_PAYLOAD) -> Iterator[Frame]:
+    """The frames in front of some bytes, one after another. Raises where the bytes do not all belong to whole frames: the
+    exception's `used` says where that is; it is CutShort where the bytes end inside a frame.
+
+    A frame keeps the `bytes` that it was read from; of anything else it keeps a copy of some, and nothing of what was passed is
+    held: a bytearray may be changed once the last frame came, or the exception.
+    """
+    return _frames(data, _Reader(max_payload))
+
+
+def _part(data: Any, at: int, size: int) -> Tuple[bytes, int, bool]:
+    """Bytes, from which place on so many are looked at, and whether they are the last ones."""
+    if type(data) is bytes:
+        return data, at, at + size >= len(data)
+    with view_of(data) as view:
+        return view[at : at + size].tobytes(), 0, at + size >= view.nbytes
+
+
+def _frames(data: Any, reader: _Reader) -> Iterator[Frame]:
+    at, usual, size = 0, FIRST_WINDOW, FIRST_WINDOW
+    while True:
+        part, start, is_last = _part(data, at, size)
+        found, end = reader.batch(part, start, size)
+        yield from found
+        at += end.used
+        if end.status == CutShort.status and not is_last:
+            size = max(2 * size, end.needed) if end.used == 0 else max(usual, end.needed)
+        elif end.status in (0, BUFFER_TOO_SMALL):
+            if end.status == 0 and is_last:
+                return
+            usual = size = min(2 * usual, LAST_WINDOW)
+        else:
+            raise _fault(end, at)
+
+
+def _fault(end: Any, at: int) -> Exception:
+    """The exception for what ended some frames."""
+    if end.status == CutShort.status:
+        return CutShort(at, end.needed)
+    return error_of(end.status, at) or AssertionError("no fault")
+
+
+class FrameReader:
+    """Reads the frames of a stream that comes in pieces. Two threads that feed it at once are let in one after the other."""
+
+    def __init__(self, max_payload: int = MAX_PAYLOAD) -> None:
+        self._reader = _Reader(max_payload)
+        self._lock = threading.Lock()
+        self._held = bytearray()
+        #: How many bytes the next frame has, where its length is known; else 0.
+        self._needed = 0
+        self._used = 0
+        #: Why no more frames come: the fault that was met, or None. Its `used` counts from the front of the stream.
+        self.error: Optional[Exception] = None
+
+    def feed(self, data: Any) -> List[Frame]:
+        """The frames that this piece completes. Raises nothing for a fault, which is kept in `error`; what comes after it is not
+        read."""
+        found: List[Frame] = []
+        with self._lock:
+            self._held += data
+            while self.error is None and len(self._held) >= max(1, self._needed):
+                if not self._read(found):
+                    break
+        return found
+
+    def _read(self, found: List[Frame]) -> bool:
+        """Adds a batch of what is held, and returns whether more of it may be whole."""
+        part, start, _ = _part(self._held, 0, max(LAST_WINDOW, self._needed))
+        some, end = self._reader.batch(part, start, len(part))
+        found += some
+        del self._held[: end.used]
+        self._used += end.used
+        is_cut = end.status == CutShort.status
+        self._needed = end.needed if is_cut and end.needed > SHORTEST else 0
+        if end.status not in (0, CutShort.status, BUFFER_TOO_SMALL):
+            self.error = _fault(end, self._used)
+        return not is_cut or len(self._held) >= SHORTEST
+
+    def close(self) -> None:
         """Raises the fault that was met, and CutShort where the stream ended inside a frame."""
         if self.error is not None:
-            raise self.error
+            raise type(self.error)(*self.error.args)
         if self._held:
-            raise CutShort()
+            raise CutShort(self._used, max(self._needed, SHORTEST))
 
 
-def canonicalize(data, max_payload=MAX_PAYLOAD, level=Level.PLAIN):
-    """The canonical bytes of these bytes. Raises where they do not all belong to whole frames; what was written for those
-    before the fault is the exception's attribute `written`."""
-    stream = Canonicalizer(max_payload, level)
-    written = stream.feed(data)
-    try:
-        stream.close()
-    except Exception as error:
-        error.written = written
-        raise
-    return written
+def check(type: int, payload: Any) -> Tuple[int, int, int, bool, bool]:
+    """What stands in a whole payload of this type, as (class_id, method_id, body_size, canonical, tidy). Raises its fault."""
+    if not 0 <= type < 256:
+        raise ValueError("type has to fit in 8 bits")
+    data = bytes_of(payload)
+    found = library_for(len(data)).feksroum_check(type, data, len(data))
+    error = error_of(found.status)
+    if error is not None:
+        raise error
+    return found.class_id, found.method_id, found.body_size, found.canonical, found.tidy

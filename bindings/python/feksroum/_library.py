@@ -1,162 +1,159 @@
-"""The shared library, its functions as `feksroum.h` declares them, and an exception for each status."""
+"""The shared library: where it is found, its structs, and its functions as `feksroum.h` declares them.
+
+Each function is there twice. A call on few bytes keeps the interpreter's lock, since to take it back beside a busy thread
+lasts longer than the call; a call on many bytes lets go of it.
+"""
 
 import ctypes
 import os
+import struct
 from ctypes import POINTER, Structure, c_bool, c_size_t, c_uint8, c_uint16, c_uint32, c_uint64
+from typing import Any, List, Tuple
 
-
-class Error(Exception):
-    """Why no whole frame is in front of some bytes, or no line of one in front of some text. Its class is named for the
-    error."""
-
-    #: The exit status of the program for it.
-    status = 0
-
-
-class UnknownFrameType(Error):
-    """The first byte of a frame names no frame type."""
-
-    status = 10
-
-
-class BadProtocolHeader(Error):
-    """A first byte 65 that does not begin a protocol header."""
-
-    status = 11
-
-
-class TooLarge(Error):
-    """A payload above the limit."""
-
-    status = 12
-
-
-class BadFrameEnd(Error):
-    """The byte after the payload is not 206."""
-
-    status = 13
-
-
-class UnknownClass(Error):
-    """A method of no class."""
-
-    status = 14
-
-
-class UnknownMethod(Error):
-    """A method that its class does not have."""
-
-    status = 15
-
-
-class ShortPayload(Error):
-    """Something passes the end of the payload, or of a table or array in it."""
-
-    status = 16
-
-
-class TrailingBytes(Error):
-    """Bytes are left after the last field of the payload."""
-
-    status = 17
-
-
-class NotUtf8(Error):
-    """A short string that is not UTF-8."""
-
-    status = 18
-
-
-class UnknownTag(Error):
-    """A field tag that names no type."""
-
-    status = 19
-
-
-class TooDeep(Error):
-    """Tables or arrays nested more than 64 deep."""
-
-    status = 20
-
-
-class CutShort(Error):
-    """The bytes end inside a frame, or the text inside a line."""
-
-    status = 21
-
-
-class NotTidy(Error):
-    """A frame that can be read and is not tidy, where only tidy frames are taken."""
-
-    status = 23
-
-
-class BadText(Error):
-    """A line that is the line of no frame with a payload within the limit."""
-
-    status = 26
-
-
-#: The statuses of calls that are no frame's and no line's.
-NO_MEMORY, BUFFER_TOO_SMALL = 3, 40
-
-ERRORS = {error.status: error for error in Error.__subclasses__()}
+#: The version of the library that this module is written for: major, minor.
+WANTED = (0, 1)
+#: The name by which the system has it.
+SONAME = "libfeksroum.so.0"
+#: Calls on more bytes than this let go of the interpreter's lock.
+SMALL_INPUT = 16384
 
 
 class FrontFrame(Structure):
     _fields_ = [
-        ("used", c_size_t), ("payload_start", c_size_t), ("payload_length", c_size_t), ("channel", c_uint16),
-        ("type", c_uint8), ("status", c_uint8),
+        ("used", c_uint64), ("needed", c_uint64), ("payload_length", c_uint64), ("payload_start", c_uint32),
+        ("channel", c_uint16), ("type", c_uint8), ("status", c_uint8),
     ]
 
 
 class Payload(Structure):
     _fields_ = [
         ("body_size", c_uint64), ("class_id", c_uint16), ("method_id", c_uint16), ("canonical", c_bool), ("tidy", c_bool),
-        ("status", c_uint8),
+        ("status", c_uint8), ("fields", c_uint8),
     ]
 
 
 class Progress(Structure):
-    _fields_ = [("used", c_size_t), ("written", c_size_t), ("status", c_uint8)]
+    _fields_ = [("used", c_uint64), ("written", c_uint64), ("status", c_uint32), ("unused", c_uint32)]
 
 
 class Line(Structure):
-    _fields_ = [("used", c_size_t), ("length", c_size_t), ("status", c_uint8)]
+    _fields_ = [("used", c_uint64), ("length", c_uint64), ("status", c_uint32), ("unused", c_uint32)]
+
+
+class Fields(Structure):
+    _fields_ = [
+        ("body_size", c_uint64), ("nodes", c_uint64), ("class_id", c_uint16), ("method_id", c_uint16), ("canonical", c_bool),
+        ("tidy", c_bool), ("status", c_uint8), ("unused", c_uint8),
+    ]
+
+
+class Batch(Structure):
+    _fields_ = [
+        ("used", c_uint64), ("needed", c_uint64), ("heads", c_uint32), ("nodes", c_uint32), ("status", c_uint32),
+        ("unused", c_uint32),
+    ]
+
+
+class Written(Structure):
+    _fields_ = [
+        ("length", c_uint64), ("head", c_uint32), ("node", c_uint32), ("status", c_uint32), ("unused", c_uint32),
+    ]
+
+
+class MethodRow(Structure):
+    _fields_ = [
+        ("class_id", c_uint16), ("method_id", c_uint16), ("fields", c_uint8), ("carries_content", c_bool),
+        ("wants_answer", c_bool), ("status", c_uint8),
+    ]
 
 
 class Mark(Structure):
     _fields_ = [("numbers", c_uint64 * 2)]
 
 
-def load(path=None):
-    """The library at a path; else where FEKSROUM_LIBRARY says, where `make -C bindings` builds it, or where the system
-    has it."""
-    built = os.path.join(os.path.dirname(__file__), "..", "..", "out", "libfeksroum.so")
-    path = path or os.environ.get("FEKSROUM_LIBRARY") or (built if os.path.exists(built) else "libfeksroum.so")
-    library = ctypes.CDLL(path)
-    bytes_in = [ctypes.c_void_p, c_size_t]
-    declare = [
-        ("feksroum_next", FrontFrame, [*bytes_in, c_uint32]),
-        ("feksroum_check", Payload, [c_uint8, *bytes_in]),
-        ("feksroum_scratch", c_size_t, [c_size_t]),
-        ("feksroum_canonicalize", Progress, [*bytes_in, *bytes_in, *bytes_in, c_uint32, c_uint8]),
-        ("feksroum_dump", Line, [*bytes_in, *bytes_in, c_uint32]),
-        ("feksroum_undump", Line, [*bytes_in, *bytes_in, c_uint32]),
-        ("feksroum_name", c_size_t, [c_uint8, POINTER(c_uint8), c_size_t]),
-    ]
-    for name, result, arguments in declare:
-        function = getattr(library, name)
+#: A head: body_size; start, length, first, nodes; channel, class_id, method_id; type, form.
+HEAD = struct.Struct("=Q4I3HBB")
+#: A node: number; start, length, key_start, inside, items; key_length, kind, place, scale.
+NODE = struct.Struct("=Q5I4B")
+
+BYTES_IN = [ctypes.c_void_p, c_size_t]
+NAME_OUT = [POINTER(c_uint8), c_size_t]
+FUNCTIONS: List[Tuple[str, Any, List[Any]]] = [
+    ("feksroum_version", c_uint32, []),
+    ("feksroum_next", FrontFrame, [*BYTES_IN, c_uint32]),
+    ("feksroum_check", Payload, [c_uint8, *BYTES_IN]),
+    ("feksroum_open", Fields, [c_uint8, *BYTES_IN, *BYTES_IN]),
+    ("feksroum_frames", Batch, [*BYTES_IN, c_uint32, c_uint8, *BYTES_IN, *BYTES_IN]),
+    ("feksroum_write", Written, [*BYTES_IN, *BYTES_IN, *BYTES_IN, c_uint32, *BYTES_IN]),
+    ("feksroum_write_content", Written, [c_uint8, *BYTES_IN, *BYTES_IN, *BYTES_IN]),
+    ("feksroum_body_head", c_size_t, [c_uint16, c_uint32, *BYTES_IN]),
+    ("feksroum_max_payload", c_uint32, [c_uint32]),
+    ("feksroum_scratch", c_size_t, [c_size_t]),
+    ("feksroum_canonicalize", Progress, [*BYTES_IN, *BYTES_IN, *BYTES_IN, c_uint32, c_uint8]),
+    ("feksroum_dump", Line, [*BYTES_IN, *BYTES_IN, c_uint32]),
+    ("feksroum_undump", Line, [*BYTES_IN, *BYTES_IN, c_uint32]),
+    ("feksroum_name", c_size_t, [c_uint8, *NAME_OUT]),
+    ("feksroum_method_at", MethodRow, [c_uint8]),
+    ("feksroum_shape", c_size_t, [c_uint16, c_uint16, *NAME_OUT]),
+    ("feksroum_property_kind", c_uint8, [c_uint8]),
+    ("feksroum_class_name", c_size_t, [c_uint16, *NAME_OUT]),
+    ("feksroum_method_name", c_size_t, [c_uint16, c_uint16, *NAME_OUT]),
+    ("feksroum_field_name", c_size_t, [c_uint16, c_uint16, c_uint8, *NAME_OUT]),
+    ("feksroum_property_name", c_size_t, [c_uint8, *NAME_OUT]),
+]
+
+
+def place() -> str:
+    """Where the library is: where FEKSROUM_LIBRARY says, beside this module as a wheel has it, where `make -C bindings`
+    builds it, or where the system looks for its name."""
+    named = os.environ.get("FEKSROUM_LIBRARY")
+    if named:
+        return named
+    here = os.path.dirname(os.path.abspath(__file__))
+    for folder in (here, os.path.join(here, "..", "..", "out")):
+        path = os.path.join(folder, SONAME)
+        if os.path.exists(path):
+            return path
+    return SONAME
+
+
+def check_version(number: int, path: str) -> None:
+    """Raises ImportError where a library of this version cannot serve. Below 1.0 the middle number counts as the first."""
+    major, minor, patch = number >> 16, number >> 8 & 255, number & 255
+    if major != WANTED[0] or (major == 0 and minor != WANTED[1]):
+        raise ImportError(f"feksroum: {path} is version {major}.{minor}.{patch}, and {WANTED[0]}.{WANTED[1]} is wanted")
+
+
+def _declare(library: Any, path: str) -> Any:
+    """The library with its functions' arguments and results."""
+    for name, result, arguments in FUNCTIONS:
+        try:
+            function = getattr(library, name)
+        except AttributeError:
+            raise ImportError(f"feksroum: {path} has no function {name}: it is not version {WANTED[0]}.{WANTED[1]}") from None
         function.restype, function.argtypes = result, arguments
     return library
 
 
-LIBRARY = load()
+def load(path: str) -> Tuple[Any, Any]:
+    """The library at a path, for calls that keep the interpreter's lock, and for calls that let go of it."""
+    small, large = ctypes.PyDLL(path), ctypes.CDLL(path)
+    _declare(small, path)
+    _declare(large, path)
+    check_version(small.feksroum_version(), path)
+    return small, large
 
 
-def error_of(status):
-    """The exception for a status, or None."""
-    if status == NO_MEMORY:
-        return MemoryError()
-    error = ERRORS.get(status)
-    return error and error()
+SMALL, LARGE = load(place())
+
+
+def library_for(length: int) -> Any:
+    """The library for a call on so many bytes."""
+    return SMALL if length <= SMALL_INPUT else LARGE
+
+
+def name_of(function: Any, *arguments: int) -> str:
+    """A name that a function writes; "" where it has none."""
+    room = (c_uint8 * 64)()
+    length = function(*arguments, room, len(room))
+    return bytes(room[:length]).decode("ascii")

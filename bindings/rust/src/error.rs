@@ -1,4 +1,4 @@
-//! Why bytes are no frames, why lines are those of none, and why streams end early.
+//! Why bytes are no frames, why lines are those of none, why streams end early, and why something is not written.
 
 use std::error;
 use std::fmt;
@@ -8,7 +8,7 @@ use std::io;
 #[derive(Clone, Copy, Debug, PartialEq, Eq, Hash)]
 #[non_exhaustive]
 pub enum Error {
-    /// Out of memory, which only [`dump`](crate::dump) and [`undump`](crate::undump) report.
+    /// Out of memory.
     NoMemory,
     /// The first byte of a frame names no frame type.
     UnknownFrameType,
@@ -38,11 +38,14 @@ pub enum Error {
     NotTidy,
     /// A line that is the line of no frame.
     BadText,
+    /// The library answered with this status, which the call that was made does not have in this version of the crate: another
+    /// version of the library is linked.
+    Incompatible(u32),
 }
 
 impl Error {
-    /// Each error, in the order of the statuses.
-    pub const ALL: [Error; 15] = [
+    /// Each error that the library names, in the order of the statuses.
+    pub const ALL: &'static [Error] = &[
         Error::NoMemory,
         Error::UnknownFrameType,
         Error::BadProtocolHeader,
@@ -60,7 +63,11 @@ impl Error {
         Error::BadText,
     ];
 
-    /// The exit status of the program for it, and the status of the C functions.
+    /// The status of the C functions for it, which is the exit status of the program; 255 for a status above.
+    ///
+    /// ```
+    /// assert_eq!(feksroum::Error::CutShort.status(), 21);
+    /// ```
     #[must_use]
     pub fn status(self) -> u8 {
         match self {
@@ -79,6 +86,7 @@ impl Error {
             Error::CutShort => 21,
             Error::NotTidy => 23,
             Error::BadText => 26,
+            Error::Incompatible(status) => u8::try_from(status).unwrap_or(u8::MAX),
         }
     }
 
@@ -101,21 +109,42 @@ impl Error {
             Error::CutShort => "CutShort",
             Error::NotTidy => "NotTidy",
             Error::BadText => "BadText",
+            Error::Incompatible(_) => "Incompatible",
         }
     }
 
-    /// The error with a status that a C function returned; none with 0.
-    pub(crate) fn of_status(status: u8) -> Result<(), Error> {
-        match Error::ALL.into_iter().find(|error| error.status() == status) {
-            Some(error) => Err(error),
-            None => Ok(()),
+    /// The error with a status that a C function returned; none with 0 alone.
+    pub(crate) fn of_status(status: impl Into<u32>) -> Result<(), Error> {
+        match status.into() {
+            0 => Ok(()),
+            status => {
+                let known = Error::ALL.iter().find(|error| u32::from(error.status()) == status);
+                Err(known.copied().unwrap_or(Error::Incompatible(status)))
+            }
         }
     }
 }
 
 impl fmt::Display for Error {
     fn fmt(&self, f: &mut fmt::Formatter<'_>) -> fmt::Result {
-        f.write_str(self.name())
+        f.write_str(match self {
+            Error::NoMemory => "out of memory",
+            Error::UnknownFrameType => "the first byte names no frame type",
+            Error::BadProtocolHeader => "a byte 65 that does not begin a protocol header",
+            Error::TooLarge => "the payload is longer than the limit",
+            Error::BadFrameEnd => "the byte after the payload is not 206",
+            Error::UnknownClass => "a method of no class",
+            Error::UnknownMethod => "a method that its class does not have",
+            Error::ShortPayload => "something passes the end of the payload, or of a table or array in it",
+            Error::TrailingBytes => "bytes are left after the last field",
+            Error::NotUtf8 => "a short string is not UTF-8",
+            Error::UnknownTag => "a field tag names no type",
+            Error::TooDeep => "tables or arrays are nested more than 64 deep",
+            Error::CutShort => "the bytes end inside a frame or a line",
+            Error::NotTidy => "a frame is not tidy",
+            Error::BadText => "a line is that of no frame",
+            Error::Incompatible(status) => return write!(f, "the library answered with status {status}: is it of another version?"),
+        })
     }
 }
 
@@ -124,7 +153,7 @@ impl error::Error for Error {}
 /// Why a stream was not canonicalized to its end.
 #[derive(Debug)]
 pub enum StreamError {
-    /// What was read is no sequence of frames.
+    /// What was read is no sequence of frames, or memory ran out.
     Frame(Error),
     /// A read failed.
     Read(io::Error),
@@ -163,19 +192,31 @@ impl error::Error for StreamError {
     }
 }
 
+impl From<Error> for StreamError {
+    fn from(error: Error) -> StreamError {
+        StreamError::Frame(error)
+    }
+}
+
 #[cfg(test)]
 mod tests {
     use super::*;
+    use crate::library;
 
     #[test]
     fn names_are_those_of_the_library() {
-        for status in 0..=u8::MAX {
-            let mut name = [0; 17];
-            // SAFETY: pointer and length are those of `name`.
-            let length = unsafe { crate::sys::feksroum_name(status, name.as_mut_ptr(), name.len()) };
-            if let Err(error) = Error::of_status(status) {
-                assert_eq!(&name[..length], error.name().as_bytes());
-            }
+        for error in Error::ALL {
+            assert_eq!(library::name(error.status()), error.name().as_bytes());
+        }
+    }
+
+    #[test]
+    fn each_status_but_zero_is_an_error() {
+        assert_eq!(Error::of_status(0_u8), Ok(()));
+        for status in (1..=u32::from(u8::MAX)).chain([256, 1 << 24, u32::MAX]) {
+            let error = Error::of_status(status).unwrap_err();
+            assert_eq!(u32::from(error.status()), status.min(255));
+            assert!(Error::ALL.contains(&error) || error == Error::Incompatible(status));
         }
     }
 }

@@ -1,37 +1,111 @@
-//! The wire layer of AMQP 0-9-1: frames out of bytes, their canonical bytes, and their lines of text.
-//!
-//! What is called is proved; `feksroum.h` says what each function promises. Nothing is kept between two calls, so all
-//! of it may be used by any number of threads.
+//! The wire layer of AMQP 0-9-1: frames out of bytes, typed and borrowed, and bytes out of them; their canonical bytes, and
+//! their lines of text.
 //!
 //! ```
-//! use feksroum::{Frames, FrameType, MAX_PAYLOAD};
+//! use feksroum::method::BasicPublish;
+//! use feksroum::{Content, Encode, Frames, Method, Payload, Properties, MAX_PAYLOAD};
 //!
-//! let bytes = [3, 0, 1, 0, 0, 0, 2, b'h', b'i', 206];
-//! let frame = Frames::new(&bytes, MAX_PAYLOAD).next().unwrap()?;
-//! assert_eq!((frame.frame_type, frame.channel, frame.payload), (FrameType::Body, 1, &b"hi"[..]));
-//! # Ok::<(), feksroum::Error>(())
+//! let mut wire = Vec::new();
+//! BasicPublish { routing_key: "orders", ..BasicPublish::default() }.encode(1, &mut wire)?;
+//! Content { properties: Properties::default().with_delivery_mode(2), body: b"one espresso" }.encode(1, &mut wire)?;
+//!
+//! for frame in Frames::new(&wire, MAX_PAYLOAD) {
+//!     let frame = frame?;
+//!     match frame.decode()? {
+//!         Payload::Method(Method::BasicPublish(publish)) => assert_eq!(publish.routing_key, "orders"),
+//!         Payload::Header(header) => assert_eq!(header.properties.delivery_mode, Some(2)),
+//!         Payload::Body(body) => assert_eq!(body, b"one espresso"),
+//!         other => println!("{other:?} on {}", frame.channel),
+//!     }
+//! }
+//! # Ok::<(), Box<dyn std::error::Error>>(())
 //! ```
+//!
+//! | For | Take |
+//! |---|---|
+//! | frames in a slice | [`Frames`], and [`Frame::decode`] for their fields |
+//! | keeping a frame | [`OwnedFrame`] |
+//! | frames to be sent | [`Encode`]; [`Content`] for what follows a method that carries content |
+//! | tables | [`Table`], [`TableBuf`], [`Value`] |
+//! | canonical bytes | [`canonicalize`] from a reader to a writer, [`Canonicalizer`] for pieces, [`canonicalize_slice`] |
+//! | lines of text | [`dump`] and [`undump`] |
+//!
+//! What is called is the C library of Feksroum, and that is proved: `feksroum.h` says what each function promises. This crate
+//! is tested: it copies spans into strings, tables and structs, and passes slices on. Nothing is kept between two calls, so all
+//! of it may be used by any number of threads. Connections, channels and logins are the caller's.
 
+#![deny(unsafe_code)]
+#![forbid(unsafe_op_in_unsafe_fn)]
+
+mod array;
+mod canonicalize;
+mod canonicalizer;
+mod content;
+mod draft;
+mod encode;
 mod error;
-mod frames;
-mod stream;
+mod field;
+mod frame;
+mod library;
+pub mod method;
+mod owned;
+mod payload;
+mod properties;
+mod reader;
+mod reply_code;
+mod scratch;
+#[allow(unsafe_code)]
 mod sys;
+mod table;
 mod text;
+mod value;
+mod walk;
 
+pub use array::{Array, ArrayBuf, Values};
+pub use canonicalize::{canonicalize, canonicalize_slice, Level, Progress};
+pub use canonicalizer::Canonicalizer;
+pub use content::{body_head, Content, FRAME_END};
+pub use encode::{Encode, EncodeError};
 pub use error::{Error, StreamError};
-pub use frames::{check, Frame, FrameType, Frames, Summary};
-pub use stream::{canonicalize, canonicalize_slice, Progress, Scratch};
+pub use field::Field;
+pub use frame::{check, Frame, FrameType, Frames, Summary};
+pub use method::Method;
+pub use owned::OwnedFrame;
+pub use payload::{ContentHeader, Payload, ProtocolHeader};
+pub use properties::Properties;
+pub use reply_code::ReplyCode;
+pub use scratch::Scratch;
+pub use table::{Entries, Table, TableBuf};
 pub use text::{dump, undump, Converted};
+pub use value::{Decimal, Value};
 
 /// The longest payload that the program accepts, in bytes.
 pub const MAX_PAYLOAD: u32 = 131_072;
 
-/// How closely frames have to keep to their canonical bytes.
-#[derive(Clone, Copy, Debug, Default, PartialEq, Eq, Hash)]
-pub enum Level {
-    /// Whatever the standard's grammar allows, which is what peers send.
-    #[default]
-    Plain,
-    /// Frames alone in which all that reading drops is canonical.
-    Tidy,
+/// The longest payload, in bytes, of frames of at most so many: those of a connection on which this `frame_max` was agreed. 0
+/// is no limit.
+///
+/// ```
+/// assert_eq!(feksroum::max_payload(131_072), 131_064);
+/// assert_eq!(feksroum::max_payload(0), u32::MAX);
+/// ```
+#[must_use]
+pub fn max_payload(frame_max: u32) -> u32 {
+    library::max_payload(frame_max)
 }
+
+/// The version of the library that is linked: major, minor, patch.
+///
+/// ```
+/// assert_eq!(feksroum::library_version().0, 0);
+/// ```
+#[must_use]
+pub fn library_version() -> (u32, u32, u32) {
+    let version = library::version();
+    (version >> 16, version >> 8 & 0xff, version & 0xff)
+}
+
+/// The example of README.md is run as those of this documentation.
+#[cfg(doctest)]
+#[doc = include_str!("../README.md")]
+mod readme {}

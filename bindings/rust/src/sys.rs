@@ -1,18 +1,19 @@
-//! The C functions, as `feksroum.h` declares them.
+//! The C functions and structs, as `feksroum.h` declares them. `library` calls them, and nothing else does.
 
 #[repr(C)]
-#[derive(Clone, Copy)]
+#[derive(Clone, Copy, Debug, Default)]
 pub struct Frame {
-    pub used: usize,
-    pub payload_start: usize,
-    pub payload_length: usize,
+    pub used: u64,
+    pub needed: u64,
+    pub payload_length: u64,
+    pub payload_start: u32,
     pub channel: u16,
     pub frame_type: u8,
     pub status: u8,
 }
 
 #[repr(C)]
-#[derive(Clone, Copy)]
+#[derive(Clone, Copy, Debug, Default)]
 pub struct Payload {
     pub body_size: u64,
     pub class_id: u16,
@@ -20,14 +21,70 @@ pub struct Payload {
     pub canonical: bool,
     pub tidy: bool,
     pub status: u8,
+    pub fields: u8,
+}
+
+/// A field, or a value in a table or an array: a number, or where its bytes lie.
+#[repr(C)]
+#[derive(Clone, Copy, Debug, Default, PartialEq, Eq)]
+pub struct Node {
+    pub number: u64,
+    pub start: u32,
+    pub length: u32,
+    pub key_start: u32,
+    pub inside: u32,
+    pub items: u32,
+    pub key_length: u8,
+    pub kind: u8,
+    pub place: u8,
+    pub scale: u8,
 }
 
 #[repr(C)]
-#[derive(Clone, Copy)]
-pub struct Progress {
-    pub used: usize,
-    pub written: usize,
+#[derive(Clone, Copy, Debug, Default)]
+pub struct Fields {
+    pub body_size: u64,
+    pub nodes: u64,
+    pub class_id: u16,
+    pub method_id: u16,
+    pub canonical: bool,
+    pub tidy: bool,
     pub status: u8,
+    pub unused: u8,
+}
+
+#[repr(C)]
+#[derive(Clone, Copy, Debug, Default)]
+pub struct Head {
+    pub body_size: u64,
+    pub start: u32,
+    pub length: u32,
+    pub first: u32,
+    pub nodes: u32,
+    pub channel: u16,
+    pub class_id: u16,
+    pub method_id: u16,
+    pub frame_type: u8,
+    pub form: u8,
+}
+
+#[repr(C)]
+#[derive(Clone, Copy, Debug, Default)]
+pub struct Written {
+    pub length: u64,
+    pub head: u32,
+    pub node: u32,
+    pub status: u32,
+    pub unused: u32,
+}
+
+#[repr(C)]
+#[derive(Clone, Copy, Debug, Default)]
+pub struct Progress {
+    pub used: u64,
+    pub written: u64,
+    pub status: u32,
+    pub unused: u32,
 }
 
 /// A mark of an entry of a table.
@@ -38,17 +95,43 @@ pub struct Mark {
 }
 
 #[repr(C)]
-#[derive(Clone, Copy)]
+#[derive(Clone, Copy, Debug, Default)]
 pub struct Line {
-    pub used: usize,
-    pub length: usize,
-    pub status: u8,
+    pub used: u64,
+    pub length: u64,
+    pub status: u32,
+    pub unused: u32,
 }
 
+/// `feksroum_dump` or `feksroum_undump`.
+pub type Convert = unsafe extern "C" fn(*const u8, usize, *mut u8, usize, u32) -> Line;
+
 extern "C" {
-    pub fn feksroum_scratch(length: usize) -> usize;
     pub fn feksroum_next(bytes: *const u8, length: usize, max_payload: u32) -> Frame;
     pub fn feksroum_check(frame_type: u8, payload: *const u8, length: usize) -> Payload;
+    pub fn feksroum_read(frame_type: u8, payload: *const u8, length: usize, detail: u8, nodes: *mut Node, room: usize) -> Fields;
+    pub fn feksroum_open(kind: u8, content: *const u8, length: usize, nodes: *mut Node, room: usize) -> Fields;
+    pub fn feksroum_write(
+        heads: *const Head,
+        head_count: usize,
+        nodes: *const Node,
+        node_count: usize,
+        pool: *const u8,
+        pool_length: usize,
+        max_payload: u32,
+        out: *mut u8,
+        out_length: usize,
+    ) -> Written;
+    pub fn feksroum_write_content(
+        kind: u8,
+        nodes: *const Node,
+        node_count: usize,
+        pool: *const u8,
+        pool_length: usize,
+        out: *mut u8,
+        out_length: usize,
+    ) -> Written;
+    pub fn feksroum_scratch(length: usize) -> usize;
     pub fn feksroum_canonicalize(
         bytes: *const u8,
         length: usize,
@@ -61,6 +144,22 @@ extern "C" {
     ) -> Progress;
     pub fn feksroum_dump(bytes: *const u8, length: usize, out: *mut u8, out_length: usize, max_payload: u32) -> Line;
     pub fn feksroum_undump(text: *const u8, length: usize, out: *mut u8, out_length: usize, max_payload: u32) -> Line;
+    pub fn feksroum_body_head(channel: u16, length: u32, out: *mut u8, out_length: usize) -> usize;
+    pub fn feksroum_max_payload(frame_max: u32) -> u32;
+    pub fn feksroum_version() -> u32;
     #[cfg(test)]
     pub fn feksroum_name(status: u8, out: *mut u8, out_length: usize) -> usize;
 }
+
+/// Layouts are those of the header, on 32 bits too.
+const _: () = {
+    assert!(std::mem::size_of::<Frame>() == 32);
+    assert!(std::mem::size_of::<Payload>() == 16);
+    assert!(std::mem::size_of::<Node>() == 32);
+    assert!(std::mem::size_of::<Fields>() == 24);
+    assert!(std::mem::size_of::<Head>() == 32);
+    assert!(std::mem::size_of::<Written>() == 24);
+    assert!(std::mem::size_of::<Progress>() == 24);
+    assert!(std::mem::size_of::<Mark>() == 16);
+    assert!(std::mem::size_of::<Line>() == 24);
+};

@@ -1,13 +1,12 @@
 //! Readers and writers that fail, pieces, and threads.
 
-use feksroum::{canonicalize, canonicalize_slice, dump, undump, Error, FrameType, Frames, Level, Scratch, StreamError, MAX_PAYLOAD};
-use std::io::{self, Read, Write};
-use std::path::PathBuf;
-use std::{fs, thread};
+mod common;
 
-fn example(name: &str) -> Vec<u8> {
-    fs::read(PathBuf::from(env!("CARGO_MANIFEST_DIR")).join("../../examples").join(name)).unwrap()
-}
+use common::{example, examples, random::Random};
+use feksroum::MAX_PAYLOAD;
+use feksroum::{canonicalize, canonicalize_slice, dump, undump, Canonicalizer, Error, FrameType, Frames, Level, Scratch, StreamError};
+use std::io::{self, Read, Write};
+use std::thread;
 
 /// Gives pieces of the same size, each after an interrupted read.
 struct Pieces<'a> {
@@ -32,13 +31,13 @@ struct Broken;
 
 impl Read for Broken {
     fn read(&mut self, _: &mut [u8]) -> io::Result<usize> {
-        Err(io::Error::new(io::ErrorKind::Other, "broken"))
+        Err(io::Error::other("broken"))
     }
 }
 
 impl Write for Broken {
     fn write(&mut self, _: &[u8]) -> io::Result<usize> {
-        Err(io::Error::new(io::ErrorKind::Other, "broken"))
+        Err(io::Error::other("broken"))
     }
 
     fn flush(&mut self) -> io::Result<()> {
@@ -48,7 +47,7 @@ impl Write for Broken {
 
 #[test]
 fn pieces_of_any_size_give_the_same_bytes() {
-    let (bytes, wanted) = (example("server_stream.raw"), example("server_stream.out"));
+    let (bytes, wanted) = (example("raw/server_stream.raw"), example("raw/server_stream.out"));
     for size in [1, 2, 7, 8, 9, 100, 4096] {
         let mut out = Vec::new();
         canonicalize(Pieces { bytes: &bytes, size, interrupts: false }, &mut out, MAX_PAYLOAD, Level::Plain).unwrap();
@@ -58,7 +57,7 @@ fn pieces_of_any_size_give_the_same_bytes() {
 
 #[test]
 fn failed_reads_and_writes_are_reported() {
-    let bytes = example("body.raw");
+    let bytes = example("raw/body.raw");
     let read = canonicalize(bytes.chain(Broken), Vec::new(), MAX_PAYLOAD, Level::Plain).unwrap_err();
     assert!(matches!(read, StreamError::Read(_)) && read.status() == 4);
     let write = canonicalize(&bytes[..], Broken, MAX_PAYLOAD, Level::Plain).unwrap_err();
@@ -101,7 +100,7 @@ fn table_of(keys: impl Iterator<Item = u16>) -> Vec<u8> {
 #[test]
 fn a_scratch_changes_nothing_that_is_written() {
     let (falling, wanted) = (table_of((0..3000).rev()), table_of(0..3000));
-    for mut scratch in [Scratch::none(), Scratch::for_payloads(falling.len() as u32)] {
+    for mut scratch in [Scratch::none(), Scratch::for_payloads(falling.len() as u32).unwrap()] {
         let mut out = vec![0; falling.len()];
         let progress = canonicalize_slice(&falling, &mut out, &mut scratch, MAX_PAYLOAD, Level::Plain);
         assert_eq!((progress.written, progress.end), (wanted.len(), Ok(())));
@@ -124,7 +123,7 @@ fn lines_end_at_the_first_fault() {
 
 #[test]
 fn four_threads_at_once() {
-    let (bytes, wanted) = (example("server_stream.raw"), example("server_stream.out"));
+    let (bytes, wanted) = (example("raw/server_stream.raw"), example("raw/server_stream.out"));
     thread::scope(|scope| {
         for size in 1..=4 {
             let (bytes, wanted) = (&bytes, &wanted);
@@ -137,4 +136,113 @@ fn four_threads_at_once() {
             });
         }
     });
+}
+
+/// All that a canonicalizer makes of a stream in pieces.
+fn fed<'a>(pieces: impl IntoIterator<Item = &'a [u8]>, max_payload: u32, level: Level) -> (Vec<u8>, Result<(), Error>) {
+    let mut stream = Canonicalizer::new(max_payload, level);
+    let mut out = Vec::new();
+    let mut end = Ok(());
+    for piece in pieces {
+        end = end.and(stream.feed(piece, &mut out));
+        assert!(stream.held().len() < 8 + max_payload as usize);
+    }
+    assert_eq!(end.and_then(|()| stream.feed(&[], &mut out)), end);
+    (out, end.and(stream.finish()))
+}
+
+#[test]
+fn a_canonicalizer_is_fed_in_any_pieces() {
+    let mut random = Random::new(4);
+    let mut done = 0;
+    for example in examples(common::OF_BYTES) {
+        let bytes = example.bytes();
+        for (level, max_payload) in [(Level::Plain, MAX_PAYLOAD), (Level::Tidy, MAX_PAYLOAD), (Level::Plain, 60)] {
+            let mut out = vec![0; bytes.len()];
+            let whole = canonicalize_slice(&bytes, &mut out, &mut Scratch::none(), max_payload, level);
+            out.truncate(whole.written);
+            for size in [1, 2, 3, 7, 8, 9, 50, bytes.len().max(1)] {
+                assert_eq!(fed(bytes.chunks(size), max_payload, level), (out.clone(), whole.end), "{} by {size}", example.name);
+                done += 1;
+            }
+            for _ in 0..20 {
+                let (mut pieces, mut rest) = (Vec::new(), &bytes[..]);
+                while !rest.is_empty() {
+                    let (piece, after) = rest.split_at(random.below(40).min(rest.len()));
+                    pieces.push(piece);
+                    rest = after;
+                }
+                assert_eq!(fed(pieces, max_payload, level), (out.clone(), whole.end), "{}", example.name);
+            }
+        }
+    }
+    assert!(done > 500);
+}
+
+#[test]
+fn a_fault_in_what_is_held_is_told_at_the_end() {
+    for (bytes, error) in [
+        (&b"AMX"[..], Error::BadProtocolHeader),
+        (b"AMQ", Error::CutShort),
+        (b"\x03\0\x01\xff\xff\xff\xff", Error::TooLarge),
+        (b"\x03\0\x01\0\0\0", Error::CutShort),
+        (b"\x03\0\x01\0\0\0\x01\xce", Error::CutShort),
+        (b"\x09", Error::UnknownFrameType),
+    ] {
+        assert_eq!(fed(bytes.chunks(1), MAX_PAYLOAD, Level::Plain), (Vec::new(), Err(error)), "{bytes:?}");
+    }
+}
+
+#[test]
+fn a_fault_stays() {
+    let mut stream = Canonicalizer::new(MAX_PAYLOAD, Level::Plain);
+    let mut out = Vec::new();
+    let beat = [8, 0, 0, 0, 0, 0, 0, 206];
+    assert_eq!(stream.feed(&[&beat[..], &[9]].concat(), &mut out), Err(Error::UnknownFrameType));
+    assert_eq!(stream.feed(&beat, &mut out), Err(Error::UnknownFrameType));
+    assert_eq!((&out[..], stream.finish()), (&beat[..], Err(Error::UnknownFrameType)));
+}
+
+#[test]
+fn small_pieces_of_a_large_frame_take_linear_time() {
+    let length = 16_000_000_u32;
+    let mut bytes = vec![3, 0, 1];
+    bytes.extend(length.to_be_bytes());
+    bytes.resize(7 + length as usize, 5);
+    bytes.push(206);
+    assert!(fed(bytes.chunks(16), length, Level::Plain) == (bytes.clone(), Ok(())));
+}
+
+#[test]
+fn tables_in_no_order_are_sorted_in_pieces_too() {
+    let (falling, wanted) = (table_of((0..8000).rev()), table_of(0..8000));
+    assert!(fed(falling.chunks(1000), MAX_PAYLOAD, Level::Plain) == (wanted, Ok(())));
+}
+
+/// How many bytes of memory the process has.
+#[cfg(target_os = "linux")]
+fn resident() -> usize {
+    let pages = std::fs::read_to_string("/proc/self/statm").unwrap();
+    pages.split(' ').nth(1).unwrap().parse::<usize>().unwrap() * 4096
+}
+
+#[test]
+#[cfg(target_os = "linux")]
+fn a_scratch_touches_no_memory_before_it_is_used() {
+    let before = resident();
+    let scratch = Scratch::for_payloads(1 << 28).unwrap();
+    assert!(resident() < before + (1 << 26), "2 GiB of scratch are not there before they are used");
+    drop(scratch);
+}
+
+#[test]
+fn the_largest_limit_takes_no_memory_by_itself() {
+    match Scratch::for_payloads(u32::MAX) {
+        Ok(_) | Err(Error::NoMemory) => {}
+        Err(error) => panic!("{error}"),
+    }
+    let (bytes, wanted) = (example("raw/server_stream.raw"), example("raw/server_stream.out"));
+    let mut out = Vec::new();
+    canonicalize(&bytes[..], &mut out, u32::MAX, Level::Plain).unwrap();
+    assert_eq!(out, wanted);
 }

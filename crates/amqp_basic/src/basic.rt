@@ -9,6 +9,7 @@ ghost use Rattle.std.specs.Prelude.{◌≡◌, IfOk};
 ghost use Rattle.amqp_types.specs.Calls.{Parses, Measures, HasRoom};
 ghost use Rattle.amqp_types.specs.Writing.{Puts, Appends};
 ghost use Rattle.amqp_types.specs.Methods.{judge_method, judge_in_class, payload_bytes, payload_size};
+ghost use Rattle.amqp_laws.specs.HeldMethods.{IsHeldMethod};
 ghost use Rattle.amqp_basic.specs.Basic.{method_of};
 
 pub use acknowledging::{
@@ -19,7 +20,8 @@ pub use acknowledging::{
     size_recover_async, size_recover_ok, size_reject,
 };
 use amqp_values::{
-    GenError, Identifier, NoMemory, ParserError, gen_fields, parse_id, put_fields, size_fields,
+    GenError, Identifier, NoMemory, ParserError, fields_held, gen_fields, parse_id, put_fields,
+    size_fields,
 };
 pub use consuming::{
     Cancel, CancelOk, Consume, ConsumeOk, Qos, QosOk, gen_cancel, gen_cancel_ok, gen_consume,
@@ -161,78 +163,24 @@ fn parse_method(alloc: Global, id: Identifier, i: &[u8]) -> Result<(usize, AMQPM
     ensures { Parses method_of result i.now (judge_method 60 id) }
 {
     match id {
-        10 => {
-            let (used, method) = parse_qos(alloc, i)?;
-            Ok((used, AMQPMethod::Qos(method)))
-        }
-        11 => {
-            let (used, method) = parse_qos_ok(alloc, i)?;
-            Ok((used, AMQPMethod::QosOk(method)))
-        }
-        20 => {
-            let (used, method) = parse_consume(alloc, i)?;
-            Ok((used, AMQPMethod::Consume(method)))
-        }
-        21 => {
-            let (used, method) = parse_consume_ok(alloc, i)?;
-            Ok((used, AMQPMethod::ConsumeOk(method)))
-        }
-        30 => {
-            let (used, method) = parse_cancel(alloc, i)?;
-            Ok((used, AMQPMethod::Cancel(method)))
-        }
-        31 => {
-            let (used, method) = parse_cancel_ok(alloc, i)?;
-            Ok((used, AMQPMethod::CancelOk(method)))
-        }
-        40 => {
-            let (used, method) = parse_publish(alloc, i)?;
-            Ok((used, AMQPMethod::Publish(method)))
-        }
-        50 => {
-            let (used, method) = parse_return(alloc, i)?;
-            Ok((used, AMQPMethod::Return(method)))
-        }
-        60 => {
-            let (used, method) = parse_deliver(alloc, i)?;
-            Ok((used, AMQPMethod::Deliver(method)))
-        }
-        70 => {
-            let (used, method) = parse_get(alloc, i)?;
-            Ok((used, AMQPMethod::Get(method)))
-        }
-        71 => {
-            let (used, method) = parse_get_ok(alloc, i)?;
-            Ok((used, AMQPMethod::GetOk(method)))
-        }
-        72 => {
-            let (used, method) = parse_get_empty(alloc, i)?;
-            Ok((used, AMQPMethod::GetEmpty(method)))
-        }
-        80 => {
-            let (used, method) = parse_ack(alloc, i)?;
-            Ok((used, AMQPMethod::Ack(method)))
-        }
-        90 => {
-            let (used, method) = parse_reject(alloc, i)?;
-            Ok((used, AMQPMethod::Reject(method)))
-        }
-        100 => {
-            let (used, method) = parse_recover_async(alloc, i)?;
-            Ok((used, AMQPMethod::RecoverAsync(method)))
-        }
-        110 => {
-            let (used, method) = parse_recover(alloc, i)?;
-            Ok((used, AMQPMethod::Recover(method)))
-        }
-        111 => {
-            let (used, method) = parse_recover_ok(alloc, i)?;
-            Ok((used, AMQPMethod::RecoverOk(method)))
-        }
-        120 => {
-            let (used, method) = parse_nack(alloc, i)?;
-            Ok((used, AMQPMethod::Nack(method)))
-        }
+        10 => amqp_values::in_variant!(parse_qos(alloc, i), AMQPMethod::Qos),
+        11 => amqp_values::in_variant!(parse_qos_ok(alloc, i), AMQPMethod::QosOk),
+        20 => amqp_values::in_variant!(parse_consume(alloc, i), AMQPMethod::Consume),
+        21 => amqp_values::in_variant!(parse_consume_ok(alloc, i), AMQPMethod::ConsumeOk),
+        30 => amqp_values::in_variant!(parse_cancel(alloc, i), AMQPMethod::Cancel),
+        31 => amqp_values::in_variant!(parse_cancel_ok(alloc, i), AMQPMethod::CancelOk),
+        40 => amqp_values::in_variant!(parse_publish(alloc, i), AMQPMethod::Publish),
+        50 => amqp_values::in_variant!(parse_return(alloc, i), AMQPMethod::Return),
+        60 => amqp_values::in_variant!(parse_deliver(alloc, i), AMQPMethod::Deliver),
+        70 => amqp_values::in_variant!(parse_get(alloc, i), AMQPMethod::Get),
+        71 => amqp_values::in_variant!(parse_get_ok(alloc, i), AMQPMethod::GetOk),
+        72 => amqp_values::in_variant!(parse_get_empty(alloc, i), AMQPMethod::GetEmpty),
+        80 => amqp_values::in_variant!(parse_ack(alloc, i), AMQPMethod::Ack),
+        90 => amqp_values::in_variant!(parse_reject(alloc, i), AMQPMethod::Reject),
+        100 => amqp_values::in_variant!(parse_recover_async(alloc, i), AMQPMethod::RecoverAsync),
+        110 => amqp_values::in_variant!(parse_recover(alloc, i), AMQPMethod::Recover),
+        111 => amqp_values::in_variant!(parse_recover_ok(alloc, i), AMQPMethod::RecoverOk),
+        120 => amqp_values::in_variant!(parse_nack(alloc, i), AMQPMethod::Nack),
         _ => Err(ParserError::UnknownMethod),
     }
 }
@@ -293,4 +241,11 @@ pub fn gen_basic(_alloc: Global, out: &mut Vec<u8>, method: &AMQPMethod) -> Resu
     ensures { Appends out.old.items out.new.items (payload_size (method_of method.now)) (payload_bytes (method_of method.now)) result }
 {
     with_fields!(method, gen_fields(out))
+}
+
+/// A method of the class is held, whatever a program does: the premise of the laws that read canonical bytes back.
+pub fn basic_method_held(method: &AMQPMethod)
+    ensures { IsHeldMethod (method_of method.now) }
+{
+    with_fields!(method, fields_held())
 }

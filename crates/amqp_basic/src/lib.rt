@@ -2,7 +2,7 @@
 #![tactic(auto)]
 
 pub mod basic;
-mod laws;
-pub mod method_equality;
+pub mod equality;
 
-pub use laws::{basic_method_held, equal_basic_methods};
+pub use basic::basic_method_held;
+pub use equality::equal_basic_methods;

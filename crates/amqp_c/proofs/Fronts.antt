@@ -29,7 +29,7 @@ use Rattle.amqp_stream.specs.Transcribing.{answer_at, answer_to}
 use Rattle.amqp_stream.specs.Writing.{IsFaulty, frame_length, payload_fault}
 use Rattle.amqp_stream.proofs.Going.{frame_fits}
 use Rattle.amqp_stream.proofs.Writes.{is_faulty}
-use Rattle.amqp_c.specs.Rewriting.{CanonicalizesPart, PutsFrame, PutsFrom, PutsVersion}
+use Rattle.amqp_c.specs.Rewriting.{came, CanonicalizesPart, PutsFrame, PutsFrom, PutsVersion}
 use Rattle.amqp_c.specs.Scans.{error_at}
 
 -- ---- one frame
@@ -157,7 +157,7 @@ status_stop (b ∷ bytes) past error some e = let is : errors.CutShort ≡ error
 status_stop (b ∷ bytes) (fault bad) error some e = let is : error_for bad ≡ error = cc in ap stream_error_status is
 
 -- where the front is all that was used
-going_ends : {level : Level} {m : ℕ} {bytes old now : List ℕ} {used done status : ℕ} → Going level m bytes old now used done → front level (Some m) (drop used bytes) ≡ [] → place level (Some m) (drop used bytes) ≡ drop used bytes → status ≡ status_of (answer_to level m bytes) → CanonicalizesPart level m bytes old now (record { used = used; written = done; status = status })
+going_ends : {level : Level} {m : ℕ} {bytes old now : List ℕ} {used done status : ℕ} → Going level m bytes old now used done → front level (Some m) (drop used bytes) ≡ [] → place level (Some m) (drop used bytes) ≡ drop used bytes → status ≡ status_of (answer_to level m bytes) → CanonicalizesPart level m bytes old now (came used done status)
 going_ends {level = level} {m = m} {bytes = bytes} {old = old} {now = now} {used = used} {done = done} g none stays is =
     let all : front level (Some m) bytes ≡ g.frames = g.sequence ∙ ap (λ (fs : List Frame). g.frames ++ fs) none ∙ append-nil g.frames in
     let left : place level (Some m) bytes ≡ drop used bytes = g.after ∙ stays in
@@ -167,9 +167,10 @@ going_ends {level = level} {m = m} {bytes = bytes} {old = old} {now = now} {used
       put = subst (λ (fs : List Frame). Puts old now 0 (canon_frames fs) done) (sym all) g.put;
       no_longer = g.shorter;
       status = is;
+      unused = refl;
     }
 
-pub going_stops : {level : Level} {m : ℕ} {bytes old now : List ℕ} {used done : ℕ} (error : StreamError) → used < length bytes → Going level m bytes old now used done → error_at (verdict level (Some m) (drop used bytes)) ≡ Some error → CanonicalizesPart level m bytes old now (record { used = used; written = done; status = stream_error_status error })
+pub going_stops : {level : Level} {m : ℕ} {bytes old now : List ℕ} {used done : ℕ} (error : StreamError) → used < length bytes → Going level m bytes old now used done → error_at (verdict level (Some m) (drop used bytes)) ≡ Some error → CanonicalizesPart level m bytes old now (came used done (stream_error_status error))
 going_stops {level = level} {m = m} {bytes = bytes} {used = used} error some g e =
     let rest = drop used bytes in
     let stop = front-stop level (Some m) rest (stops (verdict level (Some m) rest) error e) in
@@ -178,7 +179,7 @@ going_stops {level = level} {m = m} {bytes = bytes} {used = used} error some g e
     let status : status_of (answer_to level m bytes) ≡ stream_error_status error = ap (λ (p : List ℕ). status_of (answer_at p (verdict level (Some m) p))) left ∙ status_stop rest (verdict level (Some m) rest) error there e in
     going_ends g stop.0 stop.1 (sym status)
 
-pub going_finishes : {level : Level} {m : ℕ} {bytes old now : List ℕ} {used done : ℕ} → length bytes ≤ used → Going level m bytes old now used done → CanonicalizesPart level m bytes old now (record { used = used; written = done; status = 0 })
+pub going_finishes : {level : Level} {m : ℕ} {bytes old now : List ℕ} {used done : ℕ} → length bytes ≤ used → Going level m bytes old now used done → CanonicalizesPart level m bytes old now (came used done 0)
 going_finishes {level = level} {m = m} {bytes = bytes} {used = used} all g =
     let none : drop used bytes ≡ [] = drop_all used bytes all in
     let empty : front level (Some m) (drop used bytes) ≡ [] = ap (front level (Some m)) none ∙ front-none level (Some m) in

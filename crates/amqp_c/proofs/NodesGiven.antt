@@ -1,10 +1,10 @@
 -- What is reported of fields is what was read of them.
-use Rattle.std.proofs.Common.{◌≡◌, ℕ, ◌<◌, ◌≤◌, nat_lt, Bool, if◌then◌else◌, List, length, take, Some, Result, Ok, refl, sym, ap, subst, ◌∙◌, arith}
-use Rattle.std.specs.Prelude.{IsOk}
+use Rattle.std.proofs.Common.{◌≡◌, ℕ, ◌<◌, ◌≤◌, nat_lt, Bool, if◌then◌else◌, List, length, take, Some, Result, Ok, Err, refl, sym, ap, subst, ◌∙◌, arith}
+use Rattle.std.specs.Prelude.{IsOk, IfOk, IfErr}
 use Rattle.std.proofs.lemmas.Bool.{le-ltb, lt-ltb}
 use Rattle.std.proofs.lemmas.List.{length-take-le}
 use Rattle.amqp_types.specs.Levels.{tidy, strict}
-use Rattle.amqp_types.specs.Judging.{Fault, Judge, too_large}
+use Rattle.amqp_types.specs.Judging.{Fault, Judge}
 use Rattle.amqp_types.specs.Answers.{RefusesWhole}
 use Rattle.amqp_types.specs.declared.errors.ParserError.{ParserError}
 use Rattle.amqp_types.specs.declared.errors.ParserError.TheVariants as errors
@@ -30,8 +30,7 @@ use Rattle.amqp_fields.specs.Reading.{HasNodes, ListsIn, NeedsMore, SaysLevels}
 use Rattle.amqp_c.specs.declared.check.PayloadSummary.{PayloadSummary}
 use Rattle.amqp_c.specs.declared.fields.PayloadFields.{PayloadFields}
 use Rattle.amqp_c.specs.Checks.{raw_after, summed}
-use Rattle.amqp_c.specs.Fields.{OpensEntries, OpensFilled, OpensIf, OpensValues, refused_content, content_status, ReadsFrame, ReadsRaw, ReadsWhole, fields_in, fields_with, counted}
-use Rattle.amqp_c.specs.Scans.{fault_status}
+use Rattle.amqp_c.specs.Fields.{OpensEntries, OpensFilled, OpensIf, OpensValues, content_error, reported, ReadsFrame, ReadsRaw, ReadsWhole, fields_in, fields_with, counted}
 use Rattle.amqp_c.specs.Statuses.{buffer_too_small}
 use Rattle.amqp_c.proofs.Summaries.{raw-known}
 
@@ -98,7 +97,7 @@ raw_found byte kind payload deep list result e few h = subst (λ r. ReadsRaw dee
 
 -- ---- contents that stand alone
 
-refused_filled : {A : Type 0} (Has : List Node → Type 0) (list : List Node) (error : ParserError) (read : Result (List A) Fault) → MayRefuse error → RefusesWhole error read → OpensFilled Has read list (counted (content_status error) 0)
+refused_filled : {A : Type 0} (Has : List Node → Type 0) (list : List Node) (error : ParserError) (read : Result (List A) Fault) → MayRefuse error → RefusesWhole error read → OpensFilled Has read list (counted (stream_error_status (content_error error)) 0)
 refused_filled Has list errors.Incomplete read may h = absurd h
 refused_filled Has list errors.UnknownFrameType read may h = subst (λ r. OpensFilled Has r list (counted 10 0)) (sym h) refl
 refused_filled Has list errors.BadProtocolHeader read may h = subst (λ r. OpensFilled Has r list (counted 11 0)) (sym h) refl
@@ -129,16 +128,17 @@ module _ {A : Type 0} (judge : Judge A) (Means : Node → List Node → A → Ty
         in_front = λ room. ap (λ n. take n list) size;
       })
 
-  items_refused : (old : List Node) (error : FieldsError) → length list ≡ length old → RefusesContent (HasItems judge Means content) (filled judge 0 content) (length old) error → OpensFilled (HasItems judge Means content) (filled judge 0 content) list (refused_content error)
+  items_reported : (old : List Node) (found : Result ℕ FieldsError) → length list ≡ length old → IfOk found (ListsIn (HasItems judge Means content) list) → IfErr found (RefusesContent (HasItems judge Means content) (filled judge 0 content) (length old)) → OpensFilled (HasItems judge Means content) (filled judge 0 content) list (reported found)
   unfolding counted_in
-  items_refused old (fields_errors.Payload error) same h = refused_filled (HasItems judge Means content) list error (filled judge 0 content) h.0 h.1
-  items_refused old (fields_errors.TooFew needed) same h =
-      let has = h.has in
+  items_reported old (Ok count) same listed refused = items_given count listed
+  items_reported old (Err (fields_errors.Payload error)) same listed refused = refused_filled (HasItems judge Means content) list error (filled judge 0 content) refused.0 refused.1
+  items_reported old (Err (fields_errors.TooFew needed)) same listed refused =
+      let has = refused.has in
       subst (λ read. OpensFilled (HasItems judge Means content) read list (counted buffer_too_small needed)) (sym has.fills) (record {
-        nodes = h.nodes;
+        nodes = refused.nodes;
         has = has;
-        result_is = ap (counted buffer_too_small) h.needed_is ∙ sym (ap (λ t. counted_in t (length h.nodes)) (lt-ltb (length list) (length h.nodes) (omega (arith, same, h.more, h.needed_is))));
-        in_front = λ room. absurd (omega (arith, room, same, h.more, h.needed_is));
+        result_is = ap (counted buffer_too_small) refused.needed_is ∙ sym (ap (λ t. counted_in t (length refused.nodes)) (lt-ltb (length list) (length refused.nodes) (omega (arith, same, refused.more, refused.needed_is))));
+        in_front = λ room. absurd (omega (arith, room, same, refused.more, refused.needed_is));
       })
 
 -- a content that is no longer than four bytes can say
@@ -149,28 +149,20 @@ too_long : {A : Type 0} (Has : List Node → Type 0) (read : Result (List A) Fau
 too_long Has read content list result many is = subst (λ t. OpensIf t Has read list result) (sym (lt-ltb 4294967295 (length content) many)) is
 
 module _ (content : List ℕ) (list : List Node) (result : PayloadFields) where
-  pub entries_given : (count : ℕ) → length content ≤ 4294967295 → ListsIn (HasEntries content) list count → result ≡ counted 0 count → OpensEntries content list result
-  entries_given count few listed is =
+  pub entries_reported : (old : List Node) (found : Result ℕ FieldsError) → length content ≤ 4294967295 → length list ≡ length old → IfOk found (ListsIn (HasEntries content) list)
+      → IfErr found (RefusesContent (HasEntries content) (filled (judge_entry (judge_value inner_depth)) 0 content) (length old)) → result ≡ reported found → OpensEntries content list result
+  entries_reported old found few same listed refused is =
       short_enough (HasEntries content) (filled (judge_entry (judge_value inner_depth)) 0 content) content list result few
-      (subst (OpensFilled (HasEntries content) (filled (judge_entry (judge_value inner_depth)) 0 content) list) (sym is) (items_given (judge_entry (judge_value inner_depth)) (MeansEntry (MeansValue inner_depth content) content) content list count listed))
-
-  pub entries_refused : (old : List Node) (error : FieldsError) → length content ≤ 4294967295 → length list ≡ length old → RefusesContent (HasEntries content) (filled (judge_entry (judge_value inner_depth)) 0 content) (length old) error → result ≡ refused_content error → OpensEntries content list result
-  entries_refused old error few same h is =
-      short_enough (HasEntries content) (filled (judge_entry (judge_value inner_depth)) 0 content) content list result few
-      (subst (OpensFilled (HasEntries content) (filled (judge_entry (judge_value inner_depth)) 0 content) list) (sym is) (items_refused (judge_entry (judge_value inner_depth)) (MeansEntry (MeansValue inner_depth content) content) content list old error same h))
+      (subst (OpensFilled (HasEntries content) (filled (judge_entry (judge_value inner_depth)) 0 content) list) (sym is) (items_reported (judge_entry (judge_value inner_depth)) (MeansEntry (MeansValue inner_depth content) content) content list old found same listed refused))
 
   pub entries_too_large : 4294967295 < length content → result ≡ counted 12 0 → OpensEntries content list result
   entries_too_large many is = too_long (HasEntries content) (filled (judge_entry (judge_value inner_depth)) 0 content) content list result many is
 
-  pub values_given : (count : ℕ) → length content ≤ 4294967295 → ListsIn (HasValues content) list count → result ≡ counted 0 count → OpensValues content list result
-  values_given count few listed is =
+  pub values_reported : (old : List Node) (found : Result ℕ FieldsError) → length content ≤ 4294967295 → length list ≡ length old → IfOk found (ListsIn (HasValues content) list)
+      → IfErr found (RefusesContent (HasValues content) (filled (judge_value inner_depth) 0 content) (length old)) → result ≡ reported found → OpensValues content list result
+  values_reported old found few same listed refused is =
       short_enough (HasValues content) (filled (judge_value inner_depth) 0 content) content list result few
-      (subst (OpensFilled (HasValues content) (filled (judge_value inner_depth) 0 content) list) (sym is) (items_given (judge_value inner_depth) (MeansElement (MeansValue inner_depth content)) content list count listed))
-
-  pub values_refused : (old : List Node) (error : FieldsError) → length content ≤ 4294967295 → length list ≡ length old → RefusesContent (HasValues content) (filled (judge_value inner_depth) 0 content) (length old) error → result ≡ refused_content error → OpensValues content list result
-  values_refused old error few same h is =
-      short_enough (HasValues content) (filled (judge_value inner_depth) 0 content) content list result few
-      (subst (OpensFilled (HasValues content) (filled (judge_value inner_depth) 0 content) list) (sym is) (items_refused (judge_value inner_depth) (MeansElement (MeansValue inner_depth content)) content list old error same h))
+      (subst (OpensFilled (HasValues content) (filled (judge_value inner_depth) 0 content) list) (sym is) (items_reported (judge_value inner_depth) (MeansElement (MeansValue inner_depth content)) content list old found same listed refused))
 
   pub values_too_large : 4294967295 < length content → result ≡ counted 12 0 → OpensValues content list result
   values_too_large many is = too_long (HasValues content) (filled (judge_value inner_depth) 0 content) content list result many is

@@ -12,26 +12,29 @@ use Rattle.amqp_wire.specs.Outer.{type_of}
 use Rattle.amqp_wire.specs.Outlines.{outline_of}
 use Rattle.amqp_wire.specs.Verdicts.{all_of, is_tidy_as, is_written_for, whole, whole_as}
 use Rattle.amqp_c.specs.declared.check.PayloadSummary.{PayloadSummary}
-use Rattle.amqp_c.specs.Checks.{raw_after, raw_typed, no_summary, summary_at, summary_of, summed}
+use Rattle.amqp_c.specs.Checks.{raw_after, raw_typed, no_summary, summary_at, summary_of, summed, with_fields}
 use Rattle.amqp_c.specs.Scans.{fault_status}
+use Rattle.amqp_fields.specs.Meaning.{fields_of}
 
 -- a payload of a type, by what is read of it
 abbrev read_as : AMQPFrameType → List ℕ → Result Frame Fault → PayloadSummary
-read_as kind payload (Ok frame) = summed (is_written_for (Ok frame) payload) (is_tidy_as kind payload) (outline_of frame)
+read_as kind payload (Ok frame) = with_fields (summed (is_written_for (Ok frame) payload) (is_tidy_as kind payload) (outline_of frame)) (length (fields_of frame))
 read_as kind payload (Err bad) = no_summary (fault_status bad)
 
 summary-read : (kind : AMQPFrameType) (channel : ℕ) (payload : List ℕ) (read : Result Frame Fault) → whole_as kind channel payload ≡ read
     → (let raw : Raw = record { kind = kind; channel = channel; payload = payload } in summary_at raw (whole raw) ≡ read_as kind payload read)
 summary-read kind channel payload (Ok frame) e =
     let raw : Raw = record { kind = kind; channel = channel; payload = payload } in
-    ap (summary_at raw) e ∙ ap (λ (read : Result Frame Fault). summed (is_written_for read payload) (is_tidy_as kind payload) (outline_of frame)) e
+    ap (summary_at raw) e ∙ ap (λ (read : Result Frame Fault). with_fields (summed (is_written_for read payload) (is_tidy_as kind payload) (outline_of frame)) (length (fields_of frame))) e
 summary-read kind channel payload (Err bad) e = ap (summary_at (record { kind = kind; channel = channel; payload = payload })) e
 
 read-method : (payload : List ℕ) (a b : ℕ) (read : Result Method Fault) → read_as kinds.Method payload (read_map (λ m. Meth a m) read) ≡ read_as kinds.Method payload (read_map (λ m. Meth b m) read)
+unfolding fields_of
 read-method payload a b (Ok m) = refl
 read-method payload a b (Err bad) = refl
 
 read-header : (payload : List ℕ) (a b : ℕ) (read : Result ContentHeader Fault) → read_as kinds.Header payload (read_map (λ header. Head a header) read) ≡ read_as kinds.Header payload (read_map (λ header. Head b header) read)
+unfolding fields_of
 read-header payload a b (Ok header) = refl
 read-header payload a b (Err bad) = refl
 
@@ -41,7 +44,7 @@ beat_if true channel = Beat
 beat_if false channel = BadBeat channel
 
 read-beat : (payload : List ℕ) (s t : Bool) (a b : ℕ) → read_as kinds.Heartbeat payload (Ok (beat_if s a)) ≡ read_as kinds.Heartbeat payload (Ok (beat_if t b))
-unfolding beat_if
+unfolding beat_if fields_of
 read-beat payload true true a b = refl
 read-beat payload true false a b = refl
 read-beat payload false true a b = refl
@@ -52,7 +55,7 @@ unfolding beat_if
 beat-if channel = elim (eqb channel 0) as (λ t. (if t then Beat else BadBeat channel) ≡ beat_if t channel) [ true ↦ refl | false ↦ refl ]
 
 read-any : (kind : AMQPFrameType) (a b : ℕ) (payload : List ℕ) → read_as kind payload (whole_as kind a payload) ≡ read_as kind payload (whole_as kind b payload)
-unfolding whole_as
+unfolding whole_as fields_of
 read-any kinds.ProtocolHeader a b [] = refl
 read-any kinds.ProtocolHeader a b (i ∷ []) = refl
 read-any kinds.ProtocolHeader a b (i ∷ j ∷ []) = refl

@@ -10,6 +10,7 @@ use Rattle.amqp_wire.specs.Outer.{type_of}
 use Rattle.amqp_wire.specs.Outlines.{outline_of}
 use Rattle.amqp_wire.specs.Verdicts.{is_at, whole}
 use Rattle.amqp_stream.specs.declared.errors.StreamError.{StreamError}
+use Rattle.amqp_fields.specs.Meaning.{fields_of}
 use Rattle.amqp_stream.specs.Errors.{stream_error_status}
 use Rattle.amqp_c.specs.declared.check.PayloadSummary.{PayloadSummary}
 use Rattle.amqp_c.specs.Scans.{fault_status}
@@ -25,11 +26,11 @@ raw_after byte channel payload = raw_typed (type_of byte) channel payload
 
 -- no frame, by this status
 abbrev pub no_summary : ℕ → PayloadSummary
-no_summary status = record { body_size = 0; class_id = 0; method_id = 0; canonical = false; tidy = false; status = status }
+no_summary status = record { body_size = 0; class_id = 0; method_id = 0; canonical = false; tidy = false; status = status; fields = 0 }
 
--- a frame, by whether its payload is canonical and tidy, and by what stands in it
+-- a frame, by whether its payload is canonical and tidy, and by what stands in it, without the number of its fields
 abbrev pub standing : Bool → Bool → ℕ → ℕ → ℕ → PayloadSummary
-standing canonical is_tidy class id size = record { body_size = size; class_id = class; method_id = id; canonical = canonical; tidy = is_tidy; status = 0 }
+standing canonical is_tidy class id size = record { body_size = size; class_id = class; method_id = id; canonical = canonical; tidy = is_tidy; status = 0; fields = 0 }
 
 -- the same by its outline
 abbrev pub summed : Bool → Bool → FrameOutline → PayloadSummary
@@ -39,9 +40,13 @@ summed canonical is_tidy outlines.ProtocolHeader = standing canonical is_tidy 0 
 summed canonical is_tidy (outlines.Body channel count) = standing canonical is_tidy 0 0 0
 summed canonical is_tidy (outlines.Heartbeat channel) = standing canonical is_tidy 0 0 0
 
+-- with so many fields
+abbrev pub with_fields : PayloadSummary → ℕ → PayloadSummary
+with_fields summary count = record summary { fields = count }
+
 -- a whole payload, by what is read of it
 abbrev pub summary_at : Raw → Result Frame Fault → PayloadSummary
-summary_at raw (Ok frame) = summed (is_at strict raw) (is_at tidy raw) (outline_of frame)
+summary_at raw (Ok frame) = with_fields (summed (is_at strict raw) (is_at tidy raw) (outline_of frame)) (length (fields_of frame))
 summary_at raw (Err bad) = no_summary (fault_status bad)
 
 -- the summary of a payload after a type byte; the fault of a byte that names no type, or of a payload of 2^32 bytes or more, gives its status alone

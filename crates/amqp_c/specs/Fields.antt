@@ -3,7 +3,6 @@ use Rattle.std.specs.Prelude.{◌≡◌, ◌==◌, ◌≤◌, ℕ, nat_lt, Bool,
 use Rattle.amqp_types.specs.Levels.{tidy, strict}
 use Rattle.amqp_types.specs.Judging.{Fault, too_large}
 use Rattle.amqp_types.specs.Constants.{inner_depth}
-use Rattle.amqp_types.specs.Tags.{tag_at}
 use Rattle.amqp_types.specs.ValueJudging.{filled, judge_entry, judge_value}
 use Rattle.amqp_types.specs.declared.tag.FieldTag.{FieldTag}
 use Rattle.amqp_types.specs.declared.tag.FieldTag.TheVariants as tag
@@ -13,6 +12,9 @@ use Rattle.amqp_wire.specs.Verdicts.{is_at, whole}
 use Rattle.amqp_fields.specs.declared.node.Node.{Node}
 use Rattle.amqp_types.specs.declared.errors.ParserError.{ParserError}
 use Rattle.amqp_types.specs.declared.errors.ParserError.TheVariants as parser_errors
+use Rattle.amqp_stream.specs.declared.errors.StreamError.{StreamError}
+use Rattle.amqp_stream.specs.declared.errors.StreamError.TheVariants as streams
+use Rattle.amqp_stream.specs.Errors.{stream_error_status}
 use Rattle.amqp_fields.specs.declared.reading.FieldsError.{FieldsError}
 use Rattle.amqp_fields.specs.declared.reading.FieldsError.TheVariants as errors
 use Rattle.amqp_fields.specs.Meaning.{AreNodesOf}
@@ -107,22 +109,23 @@ Opens (Some tag.FieldArray) content list result = OpensValues content list resul
 Opens (Some tag.FieldTable) content list result = OpensEntries content list result
 Opens other content list result = result ≡ counted bad_argument 0
 
--- the status of an error of what stands in a table or an array
-abbrev pub content_status : ParserError → ℕ
-content_status parser_errors.Incomplete = 21
-content_status parser_errors.UnknownFrameType = 10
-content_status parser_errors.BadProtocolHeader = 11
-content_status parser_errors.BadFrameEnd = 13
-content_status parser_errors.UnknownClass = 14
-content_status parser_errors.UnknownMethod = 15
-content_status parser_errors.ShortPayload = 16
-content_status parser_errors.TrailingBytes = 17
-content_status parser_errors.NotUtf8 = 18
-content_status parser_errors.UnknownTag = 19
-content_status parser_errors.TooDeep = 20
-content_status parser_errors.NoMemory = 3
+-- the error of a stream for one of what stands in a table or an array
+abbrev pub content_error : ParserError → StreamError
+content_error parser_errors.Incomplete = streams.CutShort
+content_error parser_errors.UnknownFrameType = streams.UnknownFrameType
+content_error parser_errors.BadProtocolHeader = streams.BadProtocolHeader
+content_error parser_errors.BadFrameEnd = streams.BadFrameEnd
+content_error parser_errors.UnknownClass = streams.UnknownClass
+content_error parser_errors.UnknownMethod = streams.UnknownMethod
+content_error parser_errors.ShortPayload = streams.ShortPayload
+content_error parser_errors.TrailingBytes = streams.TrailingBytes
+content_error parser_errors.NotUtf8 = streams.NotUtf8
+content_error parser_errors.UnknownTag = streams.UnknownTag
+content_error parser_errors.TooDeep = streams.TooDeep
+content_error parser_errors.NoMemory = streams.NoMemory
 
--- what is reported of an error
-abbrev pub refused_content : FieldsError → PayloadFields
-refused_content (errors.Payload error) = counted (content_status error) 0
-refused_content (errors.TooFew needed) = counted buffer_too_small needed
+-- what is reported of a content: how many nodes are given, how many the list needs, or its fault
+abbrev pub reported : Result ℕ FieldsError → PayloadFields
+reported (Ok count) = counted 0 count
+reported (Err (errors.Payload error)) = counted (stream_error_status (content_error error)) 0
+reported (Err (errors.TooFew needed)) = counted buffer_too_small needed

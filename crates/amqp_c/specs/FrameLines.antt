@@ -15,7 +15,7 @@ use Rattle.amqp_c.specs.Statuses.{buffer_too_small, incomplete}
 
 -- neither is read or written
 abbrev pub nothing_with : ℕ → FrameLine
-nothing_with status = record { used = 0; length = 0; status = status }
+nothing_with status = record { used = 0; length = 0; status = status; unused = 0 }
 
 -- nothing is read or written, for the reason that the status gives: the buffer stays
 pub record RefusesLine (status : ℕ) (old new : List ℕ) (result : FrameLine) : Type 0 where
@@ -26,6 +26,7 @@ pub record RefusesLine (status : ℕ) (old new : List ℕ) (result : FrameLine) 
 pub record Converts (text : List ℕ) (used : ℕ) (old new : List ℕ) (result : FrameLine) : Type 0 where
   pub used_is : result.used ≡ used
   pub length_is : result.length ≡ length text
+  pub unused_is : result.unused ≡ 0
   pub fits : length text ≤ length old → (result.status ≡ 0) × (new ≡ written old 0 text)
   pub too_long : length old < length text → (result.status ≡ buffer_too_small) × (new ≡ old)
 

@@ -25,9 +25,13 @@ profile_at level = if level == 0 then Some profiles.Plain else (if level == 1 th
 
 -- ---- one call
 
+-- how far a call came
+abbrev pub came : ℕ → ℕ → ℕ → Progress
+came used written status = record { used = used; written = written; status = status; unused = 0 }
+
 -- nothing is used or written
 pub record RefusesPart (status : ℕ) (old new : List ℕ) (progress : Progress) : Type 0 where
-  pub is : progress ≡ record { used = 0; written = 0; status = status }
+  pub is : progress ≡ came 0 0 status
   pub kept : new ≡ old
 
 -- The frames in front are used, and their canonical bytes stand at the front of the buffer, which is kept after them. The status is that of a stream of
@@ -38,6 +42,7 @@ pub record CanonicalizesPart (level : Level) (m : ℕ) (bytes old new : List ℕ
   pub put : Puts old new 0 (canon_of level m bytes) progress.written
   pub no_longer : progress.written ≤ progress.used
   pub status : progress.status ≡ status_of (answer_to level m bytes)
+  pub unused : progress.unused ≡ 0
 
 -- ---- one frame
 

@@ -26,12 +26,17 @@ buffer_too_small = 40
 abbrev pub bad_argument : ℕ
 bad_argument = 41
 
+-- a short string is longer than its length can say
+abbrev pub too_long : ℕ
+too_long = 42
+
 -- the status of an error; a stream's error keeps its own
 abbrev pub call_error_status : CallError → ℕ
 call_error_status (errors.Stream error) = stream_error_status error
 call_error_status errors.BadText = bad_text
 call_error_status errors.BufferTooSmall = buffer_too_small
 call_error_status errors.BadArgument = bad_argument
+call_error_status errors.TooLong = too_long
 
 -- the name of an error; a stream's error keeps its own
 abbrev pub call_error_name : CallError → List ℕ
@@ -39,12 +44,17 @@ call_error_name (errors.Stream error) = stream_error_name error
 call_error_name errors.BadText = codes "BadText"
 call_error_name errors.BufferTooSmall = codes "BufferTooSmall"
 call_error_name errors.BadArgument = codes "BadArgument"
+call_error_name errors.TooLong = codes "TooLong"
 
--- A name is written at the front of a buffer, where it is long enough, and its length is returned.
-pub record WritesName (name old new : List ℕ) (result : ℕ) : Type 0 where
-  pub length_is : result ≡ length name
-  pub fits : length name ≤ length old → new ≡ written old 0 name
-  pub too_long : length old < length name → new ≡ old
+-- Bytes are written at the front of a buffer, where it is long enough, and their number is returned.
+pub record WritesFront (bytes old new : List ℕ) (result : ℕ) : Type 0 where
+  pub length_is : result ≡ length bytes
+  pub fits : length bytes ≤ length old → new ≡ written old 0 bytes
+  pub too_long : length old < length bytes → new ≡ old
+
+-- the same of a name
+abbrev pub WritesName : List ℕ → List ℕ → List ℕ → ℕ → Type 0
+WritesName name old new result = WritesFront name old new result
 
 -- the error that has a status; each has one of its own
 abbrev pub call_error_at : ℕ → Option CallError
@@ -68,4 +78,5 @@ call_error_at status =
     else (if status == 23 then Some (errors.Stream streams.NotTidy)
     else (if status == bad_text then Some errors.BadText
     else (if status == buffer_too_small then Some errors.BufferTooSmall
-    else (if status == bad_argument then Some errors.BadArgument else None)))))))))))))))))))
+    else (if status == bad_argument then Some errors.BadArgument
+    else (if status == too_long then Some errors.TooLong else None))))))))))))))))))))

@@ -4,7 +4,7 @@ ghost use Rattle.std.specs.Prelude.{◌≡◌, ◌+◌, ◌^◌, ◌<◌, ◌≤
 ghost use Rattle.amqp_types.specs.Levels.{level_of, plain, tidy};
 ghost use Rattle.amqp_wire.specs.Frames.{raw_of};
 ghost use Rattle.amqp_stream.specs.Writing.{frame_length};
-ghost use Rattle.amqp_c.specs.Rewriting.{CanonicalizesPart, PutsFrame, PutsFront, PutsVersion, RefusesPart, profile_at};
+ghost use Rattle.amqp_c.specs.Rewriting.{CanonicalizesPart, PutsFrame, PutsFront, PutsVersion, RefusesPart, came, profile_at};
 ghost use Rattle.amqp_c.specs.Statuses.{bad_argument, buffer_too_small};
 
 use crate::next::{frame_at, scan};
@@ -18,24 +18,39 @@ use amqp_wire::{
 
 /// How many entries of a table in no order are sorted without a scratch of the caller's. A table with more of them
 /// takes quadratic time then.
-const MARKS: usize = 256;
+pub(crate) const MARKS: usize = 256;
 
-/// How far a call came.
+/// How far a call came. In C it has 24 bytes and no padding.
 #[repr(C)]
 #[derive(Clone, Copy, Debug, PartialEq, Eq)]
 pub struct Progress {
     /// How many bytes the whole frames in front have.
-    pub used: usize,
+    pub used: u64,
 
     /// How many canonical bytes were written for them, no more than `used`.
-    pub written: usize,
+    pub written: u64,
 
     /// 0 where nothing follows these frames, 21 where the bytes end inside the next one, or the fault's status.
-    pub status: u8,
+    pub status: u32,
+
+    /// Kept for later; 0.
+    pub unused: u32,
+}
+
+/// How far a call came, and the status of what follows.
+pub(crate) fn came(used: usize, written: usize, status: u8) -> Progress
+    ensures { result ≡ came used written status }
+{
+    Progress {
+        used: used as u64,
+        written: written as u64,
+        status: status as u32,
+        unused: 0,
+    }
 }
 
 /// The level that a number names: 0 plain, 1 tidy.
-fn profile_of(level: u8) -> Option<Profile>
+pub(crate) fn profile_of(level: u8) -> Option<Profile>
     ensures { result ≡ profile_at level }
 {
     match level {
@@ -93,7 +108,7 @@ fn with_type(frame_type: AMQPFrameType, raw: AMQPRawFrame<'_>) -> AMQPRawFrame<'
 /// Puts the canonical bytes of a borrowed frame, and returns the place after them. Methods, which come most often, have
 /// a way of their own.
 #[inline(always)]
-fn put_plain(
+pub(crate) fn put_plain(
     out: &mut [u8],
     at: usize,
     scratch: &mut [EntryMark],
@@ -200,19 +215,11 @@ fn canonicalize(
                 written = end;
             }
             Err(error) => {
-                return Progress {
-                    used,
-                    written,
-                    status: error.status(),
-                };
+                return came(used, written, error.status());
             }
         }
     }
-    Progress {
-        used,
-        written,
-        status: 0,
-    }
+    came(used, written, 0)
 }
 
 /// The same at level plain.
@@ -300,9 +307,5 @@ pub extern "C" fn feksroum_canonicalize(
         }
         Some(profile) => return canonicalize_at(bytes, out, scratch, max_payload, profile),
     };
-    Progress {
-        used: 0,
-        written: 0,
-        status,
-    }
+    came(0, 0, status)
 }

@@ -5,11 +5,12 @@ ghost use Rattle.amqp_c.specs.Checks.{raw_after, standing, summary_of, summary_o
 ghost use Rattle.amqp_wire.specs.Frames.{raw_of};
 
 use crate::frame_types::type_of_byte;
+use amqp_fields::count_fields;
 use amqp_stream::{StreamError, payload_error};
 use amqp_types::{Identifier, PayloadSize};
 use amqp_wire::{AMQPRawFrame, FrameJudgement, FrameOutline, judge_frame, outline_raw};
 
-/// What stands in a whole payload. Where it is no frame, all but the status is 0.
+/// What stands in a whole payload. Where it is no frame, all but the status is 0. In C it has 16 bytes and no padding.
 #[repr(C)]
 #[derive(Clone, Copy, Debug, PartialEq, Eq)]
 pub struct PayloadSummary {
@@ -30,6 +31,10 @@ pub struct PayloadSummary {
 
     /// 0 where the payload is a frame, or the fault's status.
     pub status: u8,
+
+    /// How many fields the frame has: of a method those that are not reserved, each flag one; the properties that are
+    /// set; 3 of a protocol header.
+    pub fields: u8,
 }
 
 /// Sums up a frame by what stands in it.
@@ -48,10 +53,11 @@ fn summary(
         canonical: judged.canonical,
         tidy: judged.tidy,
         status: 0,
+        fields: 0,
     }
 }
 
-/// Sums up a frame by its outline.
+/// Sums up a frame by its outline, without the number of its fields.
 pub(crate) fn sum_up(judged: FrameJudgement, outline: FrameOutline) -> PayloadSummary
     ensures { result ≡ summed judged.canonical judged.tidy outline }
 {
@@ -77,7 +83,13 @@ fn check_raw(raw: AMQPRawFrame<'_>) -> Result<PayloadSummary, StreamError>
 {
     match judge_frame(raw) {
         Err(error) => Err(payload_error(error)),
-        Ok(judged) => Ok(sum_up(judged, outline_raw(raw))),
+        Ok(judged) => {
+            let outline = outline_raw(raw);
+            Ok(PayloadSummary {
+                fields: count_fields(outline, raw.payload),
+                ..sum_up(judged, outline)
+            })
+        }
     }
 }
 
@@ -113,6 +125,7 @@ pub extern "C" fn feksroum_check(frame_type: u8, payload: &[u8]) -> PayloadSumma
             canonical: false,
             tidy: false,
             status: error.status(),
+            fields: 0,
         },
     }
 }

@@ -2,7 +2,7 @@
 
 ghost use Rattle.std.specs.Prelude.{◌≡◌, ◌<◌, ◌^◌, length};
 ghost use Rattle.amqp_wire.specs.Frames.{raw_as};
-ghost use Rattle.amqp_c.specs.Fields.{Opens, OpensEntries, OpensValues, ReadsAfter, ReadsRaw, ReadsWhole, content_status, counted, deep_at, fields_with, refused_content};
+ghost use Rattle.amqp_c.specs.Fields.{Opens, OpensEntries, OpensValues, ReadsAfter, ReadsRaw, ReadsWhole, content_error, counted, deep_at, fields_with, reported};
 ghost use Rattle.amqp_types.specs.Tags.{tag_at};
 ghost use Rattle.amqp_c.specs.Checks.{raw_after};
 
@@ -122,7 +122,7 @@ fn read_after(frame_type: u8, payload: &[u8], deep: bool, nodes: &mut [Node]) ->
 }
 
 /// What a number asks for: 0 fields alone, 1 all that lies inside them too.
-fn deep_at(detail: u8) -> Option<bool>
+pub(crate) fn deep_at(detail: u8) -> Option<bool>
     ensures { result ≡ deep_at detail }
 {
     match detail {
@@ -151,38 +151,39 @@ pub extern "C" fn feksroum_read(
     }
 }
 
-/// The status of an error of what stands in a table or an array.
-fn content_status(error: ParserError) -> u8
-    ensures { result ≡ content_status error }
+/// The error of a stream for one of what stands in a table or an array.
+fn content_error(error: ParserError) -> StreamError
+    ensures { result ≡ content_error error }
 {
     match error {
-        ParserError::Incomplete => 21,
-        ParserError::UnknownFrameType => 10,
-        ParserError::BadProtocolHeader => 11,
-        ParserError::BadFrameEnd => 13,
-        ParserError::UnknownClass => 14,
-        ParserError::UnknownMethod => 15,
-        ParserError::ShortPayload => 16,
-        ParserError::TrailingBytes => 17,
-        ParserError::NotUtf8 => 18,
-        ParserError::UnknownTag => 19,
-        ParserError::TooDeep => 20,
-        ParserError::NoMemory => 3,
+        ParserError::Incomplete => StreamError::CutShort,
+        ParserError::UnknownFrameType => StreamError::UnknownFrameType,
+        ParserError::BadProtocolHeader => StreamError::BadProtocolHeader,
+        ParserError::BadFrameEnd => StreamError::BadFrameEnd,
+        ParserError::UnknownClass => StreamError::UnknownClass,
+        ParserError::UnknownMethod => StreamError::UnknownMethod,
+        ParserError::ShortPayload => StreamError::ShortPayload,
+        ParserError::TrailingBytes => StreamError::TrailingBytes,
+        ParserError::NotUtf8 => StreamError::NotUtf8,
+        ParserError::UnknownTag => StreamError::UnknownTag,
+        ParserError::TooDeep => StreamError::TooDeep,
+        ParserError::NoMemory => StreamError::NoMemory,
     }
 }
 
-/// What is reported where no nodes are given.
-fn refused_content(error: FieldsError) -> PayloadFields
-    ensures { result ≡ refused_content error }
+/// What is reported of a content: how many nodes are given, how many the list needs, or its fault.
+fn reported(found: Result<usize, FieldsError>) -> PayloadFields
+    ensures { result ≡ reported found }
 {
-    match error {
-        FieldsError::Payload(error) => counted(content_status(error), 0),
-        FieldsError::TooFew { needed } => counted(BUFFER_TOO_SMALL, needed as u64),
+    match found {
+        Ok(count) => counted(0, count as u64),
+        Err(FieldsError::Payload(error)) => counted(content_error(error).status(), 0),
+        Err(FieldsError::TooFew { needed }) => counted(BUFFER_TOO_SMALL, needed as u64),
     }
 }
 
 /// The entries that fill a table.
-#[tactic(auto, using(crate::proofs::NodesGiven::entries_given, crate::proofs::NodesGiven::entries_refused, crate::proofs::NodesGiven::entries_too_large))]
+#[tactic(auto, using(crate::proofs::NodesGiven::entries_reported, crate::proofs::NodesGiven::entries_too_large))]
 fn open_entries(content: &[u8], nodes: &mut [Node]) -> PayloadFields
     ensures same_length { length nodes.new ≡ length nodes.old }
     ensures opened { OpensEntries content.now nodes.new result }
@@ -190,14 +191,11 @@ fn open_entries(content: &[u8], nodes: &mut [Node]) -> PayloadFields
     if content.len() > u32::MAX as usize {
         return counted(StreamError::TooLarge.status(), 0);
     }
-    match read_entries(content, nodes) {
-        Ok(count) => counted(0, count as u64),
-        Err(error) => refused_content(error),
-    }
+    reported(read_entries(content, nodes))
 }
 
 /// The values that fill an array.
-#[tactic(auto, using(crate::proofs::NodesGiven::values_given, crate::proofs::NodesGiven::values_refused, crate::proofs::NodesGiven::values_too_large))]
+#[tactic(auto, using(crate::proofs::NodesGiven::values_reported, crate::proofs::NodesGiven::values_too_large))]
 fn open_values(content: &[u8], nodes: &mut [Node]) -> PayloadFields
     ensures same_length { length nodes.new ≡ length nodes.old }
     ensures opened { OpensValues content.now nodes.new result }
@@ -205,10 +203,7 @@ fn open_values(content: &[u8], nodes: &mut [Node]) -> PayloadFields
     if content.len() > u32::MAX as usize {
         return counted(StreamError::TooLarge.status(), 0);
     }
-    match read_values(content, nodes) {
-        Ok(count) => counted(0, count as u64),
-        Err(error) => refused_content(error),
-    }
+    reported(read_values(content, nodes))
 }
 
 /// Reads what fills a table (`kind` is `F`) or an array (`A`) that stands alone, without its length, as nodes: its entries or

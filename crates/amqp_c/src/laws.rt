@@ -1,6 +1,7 @@
-//! Laws of feeding bytes in pieces, each the contract of a function that does nothing.
+//! Laws of what C calls, each the contract of a function that does nothing.
 
 ghost use Rattle.amqp_c.specs.Rewriting.{FaultsStay, LittleIsLeft, PiecesAreWhole};
+ghost use Rattle.amqp_c.specs.Rules.{NumbersDecideAlike};
 
 /// Bytes that are fed in pieces, with what was left in front of the next piece, give what one call gives for them all.
 pub fn pieces_are_whole()
@@ -15,4 +16,9 @@ pub fn faults_stay()
 /// Where more bytes are needed, fewer are left than a frame of the largest size has.
 pub fn little_is_left()
     ensures { LittleIsLeft }
+{}
+
+/// Rules by their numbers decide as the rules do.
+pub fn numbers_decide_alike()
+    ensures { NumbersDecideAlike }
 {}

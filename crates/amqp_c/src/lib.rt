@@ -6,14 +6,24 @@ mod canonicalize;
 mod check;
 mod equality;
 mod fields;
+#[cfg(test)]
+mod frame_tests;
 mod frame_types;
+mod frames;
+mod in_place;
 mod laws;
 mod lines;
+mod names;
 mod next;
+mod rules;
 mod scratch;
 mod statuses;
 #[cfg(test)]
 mod tests;
+mod turns;
+mod vectors;
+mod version;
+mod writing;
 
 pub use canonicalize::Progress;
 pub use check::PayloadSummary;
@@ -22,6 +32,11 @@ pub use equality::{
     equal_progress,
 };
 pub use fields::PayloadFields;
-pub use laws::{faults_stay, little_is_left, pieces_are_whole};
+pub use frames::FrameBatch;
+pub use laws::{faults_stay, little_is_left, numbers_decide_alike, pieces_are_whole};
 pub use lines::FrameLine;
+pub use names::NamedMethod;
 pub use next::FrontFrame;
+pub use rules::FrameRule;
+pub use turns::{ChannelState, ChannelStep};
+pub use writing::WriteReport;

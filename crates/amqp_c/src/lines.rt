@@ -19,18 +19,22 @@ use amqp_stream::StreamError;
 use amqp_types::put_bytes;
 use std::alloc::Global;
 
-/// A frame and its line, of which one was read and the other written. Where neither was, all but the status is 0.
+/// A frame and its line, of which one was read and the other written. Where neither was, all but the status is 0. In C it has
+/// 24 bytes and no padding.
 #[repr(C)]
 #[derive(Clone, Copy, Debug, PartialEq, Eq)]
 pub struct FrameLine {
     /// How many bytes the one that was read has.
-    pub used: usize,
+    pub used: u64,
 
     /// How many bytes the other has.
-    pub length: usize,
+    pub length: u64,
 
     /// 0 where it was written, 40 where the buffer is too short for it, or why neither was read.
-    pub status: u8,
+    pub status: u32,
+
+    /// Kept for later; 0.
+    pub unused: u32,
 }
 
 /// Nothing was read, for this reason.
@@ -40,7 +44,8 @@ fn nothing_with(status: u8) -> FrameLine
     FrameLine {
         used: 0,
         length: 0,
-        status,
+        status: status as u32,
+        unused: 0,
     }
 }
 
@@ -48,15 +53,16 @@ fn nothing_with(status: u8) -> FrameLine
 fn write_front(out: &mut [u8], used: usize, text: &[u8]) -> FrameLine
     ensures { Converts text.now used out.old out.new result }
 {
-    let mut status = BUFFER_TOO_SMALL;
+    let mut status = BUFFER_TOO_SMALL as u32;
     if text.len() <= out.len() {
         put_bytes(out, 0, text);
         status = 0;
     }
     FrameLine {
-        used,
-        length: text.len(),
+        used: used as u64,
+        length: text.len() as u64,
         status,
+        unused: 0,
     }
 }
 

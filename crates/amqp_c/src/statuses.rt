@@ -15,6 +15,9 @@ pub const BUFFER_TOO_SMALL: u8 = 40;
 /// An argument is none of those that are allowed.
 pub const BAD_ARGUMENT: u8 = 41;
 
+/// A short string to be written is longer than 255 bytes, which is what its length can say.
+pub const TOO_LONG: u8 = 42;
+
 /// Why a call did not come to the end of its bytes.
 #[derive(Clone, Copy, Debug, PartialEq, Eq)]
 pub enum CallError {
@@ -29,6 +32,9 @@ pub enum CallError {
 
     /// An argument is none of those that are allowed.
     BadArgument,
+
+    /// A short string to be written is longer than 255 bytes.
+    TooLong,
 }
 
 /// The variant's name.
@@ -40,6 +46,7 @@ fn name_of(error: CallError) -> &'static str
         CallError::BadText => "BadText",
         CallError::BufferTooSmall => "BufferTooSmall",
         CallError::BadArgument => "BadArgument",
+        CallError::TooLong => "TooLong",
     }
 }
 
@@ -68,6 +75,7 @@ fn error_with(status: u8) -> Option<CallError>
         BAD_TEXT => return Some(CallError::BadText),
         BUFFER_TOO_SMALL => return Some(CallError::BufferTooSmall),
         BAD_ARGUMENT => return Some(CallError::BadArgument),
+        TOO_LONG => return Some(CallError::TooLong),
         _ => return None,
     };
     Some(CallError::Stream(error))

@@ -4,10 +4,13 @@ use super::*;
 use crate::canonicalize::feksroum_canonicalize;
 use crate::check::feksroum_check;
 use crate::fields::{feksroum_open, feksroum_read};
+use crate::in_place::{feksroum_canonical_run, feksroum_canonicalize_in_place};
 use crate::lines::{feksroum_dump, feksroum_undump};
 use crate::next::feksroum_next;
 use crate::scratch::feksroum_scratch;
 use crate::statuses::feksroum_name;
+use crate::vectors::{feksroum_body_head, feksroum_max_payload};
+use crate::version::feksroum_version;
 use amqp_fields::Node;
 use amqp_wire::EntryMark;
 
@@ -32,69 +35,88 @@ const ONCE: [u8; 24] = [
     1, 0, 1, 0, 0, 0, 16, 0, 50, 0, 10, 0, 0, 0, 31, 0, 0, 0, 4, 1, 97, 116, 1, 206,
 ];
 
-/// Bytes, the limit, and what is in front: used, where and how long the payload is, channel, type, status.
-const FRONTS: [(&[u8], u32, (usize, usize, usize, u16, u8, u8)); 11] = [
-    (&BODY, LIMIT, (9, 7, 1, 1, 3, 0)),
-    (&HEARTBEAT, 0, (8, 7, 0, 0, 8, 0)),
-    (&HEADER, 0, (8, 5, 3, 0, 65, 0)),
-    (&TWICE, 20, (28, 7, 20, 1, 1, 0)),
-    (&TWICE, 19, (0, 0, 0, 0, 0, 12)),
-    (&[], LIMIT, (0, 0, 0, 0, 0, 21)),
-    (&[1, 0, 1, 0, 0, 0], LIMIT, (0, 0, 0, 0, 0, 21)),
-    (&[4], LIMIT, (0, 0, 0, 0, 0, 10)),
-    (&[65, 77, 81, 81], LIMIT, (0, 0, 0, 0, 0, 11)),
-    (&[8, 0, 0, 0, 0, 0, 0, 207], LIMIT, (0, 0, 0, 0, 0, 13)),
-    (&[3, 1, 2, 0, 0, 0, 0, 206, 9], LIMIT, (8, 7, 0, 258, 3, 0)),
+/// Bytes, the limit, and what is in front: used, where and how long the payload is, channel, type, status; and how many bytes
+/// are needed.
+type Front = (&'static [u8], u32, (u64, u32, u64, u16, u8, u8), u64);
+
+const FRONTS: &[Front] = &[
+    (&BODY, LIMIT, (9, 7, 1, 1, 3, 0), 9),
+    (&HEARTBEAT, 0, (8, 7, 0, 0, 8, 0), 8),
+    (&HEADER, 0, (8, 5, 3, 0, 65, 0), 8),
+    (&TWICE, 20, (28, 7, 20, 1, 1, 0), 28),
+    (&TWICE, 19, (0, 0, 0, 0, 0, 12), 0),
+    (&[], LIMIT, (0, 0, 0, 0, 0, 21), 8),
+    (&[1, 0, 1, 0, 0, 0], LIMIT, (0, 0, 0, 0, 0, 21), 8),
+    (&[1, 0, 1, 0, 0, 0, 20], LIMIT, (0, 0, 0, 0, 0, 21), 28),
+    (&[1, 0, 1, 0, 1, 0, 0, 9], LIMIT, (0, 0, 0, 0, 0, 21), 65544),
+    (&[65, 77, 81, 80, 0, 0, 9], 0, (0, 0, 0, 0, 0, 21), 8),
+    (&[4], LIMIT, (0, 0, 0, 0, 0, 10), 0),
+    (&[65, 77, 81, 81], LIMIT, (0, 0, 0, 0, 0, 11), 0),
+    (&[8, 0, 0, 0, 0, 0, 0, 207], LIMIT, (0, 0, 0, 0, 0, 13), 0),
+    (
+        &[3, 1, 2, 0, 0, 0, 0, 206, 9],
+        LIMIT,
+        (8, 7, 0, 258, 3, 0),
+        8,
+    ),
 ];
 
 #[test]
 fn fronts_are_found(rt: HostRuntime) {
-    for row in &FRONTS {
+    for row in FRONTS {
         let front = feksroum_next(row.0, row.1);
         let lies = (front.used, front.payload_start, front.payload_len);
         let is = (front.channel, front.frame_type, front.status);
-        assert!(rt; (lies.0, lies.1, lies.2, is.0, is.1, is.2) == row.2);
+        assert!(rt; (lies.0, lies.1, lies.2, is.0, is.1, is.2) == row.2 && front.needed == row.3);
     }
 }
 
-/// A type, a payload, and what it is: class, method, body size, canonical, tidy, status.
-const PAYLOADS: [(u8, &[u8], (u16, u16, u64, bool, bool, u8)); 14] = [
-    (1, &[0, 85, 0, 10, 1], (85, 10, 0, true, true, 0)),
-    (1, &[0, 85, 0, 10, 255], (85, 10, 0, false, false, 0)),
-    (1, &[0, 85, 0, 10], (0, 0, 0, false, false, 16)),
-    (1, &[0, 85, 0, 10, 0, 0], (0, 0, 0, false, false, 17)),
-    (1, &[0, 86, 0, 10], (0, 0, 0, false, false, 14)),
-    (1, &[0, 85, 0, 12], (0, 0, 0, false, false, 15)),
+/// A type, a payload, and what it is: class, method, body size, canonical, tidy, status; and how many fields it has.
+type Payload = (u8, &'static [u8], (u16, u16, u64, bool, bool, u8), u8);
+
+const PAYLOADS: &[Payload] = &[
+    (1, &[0, 85, 0, 10, 1], (85, 10, 0, true, true, 0), 1),
+    (1, &[0, 85, 0, 10, 255], (85, 10, 0, false, false, 0), 1),
+    (1, &[0, 85, 0, 10], (0, 0, 0, false, false, 16), 0),
+    (1, &[0, 85, 0, 10, 0, 0], (0, 0, 0, false, false, 17), 0),
+    (1, &[0, 86, 0, 10], (0, 0, 0, false, false, 14), 0),
+    (1, &[0, 85, 0, 12], (0, 0, 0, false, false, 15), 0),
+    (1, &PUBLISH, (60, 40, 0, true, true, 0), 4),
     (
         2,
         &[0, 60, 0, 0, 0, 0, 0, 0, 0, 0, 1, 5, 0, 0],
         (60, 0, 261, true, true, 0),
+        0,
     ),
     (
         2,
         &[0, 60, 0, 7, 0, 0, 0, 0, 0, 0, 0, 5, 0, 0],
         (60, 0, 5, false, false, 0),
+        0,
     ),
-    (3, &[1, 2, 3], (0, 0, 0, true, true, 0)),
-    (8, &[], (0, 0, 0, true, true, 0)),
-    (8, &[7], (0, 0, 0, false, false, 0)),
-    (65, &[0, 9, 1], (0, 0, 0, true, true, 0)),
-    (65, &[0, 9], (0, 0, 0, false, false, 16)),
-    (4, &[], (0, 0, 0, false, false, 10)),
+    (2, &HEADERS, (60, 0, 5, true, true, 0), 1),
+    (3, &[1, 2, 3], (0, 0, 0, true, true, 0), 0),
+    (8, &[], (0, 0, 0, true, true, 0), 0),
+    (8, &[7], (0, 0, 0, false, false, 0), 0),
+    (65, &[0, 9, 1], (0, 0, 0, true, true, 0), 3),
+    (65, &[0, 9], (0, 0, 0, false, false, 16), 0),
+    (4, &[], (0, 0, 0, false, false, 10), 0),
 ];
 
 #[test]
 fn payloads_are_checked(rt: HostRuntime) {
-    for row in &PAYLOADS {
+    for row in PAYLOADS {
         let summary = feksroum_check(row.0, row.1);
         let stands = (summary.class_id, summary.method_id, summary.body_size);
         let is = (summary.canonical, summary.tidy, summary.status);
-        assert!(rt; (stands.0, stands.1, stands.2, is.0, is.1, is.2) == row.2);
+        assert!(rt;
+            (stands.0, stands.1, stands.2, is.0, is.1, is.2) == row.2 && summary.fields == row.3
+        );
     }
 }
 
 /// Bytes, the level, how many are used, what is written, and the status.
-type Stream = (&'static [u8], u8, usize, &'static [u8], u8);
+type Stream = (&'static [u8], u8, u64, &'static [u8], u32);
 
 const STREAMS: [Stream; 9] = [
     (&[], 0, 0, &[], 0),
@@ -120,8 +142,9 @@ fn is_canonicalized(stream: &Stream, scratch: &mut [EntryMark]) -> bool {
     let progress = feksroum_canonicalize(stream.0, &mut out, scratch, LIMIT, stream.1);
     progress.used == stream.2
         && progress.status == stream.4
-        && out.get(..progress.written) == Some(stream.3)
-        && out.get(progress.written) == Some(&99)
+        && progress.unused == 0
+        && out.get(..progress.written as usize) == Some(stream.3)
+        && out.get(progress.written as usize) == Some(&99)
 }
 
 #[test]
@@ -135,7 +158,7 @@ fn streams_are_canonicalized(rt: HostRuntime) {
 }
 
 /// Bytes, the line of the frame in front, how many bytes the frame has, its canonical bytes, and the status.
-const LINES: [(&[u8], &[u8], usize, &[u8], u8); 6] = [
+const LINES: [(&[u8], &[u8], u64, &[u8], u32); 6] = [
     (&BODY, b"body 1 x68\n", 9, &BODY, 0),
     (&LOUD, b"beat\n", 9, &HEARTBEAT, 0),
     (&HEADER, b"proto 0.9.1\n", 8, &HEADER, 0),
@@ -155,16 +178,22 @@ fn frames_and_lines_are_converted(rt: HostRuntime) {
     for row in &LINES {
         let mut out = [99; 40];
         let found = feksroum_dump(rt.alloc(), row.0, &mut out, LIMIT);
-        assert!(rt; found.used == row.2 && found.length == row.1.len() && found.status == row.4);
-        assert!(rt; out.get(..found.length) == Some(row.1));
-        assert!(rt; out.get(found.length) == Some(&99));
+        assert!(rt;
+            found.used == row.2 && found.length == row.1.len() as u64 && found.status == row.4
+        );
+        assert!(rt; out.get(..found.length as usize) == Some(row.1));
+        assert!(rt; out.get(found.length as usize) == Some(&99));
     }
     for row in &LINES[..4] {
         let mut out = [99; 40];
         let found = feksroum_undump(rt.alloc(), row.1, &mut out, LIMIT);
-        assert!(rt; found.used == row.1.len() && found.length == row.3.len() && found.status == 0);
-        assert!(rt; out.get(..found.length) == Some(row.3));
-        assert!(rt; out.get(found.length) == Some(&99));
+        assert!(rt;
+            found.used == row.1.len() as u64
+                && found.length == row.3.len() as u64
+                && found.status == 0
+        );
+        assert!(rt; out.get(..found.length as usize) == Some(row.3));
+        assert!(rt; out.get(found.length as usize) == Some(&99));
     }
 }
 
@@ -175,6 +204,7 @@ fn statuses_have_names(rt: HostRuntime) {
     assert!(rt; feksroum_name(11, &mut out) == 17 && out == *b"BadProtocolHeader");
     assert!(rt; feksroum_name(40, &mut out[..13]) == 14 && out == *b"BadProtocolHeader");
     assert!(rt; feksroum_name(41, &mut out) == 11 && out.get(..11) == Some(b"BadArgument"));
+    assert!(rt; feksroum_name(42, &mut out) == 7 && out.get(..7) == Some(b"TooLong"));
     assert!(rt; feksroum_name(26, &mut out) == 7 && out.get(..7) == Some(b"BadText"));
     assert!(rt; feksroum_name(0, &mut out) == 0 && feksroum_name(255, &mut out) == 0);
 }
@@ -306,4 +336,77 @@ fn contents_are_opened(rt: HostRuntime) {
     }
     assert!(rt; is_opened((70, &[1, 97, 116, 1], 1, (1, 0)), Some(is_true(1, 1))));
     assert!(rt; is_opened((65, &[116, 1, 86], 2, (2, 0)), Some(is_true(0, 0))));
+}
+
+#[test]
+fn bodies_have_heads(rt: HostRuntime) {
+    assert!(rt; feksroum_version() == 256);
+    assert!(rt; feksroum_max_payload(131_072) == 131_064 && feksroum_max_payload(8) == 0);
+    assert!(rt; feksroum_max_payload(7) == 0 && feksroum_max_payload(0) == u32::MAX);
+    let mut out = [99; 8];
+    assert!(rt; feksroum_body_head(258, 65_539, &mut out[..6]) == 7 && out == [99; 8]);
+    assert!(rt; feksroum_body_head(258, 65_539, &mut out) == 7 && out == [3, 1, 2, 0, 1, 0, 3, 99]);
+}
+
+/// Bytes, and how many in front are canonical frames.
+const RUNS: &[(&[u8], usize)] = &[
+    (&[], 0),
+    (&HEADER, 8),
+    (
+        &[8, 0, 0, 0, 0, 0, 0, 206, 3, 0, 1, 0, 0, 0, 1, 104, 206, 1],
+        17,
+    ),
+    (&[8, 0, 0, 0, 0, 0, 0, 206, 8, 0, 0, 0, 0, 0, 1, 7, 206], 8),
+    (&TWICE, 0),
+    (&ONCE, 24),
+    (&[8, 0, 0, 0, 0, 0, 0, 206, 9], 8),
+];
+
+#[test]
+fn runs_are_found(rt: HostRuntime) {
+    for row in RUNS {
+        assert!(rt; feksroum_canonical_run(row.0, LIMIT) == row.1);
+    }
+    assert!(rt; feksroum_canonical_run(&BODY, 0) == 0 && feksroum_canonical_run(&BODY, 1) == 9);
+}
+
+/// A body, a queue that is declared with a key twice, and a heartbeat that carries a byte; and their canonical bytes.
+const MIXED: [u8; 46] = [
+    3, 0, 1, 0, 0, 0, 1, 104, 206, 1, 0, 1, 0, 0, 0, 20, 0, 50, 0, 10, 0, 0, 0, 31, 0, 0, 0, 8, 1,
+    97, 116, 0, 1, 97, 116, 7, 206, 8, 0, 0, 0, 0, 0, 1, 7, 206,
+];
+
+const SETTLED: [u8; 41] = [
+    3, 0, 1, 0, 0, 0, 1, 104, 206, 1, 0, 1, 0, 0, 0, 16, 0, 50, 0, 10, 0, 0, 0, 31, 0, 0, 0, 4, 1,
+    97, 116, 1, 206, 8, 0, 0, 0, 0, 0, 0, 206,
+];
+
+/// The level, the length of the spare buffer; how many bytes are used, how many written, the status.
+const PLACES: &[(u8, usize, (u64, u64, u32))] = &[
+    (0, 28, (46, 41, 0)),
+    (0, 27, (9, 9, 40)),
+    (0, 0, (9, 9, 40)),
+    (1, 28, (37, 33, 23)),
+    (2, 28, (0, 0, 41)),
+];
+
+#[test]
+fn frames_are_canonicalized_in_place(rt: HostRuntime) {
+    let mut scratch = [EntryMark::default(); 257];
+    for row in PLACES {
+        let mut buf = MIXED;
+        let mut spare = [99; 28];
+        let came = feksroum_canonicalize_in_place(
+            &mut buf,
+            &mut spare[..row.1],
+            &mut scratch,
+            LIMIT,
+            row.0,
+        );
+        assert!(rt; (came.used, came.written, came.status) == row.2 && came.unused == 0);
+        let written = came.written as usize;
+        assert!(rt; buf.get(..written) == SETTLED.get(..written));
+        assert!(rt; buf.get(written..) == MIXED.get(written..));
+    }
+    assert!(rt; feksroum_canonicalize_in_place(&mut [], &mut [], &mut [], LIMIT, 0).status == 0);
 }

@@ -1,4 +1,4 @@
 -- The lemmas of amqp_channel.
-pub mod ChannelEquality
-pub mod TxEquality
-pub mod ConfirmEquality
+pub mod EqualChannel
+pub mod EqualTx
+pub mod EqualConfirm

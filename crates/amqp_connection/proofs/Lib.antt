@@ -1,3 +1,3 @@
 -- The lemmas of amqp_connection.
-pub mod ConnectionEquality
-pub mod AccessEquality
+pub mod EqualConnection
+pub mod EqualAccess

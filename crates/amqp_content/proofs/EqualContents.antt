@@ -4,8 +4,8 @@ use Rattle.std.specs.Bool.{Decides}
 use Rattle.std.specs.Cmp.{unsigned_Decides}
 use Rattle.std.specs.Cmp.Lexicographic.{bytes_decides}
 use Rattle.amqp_laws.proofs.Deciding.{both}
-use Rattle.amqp_basic.proofs.Equality.{same_publish, same_return, same_deliver, same_get_ok}
-use Rattle.amqp_properties.proofs.Equality.{all_equal-decides}
+use Rattle.amqp_basic.proofs.EqualMethods.{same_publish, same_return, same_deliver, same_get_ok}
+use Rattle.amqp_properties.proofs.EqualProperties.{same_properties}
 use Rattle.amqp_frame.proofs.EqualFrames.{same_frame}
 use Rattle.amqp_turns.specs.declared.fault.ContentFault.{ContentFault}
 use Rattle.amqp_turns.specs.contracts.fault.ContentFaultPartialEq.TheImpl as fault
@@ -42,7 +42,7 @@ abbrev SameParts : Parts → Parts → Type 0
 SameParts a b = (a.channel ≡ b.channel) × ((a.opening ≡ b.opening) × ((a.properties ≡ b.properties) × (a.body ≡ b.body)))
 
 parts_decided : (a b : Parts) → Decides (message.ghosts.eq a b) (SameParts a b)
-parts_decided a b = both _ _ (unsigned_Decides a.channel b.channel) (both _ _ (same_opening a.opening b.opening) (both _ _ (all_equal-decides a.properties b.properties) (bytes_decides a.body b.body)))
+parts_decided a b = both _ _ (unsigned_Decides a.channel b.channel) (both _ _ (same_opening a.opening b.opening) (both _ _ (same_properties a.properties b.properties) (bytes_decides a.body b.body)))
 
 message_of_parts : (a b : Parts) → SameParts a b → a ≡ b
 message_of_parts a b e = λ i. record { channel = e.0 i; opening = e.1.0 i; properties = e.1.1.0 i; body = e.1.1.1 i }

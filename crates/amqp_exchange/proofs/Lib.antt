@@ -1,2 +1,2 @@
 -- The lemmas of amqp_exchange.
-pub mod Equality
+pub mod EqualMethods

@@ -8,10 +8,12 @@ ghost use Rattle.std.specs.Prelude.{◌≡◌, IfOk};
 ghost use Rattle.amqp_types.specs.Calls.{Parses, Measures, HasRoom};
 ghost use Rattle.amqp_types.specs.Writing.{Puts, Appends};
 ghost use Rattle.amqp_types.specs.Methods.{judge_method, judge_in_class, payload_bytes, payload_size};
+ghost use Rattle.amqp_laws.specs.HeldMethods.{IsHeldMethod};
 ghost use Rattle.amqp_exchange.specs.Exchange.{method_of};
 
 use amqp_values::{
-    GenError, Identifier, NoMemory, ParserError, gen_fields, parse_id, put_fields, size_fields,
+    GenError, Identifier, NoMemory, ParserError, fields_held, gen_fields, in_variant, parse_id,
+    put_fields, size_fields,
 };
 pub use binding::{
     Bind, BindOk, Unbind, UnbindOk, gen_bind, gen_bind_ok, gen_unbind, gen_unbind_ok, parse_bind,
@@ -100,38 +102,14 @@ fn parse_method(alloc: Global, id: Identifier, i: &[u8]) -> Result<(usize, AMQPM
     ensures { Parses method_of result i.now (judge_method 40 id) }
 {
     match id {
-        10 => {
-            let (used, method) = parse_declare(alloc, i)?;
-            Ok((used, AMQPMethod::Declare(method)))
-        }
-        11 => {
-            let (used, method) = parse_declare_ok(alloc, i)?;
-            Ok((used, AMQPMethod::DeclareOk(method)))
-        }
-        20 => {
-            let (used, method) = parse_delete(alloc, i)?;
-            Ok((used, AMQPMethod::Delete(method)))
-        }
-        21 => {
-            let (used, method) = parse_delete_ok(alloc, i)?;
-            Ok((used, AMQPMethod::DeleteOk(method)))
-        }
-        30 => {
-            let (used, method) = parse_bind(alloc, i)?;
-            Ok((used, AMQPMethod::Bind(method)))
-        }
-        31 => {
-            let (used, method) = parse_bind_ok(alloc, i)?;
-            Ok((used, AMQPMethod::BindOk(method)))
-        }
-        40 => {
-            let (used, method) = parse_unbind(alloc, i)?;
-            Ok((used, AMQPMethod::Unbind(method)))
-        }
-        51 => {
-            let (used, method) = parse_unbind_ok(alloc, i)?;
-            Ok((used, AMQPMethod::UnbindOk(method)))
-        }
+        10 => in_variant!(parse_declare(alloc, i), AMQPMethod::Declare),
+        11 => in_variant!(parse_declare_ok(alloc, i), AMQPMethod::DeclareOk),
+        20 => in_variant!(parse_delete(alloc, i), AMQPMethod::Delete),
+        21 => in_variant!(parse_delete_ok(alloc, i), AMQPMethod::DeleteOk),
+        30 => in_variant!(parse_bind(alloc, i), AMQPMethod::Bind),
+        31 => in_variant!(parse_bind_ok(alloc, i), AMQPMethod::BindOk),
+        40 => in_variant!(parse_unbind(alloc, i), AMQPMethod::Unbind),
+        51 => in_variant!(parse_unbind_ok(alloc, i), AMQPMethod::UnbindOk),
         _ => Err(ParserError::UnknownMethod),
     }
 }
@@ -182,4 +160,11 @@ pub fn gen_exchange(_alloc: Global, out: &mut Vec<u8>, method: &AMQPMethod) -> R
     ensures { Appends out.old.items out.new.items (payload_size (method_of method.now)) (payload_bytes (method_of method.now)) result }
 {
     with_fields!(method, gen_fields(out))
+}
+
+/// A method of the class is held, whatever a program does: the premise of the laws that read canonical bytes back.
+pub fn exchange_method_held(method: &AMQPMethod)
+    ensures { IsHeldMethod (method_of method.now) }
+{
+    with_fields!(method, fields_held())
 }

@@ -2,8 +2,8 @@
 //! takes long to prove; users reach them by `amqp_topology`.
 #![tactic(auto)]
 
+pub mod equality;
 pub mod exchange;
-mod laws;
-pub mod method_equality;
 
-pub use laws::{equal_exchange_methods, exchange_method_held};
+pub use equality::equal_exchange_methods;
+pub use exchange::exchange_method_held;

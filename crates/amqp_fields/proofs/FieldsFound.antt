@@ -15,8 +15,9 @@ use Rattle.amqp_types.specs.SlotJudging.{judge_dropped, judge_form, judge_slots}
 use Rattle.amqp_types.specs.Constants.{inner_depth}
 use Rattle.amqp_fields.specs.declared.node.Node.{Node}
 use Rattle.amqp_fields.specs.Nodes.{numbered, spanned}
+use Rattle.amqp_fields.specs.Counting.{total}
 use Rattle.amqp_fields.specs.Kinds.{kind_of}
-use Rattle.amqp_fields.specs.Listed.{end_before, field_count, kept_count, listed_bits, listed_entry, listed_form, listed_number, listed_slot, listed_slots, listed_span, listed_table, listed_value, next_place, placed}
+use Rattle.amqp_fields.specs.Listed.{end_before, field_count, listed_bits, listed_entry, listed_form, listed_number, listed_slot, listed_slots, listed_span, listed_table, listed_value, next_place, placed}
 use Rattle.amqp_fields.specs.Meaning.{AreNodes, IsText, MeansEntry, MeansField, MeansItem, MeansValue, field, fields_from, kinds_in, kinds_of}
 use Rattle.amqp_fields.proofs.Spans.{IsPart, Stands, byte_below, long_part, number_took, part_stands, short_part, span_of, stands_drop}
 use Rattle.amqp_fields.proofs.ValuesFound.{IsBounded, IsListed, all_took, entry_found, items_held, map_read, map_took, number_bounded, value_found}
@@ -108,15 +109,15 @@ bits_length : (place : ℕ) (flags : List Bool) → length (listed_bits place fl
 bits_length place [] = refl
 bits_length place (flag ∷ flags) = ap suc (bits_length (next_place place 1) flags)
 
-flags_length : (count k byte : ℕ) → length (flags_from count k byte) ≡ count
+pub flags_length : (count k byte : ℕ) → length (flags_from count k byte) ≡ count
 flags_length zero k byte = refl
 flags_length (suc count) k byte = ap suc (flags_length count (k + 1) byte)
 
-replicate_length : (count kind : ℕ) → length (replicate count kind) ≡ count
+pub replicate_length : (count kind : ℕ) → length (replicate count kind) ≡ count
 replicate_length zero kind = refl
 replicate_length (suc count) kind = ap suc (replicate_length count kind)
 
-map_length : {A B : Type 0} (f : A → B) (xs : List A) → length (map f xs) ≡ length xs
+pub map_length : {A B : Type 0} (f : A → B) (xs : List A) → length (map f xs) ≡ length xs
 map_length f [] = refl
 map_length f (x ∷ xs) = ap suc (map_length f xs)
 
@@ -271,11 +272,7 @@ form_bounded table_form bytes items n h =
     let all = all_took two.1 n (read_map settled (filled (judge_entry (judge_value inner_depth)) 0 two.0)) one.0 two.3 in
     omega (arith, (long_part bytes two.0 two.1 two.2).within, all.1)
 
--- how many fields are not reserved, and how many more they are than bytes
-abbrev pub total : List Slot → ℕ
-total [] = 0
-total (slot ∷ slots) = kept_count slot + total slots
-
+-- how many fields that are not reserved are more than bytes
 abbrev pub slot_excess : Slot → ℕ
 slot_excess (kept_slot form) = excess form
 slot_excess (reserved_slot form constant) = 0

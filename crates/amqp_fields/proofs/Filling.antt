@@ -3,7 +3,6 @@ use Rattle.std.proofs.Common.{◌≡◌, ℕ, ◌+◌, ◌<◌, ◌≤◌, List,
 use Rattle.std.proofs.lemmas.List.{nil_from_length}
 use Rattle.amqp_types.specs.Judging.{Fault, Judge, Judged, took, ◌>>=◌}
 use Rattle.amqp_types.specs.Answers.{Refuses, RefusesWhole}
-use Rattle.amqp_types.specs.Constants.{inner_depth}
 use Rattle.amqp_types.specs.Strings.{judge_short_string}
 use Rattle.amqp_types.specs.Values.{FieldValue, Entry}
 use Rattle.amqp_types.specs.ValueJudging.{filled, inside_error, judge_entry, judge_value, read_map}
@@ -58,18 +57,18 @@ refuses_next errors.UnknownTag j f may h = ap (λ k. k >>= f) h
 refuses_next errors.TooDeep j f may h = ap (λ k. k >>= f) h
 refuses_next errors.NoMemory j f may h = tt
 
-pub entry_used : (i key rest : List ℕ) (v : FieldValue) (n m : ℕ) → judge_short_string i ≡ took key n → rest ≡ drop n i → judge_value inner_depth rest ≡ took v m → UsesOrFails (Ok (n + m)) (judge_entry (judge_value inner_depth) i)
+pub entry_used : (d : ℕ) (i key rest : List ℕ) (v : FieldValue) (n m : ℕ) → judge_short_string i ≡ took key n → rest ≡ drop n i → judge_value d rest ≡ took v m → UsesOrFails (Ok (n + m)) (judge_entry (judge_value d) i)
 unfolding judge_entry
-entry_used i key rest v n m one e two =
-    ((key, v), ap (λ j. j >>= λ k. judge_value inner_depth (drop k.1 i) >>= λ y. took (k.0, y.0) (k.1 + y.1)) one ∙ ap (λ j. j >>= λ y. took (key, y.0) (n + y.1)) (ap (judge_value inner_depth) (sym e) ∙ two))
+entry_used d i key rest v n m one e two =
+    ((key, v), ap (λ j. j >>= λ k. judge_value d (drop k.1 i) >>= λ y. took (k.0, y.0) (k.1 + y.1)) one ∙ ap (λ j. j >>= λ y. took (key, y.0) (n + y.1)) (ap (judge_value d) (sym e) ∙ two))
 
-pub key_refused : (i : List ℕ) (e : ParserError) → MayRefuse e → Refuses e (judge_short_string i) → UsesOrFails (Err e) (judge_entry (judge_value inner_depth) i)
+pub key_refused : (d : ℕ) (i : List ℕ) (e : ParserError) → MayRefuse e → Refuses e (judge_short_string i) → UsesOrFails (Err e) (judge_entry (judge_value d) i)
 unfolding judge_entry
-key_refused i e may h = (may, refuses_next e (judge_short_string i) _ may h)
+key_refused d i e may h = (may, refuses_next e (judge_short_string i) _ may h)
 
-pub value_refused : (i key rest : List ℕ) (e : ParserError) (n : ℕ) → judge_short_string i ≡ took key n → rest ≡ drop n i → MayRefuse e × Refuses e (judge_value inner_depth rest) → UsesOrFails (Err e) (judge_entry (judge_value inner_depth) i)
+pub value_refused : (d : ℕ) (i key rest : List ℕ) (e : ParserError) (n : ℕ) → judge_short_string i ≡ took key n → rest ≡ drop n i → MayRefuse e × Refuses e (judge_value d rest) → UsesOrFails (Err e) (judge_entry (judge_value d) i)
 unfolding judge_entry
-value_refused i key rest e n one is h =
-    let P : Judged (List ℕ) → Type 0 = λ j. Refuses {B = Entry} e (j >>= λ k. judge_value inner_depth (drop k.1 i) >>= λ y. took (k.0, y.0) (k.1 + y.1)) in
-    let Q : List ℕ → Type 0 = λ bs. Refuses e (judge_value inner_depth bs) in
-    (h.0, subst P (sym one) (refuses_next e (judge_value inner_depth (drop n i)) (λ y. took (key, y.0) (n + y.1)) h.0 (subst Q is h.1)))
+value_refused d i key rest e n one is h =
+    let P : Judged (List ℕ) → Type 0 = λ j. Refuses {B = Entry} e (j >>= λ k. judge_value d (drop k.1 i) >>= λ y. took (k.0, y.0) (k.1 + y.1)) in
+    let Q : List ℕ → Type 0 = λ bs. Refuses e (judge_value d bs) in
+    (h.0, subst P (sym one) (refuses_next e (judge_value d (drop n i)) (λ y. took (key, y.0) (n + y.1)) h.0 (subst Q is h.1)))

@@ -6,7 +6,7 @@ use Rattle.std.specs.List.{list_all}
 use Rattle.std.proofs.lemmas.Bool.Decides.{nat_tests}
 use Rattle.std.proofs.lemmas.List.{length-append, length-drop}
 use Rattle.amqp_types.proofs.Took.{bind_took, value_took, count_took}
-use Rattle.amqp_types.specs.Judging.{Judged, Fault, took, unknown_class, unknown_method, ◌>>=◌, IsBytes}
+use Rattle.amqp_types.specs.Judging.{Judged, Fault, took, unknown_class, unknown_method, ◌>>=◌}
 use Rattle.amqp_types.specs.Numbers.{bytes2, bytes8, judge_number}
 use Rattle.amqp_types.specs.Flags.{flag_at}
 use Rattle.amqp_types.specs.Slots.{Item, number_item, Form, number_form, flags_form, short_string_form, long_string_form, table_form, Slot, kept_slot, reserved_slot}
@@ -18,25 +18,26 @@ use Rattle.amqp_types.specs.Methods.{Method, method, known, judge_in_class, judg
 use Rattle.amqp_types.specs.ContentHeaders.{ContentHeader, header_of_parts, header_slots, judge_content_header}
 use Rattle.amqp_laws.proofs.SlotLaws.{both_true}
 use Rattle.amqp_fields.specs.declared.node.Node.{Node}
+use Rattle.amqp_fields.specs.Counting.{total}
 use Rattle.amqp_fields.specs.Kinds.{kind_of}
 use Rattle.amqp_fields.specs.Listed.{field_count, listed_header, listed_known, listed_method, listed_option, listed_properties, listed_set, next_place}
 use Rattle.amqp_fields.specs.Meaning.{AreNodes, Field, MeansField, fields_from, kinds_in, kinds_of, set_field, set_fields}
-use Rattle.amqp_fields.proofs.Spans.{Stands, byte_below, itself, number_took, stands_drop}
-use Rattle.amqp_fields.proofs.FieldsFound.{excess, form_found, nodes_append, slots_found, spare, total}
+use Rattle.amqp_fields.proofs.Spans.{Stands, byte_below, number_took, stands_drop}
+use Rattle.amqp_fields.proofs.FieldsFound.{excess, form_found, nodes_append, slots_found, spare}
 
 -- ---- properties
 
 -- it gives one item
-abbrev gives_one : Form → Bool
+abbrev pub gives_one : Form → Bool
 gives_one (flags_form count) = false
 gives_one form = true
 
-record IsSingle (form : Form) : Type 0 where
-  count : field_count form ≡ 1
-  kinds : kinds_of form ≡ kind_of form ∷ []
-  no_excess : excess form ≡ 0
+pub record IsSingle (form : Form) : Type 0 where
+  pub count : field_count form ≡ 1
+  pub kinds : kinds_of form ≡ kind_of form ∷ []
+  pub no_excess : excess form ≡ 0
 
-single_form : (form : Form) → gives_one form ≡ true → IsSingle form
+pub single_form : (form : Form) → gives_one form ≡ true → IsSingle form
 single_form (number_form width) h = record { count = refl; kinds = refl; no_excess = refl }
 single_form (flags_form count) h = absurd cc
 single_form short_string_form h = record { count = refl; kinds = refl; no_excess = refl }
@@ -51,7 +52,7 @@ record IsSet (deep : Bool) (payload : List ℕ) (fields : List Field) (listed : 
   few : length nodes ≤ used
   bound : used ≤ size
 
-one_item : (items : List Item) → length items ≡ 1 → (item : Item) × (items ≡ item ∷ [])
+pub one_item : (items : List Item) → length items ≡ 1 → (item : Item) × (items ≡ item ∷ [])
 one_item [] h = absurd (omega (arith, h))
 one_item (item ∷ []) h = (item, refl)
 one_item (item ∷ other ∷ items) h = absurd (omega (arith, h))
@@ -103,11 +104,11 @@ set_found deep mask payload end (p ∷ ps) bytes place n options few room single
       bound = omega (arith, first.bound, rest.bound, length-drop one.1 bytes, used);
     }
 
-all_single : list_all (λ p. gives_one p.form) properties ≡ true
+pub all_single : list_all (λ p. gives_one p.form) properties ≡ true
 unfolding properties later_properties
 all_single = refl
 
-fourteen : length properties ≡ 14
+pub fourteen : length properties ≡ 14
 unfolding properties later_properties
 fourteen = refl
 
@@ -131,7 +132,7 @@ properties_found deep payload end bytes n options few stands h =
 
 -- ---- content headers
 
-front_used : (bytes : List ℕ) (items : List Item) (n : ℕ) → judge_slots header_slots bytes ≡ took items n → (n ≡ 12) × (n ≤ length bytes) × ((set : List (Option Item)) → (header_of_parts items set).options ≡ set)
+pub front_used : (bytes : List ℕ) (items : List Item) (n : ℕ) → judge_slots header_slots bytes ≡ took items n → (n ≡ 12) × (n ≤ length bytes) × ((set : List (Option Item)) → (header_of_parts items set).options ≡ set)
 unfolding header_slots judge_slots judge_dropped judge_form
 front_used bytes items n h =
     let class = bind_took (judge_form (number_form bytes2) bytes) _ items n h in
@@ -170,20 +171,20 @@ front_used bytes items n h =
       λ set. subst (λ xs. (header_of_parts xs set).options ≡ set) two refl,
     )
 
-pub header_found : (deep : Bool) (payload : List ℕ) (n : ℕ) (header : ContentHeader) → length payload < 2 ^ 32 → IsBytes payload → judge_content_header payload ≡ took header n
-    → (nodes : List Node) × (k : ℕ) × (listed_header deep payload ≡ took nodes k) × AreNodes (MeansField deep payload) (set_fields 0 properties header.options) nodes × (length nodes ≤ length payload)
+pub header_found : (deep : Bool) (bytes : List ℕ) (end : ℕ) (payload : List ℕ) (n : ℕ) (header : ContentHeader) → length bytes < 2 ^ 32 → Stands bytes end payload → judge_content_header payload ≡ took header n
+    → (nodes : List Node) × (k : ℕ) × (listed_header deep end payload ≡ took nodes k) × AreNodes (MeansField deep bytes) (set_fields 0 properties header.options) nodes × (length nodes ≤ length payload)
 unfolding judge_content_header listed_header
-header_found deep payload n header few fits h =
+header_found deep bytes end payload n header few stands h =
     let front = bind_took (judge_slots header_slots payload) _ header n h in
     let parts = front_used payload front.0 front.1 front.2 in
     let set = bind_took (judge_properties (drop front.1 payload)) _ header n front.3 in
     let is : header_of_parts front.0 set.0 ≡ header = value_took (header_of_parts front.0 set.0) header (front.1 + set.1) n set.3 in
-    let found = properties_found deep payload (length payload) (drop front.1 payload) set.1 set.0 few (stands_drop payload payload (length payload) front.1 (itself payload fits) parts.1) set.2 in
+    let found = properties_found deep bytes end (drop front.1 payload) set.1 set.0 few (stands_drop bytes payload end front.1 stands parts.1) set.2 in
     let options : set.0 ≡ header.options = sym (parts.2 set.0) ∙ ap (λ (x : ContentHeader). x.options) is in (
       found.nodes,
       set.1,
-      ap (λ k. listed_properties deep (length payload) (drop k payload)) (sym parts.0) ∙ found.is,
-      subst (λ os. AreNodes (MeansField deep payload) (set_fields 0 properties os) found.nodes) options found.means,
+      ap (λ k. listed_properties deep end (drop k payload)) (sym parts.0) ∙ found.is,
+      subst (λ os. AreNodes (MeansField deep bytes) (set_fields 0 properties os) found.nodes) options found.means,
       omega (arith, found.few, found.bound, length-drop front.1 payload),
     )
 
@@ -214,21 +215,27 @@ small_method : (rows : Option (List Row)) (id : ℕ) (slots : List Slot) → ((s
 small_method None id slots all h = absurd cc
 small_method (Some rows) id slots all h = looked_up is_small id rows slots (all rows refl) h
 
-slots_small : (class id : ℕ) (slots : List Slot) → slots_at class id ≡ Some slots → is_small slots ≡ true
+pub slots_small : (class id : ℕ) (slots : List Slot) → slots_at class id ≡ Some slots → is_small slots ≡ true
 unfolding slots_at rows_of
 slots_small class id slots h = small_method (lookup (λ k. class == k) classes) id slots (λ rows is. looked_up are_small class classes rows table_small is) h
 
-known_took : {A : Type 0} (unknown : Fault) (o : Option A) (x : A) (n : ℕ) → known unknown o ≡ took x n → (o ≡ Some x) × (n ≡ 0)
+pub known_took : {A : Type 0} (unknown : Fault) (o : Option A) (x : A) (n : ℕ) → known unknown o ≡ took x n → (o ≡ Some x) × (n ≡ 0)
 known_took unknown None x n h = absurd cc
 known_took unknown (Some y) x n h = (ap Some (value_took y x 0 n h), sym (count_took y x 0 n h))
 
-small_is : (slots : List Slot) → is_small slots ≡ true → (total slots ≤ 255) × (spare slots ≤ 4)
+pub small_is : (slots : List Slot) → is_small slots ≡ true → (total slots ≤ 255) × (spare slots ≤ 4)
 small_is slots h = let both = both_true (nat_le (total slots) 255) (nat_le (spare slots) 4) h in (let e = both.0 in grind (arith, nat_tests), let e = both.1 in grind (arith, nat_tests))
 
-pub method_found : (deep : Bool) (payload : List ℕ) (n : ℕ) (m : Method) → length payload < 2 ^ 32 → IsBytes payload → judge_payload payload ≡ took m n
-    → (nodes : List Node) × (k : ℕ) × (listed_method deep payload ≡ took nodes k) × AreNodes (MeansField deep payload) (fields_from 0 (kinds_in (unwrap_or (slots_at m.class m.id) [])) m.items) nodes × (length nodes ≤ length payload)
+pub few_fields : (class id : ℕ) (slots : List Slot) → slots_at class id ≡ Some slots → total slots ≤ 255
+few_fields class id slots h = (small_is slots (slots_small class id slots h)).0
+
+pub few_spare : (class id : ℕ) (slots : List Slot) → slots_at class id ≡ Some slots → spare slots ≤ 4
+few_spare class id slots h = (small_is slots (slots_small class id slots h)).1
+
+pub method_found : (deep : Bool) (bytes : List ℕ) (end : ℕ) (payload : List ℕ) (n : ℕ) (m : Method) → length bytes < 2 ^ 32 → Stands bytes end payload → judge_payload payload ≡ took m n
+    → (nodes : List Node) × (k : ℕ) × (listed_method deep end payload ≡ took nodes k) × AreNodes (MeansField deep bytes) (fields_from 0 (kinds_in (unwrap_or (slots_at m.class m.id) [])) m.items) nodes × (length nodes ≤ length payload)
 unfolding judge_payload judge_in_class judge_method listed_method
-method_found deep payload n m few fits h =
+method_found deep bytes end payload n m few all h =
     let class = bind_took (judge_number bytes2 payload) _ m n h in
     let behind = drop class.1 payload in
     let inner = bind_took (judge_in_class class.0 behind) _ m n class.3 in
@@ -242,16 +249,16 @@ method_found deep payload n m few fits h =
     let small = small_is slots.0 (slots_small class.0 id.0 slots.0 at) in
     let class_size = number_took bytes2 payload class.0 class.1 class.2 in
     let id_size = number_took bytes2 behind id.0 id.1 id.2 in
-    let stands = stands_drop payload behind (length payload) id.1 (stands_drop payload payload (length payload) class.1 (itself payload fits) class_size.1) id_size.1 in
-    let found = slots_found deep payload (length payload) slots.0 fields 0 items.1 items.0 few (omega (arith, small.0)) stands items.2 in
+    let stands = stands_drop bytes behind end id.1 (stands_drop bytes payload end class.1 all class_size.1) id_size.1 in
+    let found = slots_found deep bytes end slots.0 fields 0 items.1 items.0 few (omega (arith, small.0)) stands items.2 in
     let is : method class.0 id.0 items.0 ≡ m =
     value_took (method class.0 id.0 items.0) of_class.0 items.1 of_class.1 items.3 ∙ value_took of_class.0 inner.0 (id.1 + of_class.1) inner.1 of_class.3 ∙ value_took inner.0 m (class.1 + inner.1) n inner.3 in
     let kinds : kinds_in slots.0 ≡ kinds_in (unwrap_or (slots_at class.0 id.0) []) = ap (λ o. kinds_in (unwrap_or o [])) (sym at) in
-    let means : AreNodes (MeansField deep payload) (fields_from 0 (kinds_in (unwrap_or (slots_at class.0 id.0) [])) items.0) found.nodes = subst (λ ks. AreNodes (MeansField deep payload) (fields_from 0 ks items.0) found.nodes) kinds found.means in (
+    let means : AreNodes (MeansField deep bytes) (fields_from 0 (kinds_in (unwrap_or (slots_at class.0 id.0) [])) items.0) found.nodes = subst (λ ks. AreNodes (MeansField deep bytes) (fields_from 0 ks items.0) found.nodes) kinds found.means in (
       found.nodes,
       items.1,
-      ap (λ j. j >>= λ c. judge_number bytes2 (drop c.1 payload) >>= λ i. listed_known deep (length payload) (slots_at c.0 i.0) (drop i.1 (drop c.1 payload))) class.2
-          ∙ ap (λ j. j >>= λ i. listed_known deep (length payload) (slots_at class.0 i.0) (drop i.1 behind)) id.2 ∙ ap (λ o. listed_known deep (length payload) o fields) at ∙ found.is,
-      subst (λ (x : Method). AreNodes (MeansField deep payload) (fields_from 0 (kinds_in (unwrap_or (slots_at x.class x.id) [])) x.items) found.nodes) is means,
+      ap (λ j. j >>= λ c. judge_number bytes2 (drop c.1 payload) >>= λ i. listed_known deep end (slots_at c.0 i.0) (drop i.1 (drop c.1 payload))) class.2
+          ∙ ap (λ j. j >>= λ i. listed_known deep end (slots_at class.0 i.0) (drop i.1 behind)) id.2 ∙ ap (λ o. listed_known deep end o fields) at ∙ found.is,
+      subst (λ (x : Method). AreNodes (MeansField deep bytes) (fields_from 0 (kinds_in (unwrap_or (slots_at x.class x.id) [])) x.items) found.nodes) is means,
       omega (arith, found.few, found.bound, small.1, class_size.0, class_size.1, id_size.0, id_size.1, length-drop class.1 payload, length-drop id.1 behind),
     )

@@ -23,6 +23,10 @@ pub record Stands (payload : List ℕ) (end : ℕ) (bytes : List ℕ) : Type 0 w
 pub itself : (payload : List ℕ) → IsBytes payload → Stands payload (length payload) payload
 itself payload all = record { all = all; within = omega arith; fits = omega arith; is = ap (λ k. take (length payload) (drop k payload)) {x = length payload - length payload} {y = 0} (omega arith) ∙ ap (λ k. take k payload) {x = length payload} {y = length payload - 0} (omega arith) ∙ take_rest payload 0 }
 
+-- what stands among bytes are bytes
+pub stands_bytes : (payload bytes : List ℕ) (end : ℕ) → Stands payload end bytes → IsBytes bytes
+stands_bytes payload bytes end h = subst IsBytes h.is (IsBytes-take (length bytes) (drop (end - length bytes) payload) (IsBytes-drop (end - length bytes) payload h.all))
+
 -- so many bytes, after so many others
 pub stands_part : (payload bytes : List ℕ) (end k n : ℕ) → Stands payload end bytes → k + n ≤ length bytes → Stands payload (end - length (drop (k + n) bytes)) (take n (drop k bytes))
 stands_part payload bytes end k n h few =
@@ -138,5 +142,4 @@ key_length (n ∷ bytes) fits = let byte : n < 256 = fits 0 in omega (arith, len
 pub short_text : (payload bytes text : List ℕ) (end n : ℕ) → Stands payload end bytes → judge_short_string bytes ≡ took text n → length text < 256
 short_text payload bytes text end n h is =
     let parts = text_parts bytes text n is in
-    let fits : IsBytes bytes = subst IsBytes h.is (IsBytes-take (length bytes) (drop (end - length bytes) payload) (IsBytes-drop (end - length bytes) payload h.all)) in
-    omega (arith, key_length bytes fits, ap length parts.0)
+    omega (arith, key_length bytes (stands_bytes payload bytes end h), ap length parts.0)

@@ -29,72 +29,72 @@ not_listed (fault bad) f old new count step h = tt
 pub listed_next : {A : Type 0} (j : Judged A) (f : A × ℕ → Judged (List Node)) (old new : List Node) (count : ℕ) (step : Step) (x : A) (n : ℕ) → j ≡ took x n → Lists (f (x, n)) old count new step → Lists (j >>= f) old count new step
 listed_next j f old new count step x n e h = let P : Judged _ → Type 0 = λ k. Lists (k >>= f) old count new step in subst P (sym e) h
 
--- ---- room for nesting
+-- ---- how deep values may nest
 
-pub nested_none : (room : ℕ) → room ≡ 0 → listed_nested room ≡ None
+pub nested_none : (depth_left : ℕ) → depth_left ≡ 0 → listed_nested depth_left ≡ None
 unfolding listed_nested
 nested_none zero h = refl
-nested_none (suc room) h = absurd (omega arith)
+nested_none (suc depth_left) h = absurd (omega arith)
 
-pub nested_more : (room : ℕ) → 0 < room → listed_nested room ≡ Some (listed_value (room - 1))
+pub nested_more : (depth_left : ℕ) → 0 < depth_left → listed_nested depth_left ≡ Some (listed_value (depth_left - 1))
 unfolding listed_nested listed_value
 nested_more zero h = absurd (omega arith)
-nested_more (suc room) h = ap (λ n. Some (listed_tagged (listed_nested n))) {x = room} {y = suc room - 1} (omega arith)
+nested_more (suc depth_left) h = ap (λ n. Some (listed_tagged (listed_nested n))) {x = depth_left} {y = suc depth_left - 1} (omega arith)
 
 -- ---- a tag and its value
 
-pub value_none : (room end : ℕ) (label : Node) (i : List ℕ) (old new : List Node) (count : ℕ) (step : Step) → length i < 1 → Lists (listed_value room end label i) old count new step
+pub value_none : (depth_left end : ℕ) (label : Node) (i : List ℕ) (old new : List Node) (count : ℕ) (step : Step) → length i < 1 → Lists (listed_value depth_left end label i) old count new step
 unfolding listed_value listed_tagged
-value_none room end label [] old new count step h = tt
-value_none room end label (byte ∷ bytes) old new count step h = absurd (omega arith)
+value_none depth_left end label [] old new count step h = tt
+value_none depth_left end label (byte ∷ bytes) old new count step h = absurd (omega arith)
 
-pub value_unknown : (room end : ℕ) (label : Node) (i : List ℕ) (old new : List Node) (count : ℕ) (step : Step) → 1 ≤ length i → tag_at (get_or i 0 0) ≡ None → Lists (listed_value room end label i) old count new step
+pub value_unknown : (depth_left end : ℕ) (label : Node) (i : List ℕ) (old new : List Node) (count : ℕ) (step : Step) → 1 ≤ length i → tag_at (get_or i 0 0) ≡ None → Lists (listed_value depth_left end label i) old count new step
 unfolding listed_value listed_tagged
-value_unknown room end label [] old new count step h e = tt
-value_unknown room end label (byte ∷ bytes) old new count step h e = let P : Option FieldTag → Type 0 = λ o. Lists (listed_after (listed_nested room) end label o bytes) old count new step in subst P (sym e) tt
+value_unknown depth_left end label [] old new count step h e = tt
+value_unknown depth_left end label (byte ∷ bytes) old new count step h e = let P : Option FieldTag → Type 0 = λ o. Lists (listed_after (listed_nested depth_left) end label o bytes) old count new step in subst P (sym e) tt
 
 with_tag : (j : Judged (List Node)) (used more : ℕ) (old new : List Node) (count : ℕ) → Lists j old count new (record { used = used; count = more }) → Lists (j >>= λ x. took x.0 (1 + x.1)) old count new (record { used = 1 + used; count = more })
 with_tag (took added n) used more old new count h = (ap (λ k. 1 + k) h.0, h.1)
 with_tag past used more old new count h = tt
 with_tag (fault bad) used more old new count h = tt
 
-pub value_listed : (room end : ℕ) (label mark : Node) (i : List ℕ) (t : FieldTag) (old new : List Node) (count : ℕ) (step : Step) → 1 ≤ length i → tag_at (get_or i 0 0) ≡ Some t → mark ≡ of_kind label (tag_byte t) → Lists (listed_behind (listed_nested room) end mark t (drop 1 i)) old count new step
-    → Lists (listed_value room end label i) old count new (record { used = 1 + step.used; count = step.count })
+pub value_listed : (depth_left end : ℕ) (label mark : Node) (i : List ℕ) (t : FieldTag) (old new : List Node) (count : ℕ) (step : Step) → 1 ≤ length i → tag_at (get_or i 0 0) ≡ Some t → mark ≡ of_kind label (tag_byte t) → Lists (listed_behind (listed_nested depth_left) end mark t (drop 1 i)) old count new step
+    → Lists (listed_value depth_left end label i) old count new (record { used = 1 + step.used; count = step.count })
 unfolding listed_value listed_tagged
-value_listed room end label mark [] t old new count step some is e h = tt
-value_listed room end label mark (byte ∷ bytes) t old new count step some is e h =
-    let P : Option FieldTag → Type 0 = λ o. Lists (listed_after (listed_nested room) end label o bytes) old count new (record { used = 1 + step.used; count = step.count }) in
-    let Q : Node → Type 0 = λ m. Lists (listed_behind (listed_nested room) end m t bytes) old count new step in
-    subst P (sym is) (with_tag (listed_behind (listed_nested room) end (of_kind label (tag_byte t)) t bytes) step.used step.count old new count (subst Q e h))
+value_listed depth_left end label mark [] t old new count step some is e h = tt
+value_listed depth_left end label mark (byte ∷ bytes) t old new count step some is e h =
+    let P : Option FieldTag → Type 0 = λ o. Lists (listed_after (listed_nested depth_left) end label o bytes) old count new (record { used = 1 + step.used; count = step.count }) in
+    let Q : Node → Type 0 = λ m. Lists (listed_behind (listed_nested depth_left) end m t bytes) old count new step in
+    subst P (sym is) (with_tag (listed_behind (listed_nested depth_left) end (of_kind label (tag_byte t)) t bytes) step.used step.count old new count (subst Q e h))
 
--- no room is left
-pub too_deep_array : (room end : ℕ) (label : Node) (t : FieldTag) (i : List ℕ) (old new : List Node) (count : ℕ) (step : Step) → room ≡ 0 → t ≡ tag.FieldArray → Lists (listed_behind (listed_nested room) end label t i) old count new step
+-- no depth is left
+pub too_deep_array : (depth_left end : ℕ) (label : Node) (t : FieldTag) (i : List ℕ) (old new : List Node) (count : ℕ) (step : Step) → depth_left ≡ 0 → t ≡ tag.FieldArray → Lists (listed_behind (listed_nested depth_left) end label t i) old count new step
 unfolding listed_behind
-too_deep_array room end label t i old new count step none is =
+too_deep_array depth_left end label t i old new count step none is =
     let P : Option Lister → Type 0 = λ o. Lists (listed_behind o end label tag.FieldArray i) old count new step in
-    let Q : FieldTag → Type 0 = λ u. Lists (listed_behind (listed_nested room) end label u i) old count new step in
-    subst Q (sym is) (subst P (sym (nested_none room none)) tt)
+    let Q : FieldTag → Type 0 = λ u. Lists (listed_behind (listed_nested depth_left) end label u i) old count new step in
+    subst Q (sym is) (subst P (sym (nested_none depth_left none)) tt)
 
-pub too_deep_table : (room end : ℕ) (label : Node) (t : FieldTag) (i : List ℕ) (old new : List Node) (count : ℕ) (step : Step) → room ≡ 0 → t ≡ tag.FieldTable → Lists (listed_behind (listed_nested room) end label t i) old count new step
+pub too_deep_table : (depth_left end : ℕ) (label : Node) (t : FieldTag) (i : List ℕ) (old new : List Node) (count : ℕ) (step : Step) → depth_left ≡ 0 → t ≡ tag.FieldTable → Lists (listed_behind (listed_nested depth_left) end label t i) old count new step
 unfolding listed_behind
-too_deep_table room end label t i old new count step none is =
+too_deep_table depth_left end label t i old new count step none is =
     let P : Option Lister → Type 0 = λ o. Lists (listed_behind o end label tag.FieldTable i) old count new step in
-    let Q : FieldTag → Type 0 = λ u. Lists (listed_behind (listed_nested room) end label u i) old count new step in
-    subst Q (sym is) (subst P (sym (nested_none room none)) tt)
+    let Q : FieldTag → Type 0 = λ u. Lists (listed_behind (listed_nested depth_left) end label u i) old count new step in
+    subst Q (sym is) (subst P (sym (nested_none depth_left none)) tt)
 
-pub array_behind : (room end : ℕ) (label : Node) (t : FieldTag) (i : List ℕ) (old new : List Node) (count : ℕ) (step : Step) → 0 < room → t ≡ tag.FieldArray → Lists (listed_array (listed_value (room - 1)) end label i) old count new step → Lists (listed_behind (listed_nested room) end label t i) old count new step
+pub array_behind : (depth_left end : ℕ) (label : Node) (t : FieldTag) (i : List ℕ) (old new : List Node) (count : ℕ) (step : Step) → 0 < depth_left → t ≡ tag.FieldArray → Lists (listed_array (listed_value (depth_left - 1)) end label i) old count new step → Lists (listed_behind (listed_nested depth_left) end label t i) old count new step
 unfolding listed_behind
-array_behind room end label t i old new count step some is h =
+array_behind depth_left end label t i old new count step some is h =
     let P : Option Lister → Type 0 = λ o. Lists (listed_behind o end label tag.FieldArray i) old count new step in
-    let Q : FieldTag → Type 0 = λ u. Lists (listed_behind (listed_nested room) end label u i) old count new step in
-    subst Q (sym is) (subst P (sym (nested_more room some)) h)
+    let Q : FieldTag → Type 0 = λ u. Lists (listed_behind (listed_nested depth_left) end label u i) old count new step in
+    subst Q (sym is) (subst P (sym (nested_more depth_left some)) h)
 
-pub table_behind : (room end : ℕ) (label : Node) (t : FieldTag) (i : List ℕ) (old new : List Node) (count : ℕ) (step : Step) → 0 < room → t ≡ tag.FieldTable → Lists (listed_table (listed_value (room - 1)) end label i) old count new step → Lists (listed_behind (listed_nested room) end label t i) old count new step
+pub table_behind : (depth_left end : ℕ) (label : Node) (t : FieldTag) (i : List ℕ) (old new : List Node) (count : ℕ) (step : Step) → 0 < depth_left → t ≡ tag.FieldTable → Lists (listed_table (listed_value (depth_left - 1)) end label i) old count new step → Lists (listed_behind (listed_nested depth_left) end label t i) old count new step
 unfolding listed_behind
-table_behind room end label t i old new count step some is h =
+table_behind depth_left end label t i old new count step some is h =
     let P : Option Lister → Type 0 = λ o. Lists (listed_behind o end label tag.FieldTable i) old count new step in
-    let Q : FieldTag → Type 0 = λ u. Lists (listed_behind (listed_nested room) end label u i) old count new step in
-    subst Q (sym is) (subst P (sym (nested_more room some)) h)
+    let Q : FieldTag → Type 0 = λ u. Lists (listed_behind (listed_nested depth_left) end label u i) old count new step in
+    subst Q (sym is) (subst P (sym (nested_more depth_left some)) h)
 
 -- ---- what fills an array or a table
 

@@ -1,4 +1,4 @@
--- The nodes of fields and values, out of the bytes at the front. Bytes are a part of the payload, which is given by the place where they end in it.
+-- The nodes of fields and values, out of the bytes at the front. These are a part of the bytes in which spans are counted, and are given by the place where they end in them.
 use Rattle.std.specs.Prelude.{ℕ, zero, suc, ◌+◌, ◌-◌, List, [], ◌∷◌, ◌++◌, length, drop, Bool, true, false, Option, Some, None}
 use Rattle.std.specs.Int.{w64, cast_unsigned}
 use Rattle.amqp_types.specs.Judging.{Judge, took, past, fault, unknown_method, unknown_tag, too_deep, ◌>>=◌}
@@ -28,11 +28,11 @@ abbrev pub joined : List (List Node) → List Node
 joined [] = []
 joined (group ∷ groups) = group ++ joined groups
 
--- nodes by the place in the payload where the bytes end, and by what is known of the first of them
+-- nodes by the place where the bytes end, and by what is known of the first of them
 abbrev pub Lister : Type 0
 Lister = ℕ → Node → Judge (List Node)
 
--- where bytes end in the payload, by how many come after them up to a place
+-- where bytes end, by how many come after them up to a place
 abbrev pub end_before : ℕ → List ℕ → ℕ
 end_before end rest = end - length rest
 
@@ -204,20 +204,20 @@ listed_known deep end None bytes = fault unknown_method
 listed_known deep end (Some slots) bytes = listed_slots deep end 0 slots bytes
 
 -- both ids, and the fields of that method
-unfoldable pub listed_method : Bool → Judge (List Node)
-listed_method deep payload = do
+unfoldable pub listed_method : Bool → ℕ → Judge (List Node)
+listed_method deep end payload = do
   class ← judge_number bytes2 payload
   id ← judge_number bytes2 (drop class.1 payload)
-  listed_known deep (length payload) (slots_at class.0 id.0) (drop id.1 (drop class.1 payload))
+  listed_known deep end (slots_at class.0 id.0) (drop id.1 (drop class.1 payload))
 
 -- the properties of a content header, in front of which class id, weight and body size take 12 bytes
-unfoldable pub listed_header : Bool → Judge (List Node)
-listed_header deep payload = listed_properties deep (length payload) (drop 12 payload)
+unfoldable pub listed_header : Bool → ℕ → Judge (List Node)
+listed_header deep end payload = listed_properties deep end (drop 12 payload)
 
--- the fields of a whole payload
-unfoldable pub listed_payload : AMQPFrameType → Bool → Judge (List Node)
-listed_payload kinds.ProtocolHeader deep payload = listed_slots deep (length payload) 0 version_slots payload
-listed_payload kinds.Method deep payload = listed_method deep payload
-listed_payload kinds.Header deep payload = listed_header deep payload
-listed_payload kinds.Body deep payload = took [] 0
-listed_payload kinds.Heartbeat deep payload = took [] 0
+-- the fields of a whole payload, which ends at a place of the bytes in which spans are counted
+unfoldable pub listed_payload : AMQPFrameType → Bool → ℕ → Judge (List Node)
+listed_payload kinds.ProtocolHeader deep end payload = listed_slots deep end 0 version_slots payload
+listed_payload kinds.Method deep end payload = listed_method deep end payload
+listed_payload kinds.Header deep end payload = listed_header deep end payload
+listed_payload kinds.Body deep end payload = took [] 0
+listed_payload kinds.Heartbeat deep end payload = took [] 0

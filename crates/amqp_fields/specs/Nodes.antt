@@ -1,5 +1,5 @@
 -- Nodes, and the spans in them.
-use Rattle.std.specs.Prelude.{ℕ, ◌-◌, List, length, nat_lt, if◌then◌else◌}
+use Rattle.std.specs.Prelude.{◌≡◌, ◌<◌, ℕ, ◌-◌, List, ◌∷◌, ◌++◌, length, nat_lt, if◌then◌else◌}
 use Rattle.amqp_fields.specs.declared.node.Node.{Node}
 
 -- a node of zeros
@@ -29,3 +29,12 @@ held node inside items = record node { inside = inside; items = items }
 -- the span of a key, whose bytes end at a place
 abbrev pub keyed : ℕ → List ℕ → Node
 keyed end key = record blank { key_start = cut (end - length key); key_length = cut_byte (length key) }
+
+-- the first of some nodes, those inside it, and the others
+pub record StandsFirst (nodes : List Node) (node : Node) (inside others : List Node) : Type 0 where
+  pub nodes_are : nodes ≡ node ∷ (inside ++ others)
+  pub inside_is : node.inside ≡ length inside
+
+-- those inside the first node would pass the end
+abbrev pub PassesEnd : List Node → Type 0
+PassesEnd nodes = (node : Node) (others : List Node) → nodes ≡ node ∷ others → length others < node.inside

@@ -2,9 +2,7 @@
 
 ghost use Rattle.std.specs.Prelude.{◌≡◌, ◌≤◌, ◌<◌, ◌^◌, length, IfErr, IfOk};
 ghost use Rattle.std.specs.Str.{is_utf8};
-ghost use Rattle.amqp_types.specs.Answers.{AnswersFully};
 ghost use Rattle.amqp_types.specs.Constants.{inner_depth};
-ghost use Rattle.amqp_types.specs.Strings.{judge_short_string};
 ghost use Rattle.amqp_types.specs.ValueJudging.{filled, judge_entry, judge_value};
 ghost use Rattle.amqp_fields.specs.Contents.{FillsOrFails, HasEntries, HasValues, RefusesContent, UsesOrFails};
 ghost use Rattle.amqp_fields.specs.Reading.{ListsIn};
@@ -13,11 +11,11 @@ use crate::node::Node;
 use crate::reading::FieldsError;
 use crate::values::{list_entries, list_values};
 use amqp_canonical::{bytes_from, judge_value};
-use amqp_types::{INNER_DEPTH, ParserError, are_bytes};
+use amqp_types::{INNER_DEPTH, ParserError, are_bytes, parse_short_str};
 use std::str;
 
 /// Whether bytes are UTF-8.
-fn is_text(bytes: &[u8]) -> bool
+pub(crate) fn is_text(bytes: &[u8]) -> bool
     ensures { result ≡ is_utf8 bytes.now }
 {
     match str::from_utf8(bytes) {
@@ -26,52 +24,30 @@ fn is_text(bytes: &[u8]) -> bool
     }
 }
 
-/// Decodes a key at the front.
-#[tactic(auto, unfolding(amqp_types::specs::Strings::judge_short_string))]
-fn judge_key(i: &[u8]) -> Result<(usize, &[u8]), ParserError>
-    ensures judged { AnswersFully (λ text. text.now) result (judge_short_string i.now) }
-    ensures used { IfOk result (λ found. (0 < found.0) × (found.0 ≤ length i.now)) }
-{
-    match i {
-        [] => Err(ParserError::Incomplete),
-        [n, rest @ ..] => {
-            let n = *n as usize;
-            if rest.len() < n {
-                return Err(ParserError::Incomplete);
-            }
-            let text = &rest[..n];
-            if is_text(text) {
-                Ok((1 + n, text))
-            } else {
-                Err(ParserError::NotUtf8)
-            }
-        }
-    }
-}
-
-/// Decodes an entry at the front, and returns how many bytes it takes.
+/// Decodes an entry at the front, in whose value tables and arrays may nest `depth_left` deep, and returns how many bytes it
+/// takes.
 #[tactic(auto, using(crate::proofs::Filling::entry_used, crate::proofs::Filling::key_refused, crate::proofs::Filling::value_refused))]
-fn judge_entry(i: &[u8]) -> Result<usize, ParserError>
-    ensures judged { UsesOrFails result (judge_entry (judge_value inner_depth) i.now) }
+fn judge_entry(i: &[u8], depth_left: usize) -> Result<usize, ParserError>
+    ensures judged { UsesOrFails result (judge_entry (judge_value depth_left) i.now) }
     ensures used { IfOk result (λ n. (0 < n) × (n ≤ length i.now)) }
 {
-    let n = match judge_key(i) {
+    let n = match parse_short_str(i) {
         Ok((n, _)) => n,
         Err(error) => return Err(error),
     };
-    match judge_value(&i[n..], INNER_DEPTH) {
+    match judge_value(&i[n..], depth_left) {
         Ok(value) => Ok(n + value.used),
         Err(error) => Err(error),
     }
 }
 
-/// Decodes the entries that fill a table.
-fn judge_entries(content: &[u8]) -> Result<(), ParserError>
-    ensures { FillsOrFails result (filled (judge_entry (judge_value inner_depth)) 0 content.now) }
+/// Decodes the entries that fill a table, in whose values tables and arrays may nest `depth_left` deep.
+pub(crate) fn judge_entries(content: &[u8], depth_left: usize) -> Result<(), ParserError>
+    ensures { FillsOrFails result (filled (judge_entry (judge_value depth_left)) 0 content.now) }
 {
     let mut rest = content;
     while !rest.is_empty() {
-        let used = match judge_entry(rest) {
+        let used = match judge_entry(rest, depth_left) {
             Ok(used) => used,
             Err(error) => return Err(error.inside()),
         };
@@ -80,13 +56,13 @@ fn judge_entries(content: &[u8]) -> Result<(), ParserError>
     Ok(())
 }
 
-/// Decodes the values that fill an array.
-fn judge_values(content: &[u8]) -> Result<(), ParserError>
-    ensures { FillsOrFails result (filled (judge_value inner_depth) 0 content.now) }
+/// Decodes the values that fill an array, in which tables and arrays may nest `depth_left` deep.
+pub(crate) fn judge_values(content: &[u8], depth_left: usize) -> Result<(), ParserError>
+    ensures { FillsOrFails result (filled (judge_value depth_left) 0 content.now) }
 {
     let mut rest = content;
     while !rest.is_empty() {
-        let value = match judge_value(rest, INNER_DEPTH) {
+        let value = match judge_value(rest, depth_left) {
             Ok(value) => value,
             Err(error) => return Err(error.inside()),
         };
@@ -106,7 +82,7 @@ pub fn read_entries(content: &[u8], nodes: &mut [Node]) -> Result<usize, FieldsE
     ensures bound { IfOk result (λ count. count ≤ length content.now) }
     ensures refused { IfErr result (RefusesContent (HasEntries content.now) (filled (judge_entry (judge_value inner_depth)) 0 content.now) (length nodes.old)) }
 {
-    match judge_entries(content) {
+    match judge_entries(content, INNER_DEPTH) {
         Ok(()) => {}
         Err(error) => return Err(FieldsError::Payload(error)),
     }
@@ -129,7 +105,7 @@ pub fn read_values(content: &[u8], nodes: &mut [Node]) -> Result<usize, FieldsEr
     ensures bound { IfOk result (λ count. count ≤ length content.now) }
     ensures refused { IfErr result (RefusesContent (HasValues content.now) (filled (judge_value inner_depth) 0 content.now) (length nodes.old)) }
 {
-    match judge_values(content) {
+    match judge_values(content, INNER_DEPTH) {
         Ok(()) => {}
         Err(error) => return Err(FieldsError::Payload(error)),
     }

@@ -22,7 +22,7 @@ use amqp_types::INNER_DEPTH;
 
 /// The kind of what is encoded so.
 #[inline(always)]
-fn kind_of(form: Form) -> u8
+pub(crate) fn kind_of(form: Form) -> u8
     ensures { result ≡ kind_of (form_of form) }
 {
     match form {
@@ -39,7 +39,7 @@ fn kind_of(form: Form) -> u8
 
 /// A place that is so many further.
 #[inline(always)]
-fn further(place: u8, n: u8) -> u8
+pub(crate) fn further(place: u8, n: u8) -> u8
     ensures { result ≡ next_place place n }
 {
     place.saturating_add(n)
@@ -128,7 +128,7 @@ fn list_form(
 }
 
 /// How many fields stand in what is encoded so, reserved ones not counted.
-fn kept_count(slot: Slot) -> u8
+pub(crate) fn kept_count(slot: Slot) -> u8
     ensures { result ≡ kept_count (slot_of slot) }
 {
     match slot {

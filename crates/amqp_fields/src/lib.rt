@@ -1,19 +1,36 @@
-//! The fields of AMQP 0-9-1 frames as nodes: numbers and spans of the payload, without memory.
+//! The fields of AMQP 0-9-1 frames as nodes, numbers and spans of bytes, and frames as heads, without memory.
 #![tactic(auto)]
 
 mod contents;
+mod counting;
 mod fields;
+mod frames;
+mod head;
 mod laws;
 mod listing;
+mod making;
+mod making_fields;
+mod making_frames;
+mod making_values;
 mod node;
+mod node_groups;
 mod numbers;
 mod payloads;
+mod putting;
 mod reading;
+mod refusals;
 mod values;
 
 pub use contents::{read_entries, read_values};
+pub use counting::count_fields;
+pub use frames::{FramesEnd, FramesRead, least_length, read_frames};
+pub use head::{CANONICAL, Head, TIDY};
 pub use laws::{
-    equal_fields_errors, equal_fields_read, equal_nodes, last_entries_win, spans_lie_within,
+    equal_fields_errors, equal_fields_read, equal_frames_ends, equal_frames_read, equal_heads,
+    equal_nodes, equal_write_errors, equal_write_refusals, heads_mean_one, heads_say_the_front,
+    last_entries_win, read_nodes_are_meant, spans_lie_within,
 };
+pub use making::{write_entries, write_frames, write_values};
 pub use node::{FLAG, LONG, LONG_LONG, LONG_STRING, Node, OCTET, SHORT, SHORT_STRING, TABLE};
 pub use reading::{FieldsError, FieldsRead, read_fields};
+pub use refusals::{Refusal, WriteError, WriteRefusal};

@@ -64,7 +64,7 @@ pub fn read_fields(
         Err(error) => return Err(FieldsError::Payload(error)),
     };
     are_bytes(payload);
-    let count = list_payload(nodes, frame_type, deep, payload) as usize;
+    let count = list_payload(nodes, 0, frame_type, deep, payload.len(), payload) as usize;
     if count > nodes.len() {
         return Err(FieldsError::TooFew { needed: count });
     }

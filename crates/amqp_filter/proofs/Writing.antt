@@ -1,5 +1,5 @@
 -- What the writer returns for a frame, by what its calls return.
-use Rattle.std.proofs.Common.{◌≡◌, ◌≢◌, ℕ, Bool, true, false, List, refl, sym, ap, subst, ◌∙◌, Result, Ok, Err, IsTrue}
+use Rattle.std.proofs.Common.{◌≡◌, ◌≢◌, ℕ, Bool, List, [], refl, sym, ap, subst, ◌∙◌, Ok, Err, IsTrue}
 use Rattle.amqp_types.specs.Levels.{plain}
 use Rattle.amqp_types.specs.Answers.{RefusesWhole}
 use Rattle.amqp_types.specs.declared.errors.ParserError.{ParserError}
@@ -7,39 +7,26 @@ use Rattle.amqp_types.specs.declared.errors.ParserError.TheVariants as parses
 use Rattle.amqp_wire.specs.declared.frame_type.AMQPFrameType.{AMQPFrameType}
 use Rattle.amqp_wire.specs.declared.frame_type.AMQPFrameType.TheVariants as kinds
 use Rattle.amqp_wire.specs.Frames.{Raw, Frame}
+use Rattle.amqp_wire.specs.Canonical.{canon}
 use Rattle.amqp_wire.specs.Judgements.{IsPayloadFault}
 use Rattle.amqp_wire.specs.Verdicts.{whole}
 use Rattle.amqp_turns.specs.declared.fault.ContentFault.{ContentFault}
 use Rattle.amqp_stream.specs.declared.errors.StreamError.{StreamError}
 use Rattle.amqp_stream.specs.Errors.{Cause, faulty, cut_short, turns_spent, read_failed, write_failed, out_of_memory, cause_of}
 use Rattle.amqp_stream.specs.Ends.{Store}
-use Rattle.amqp_stream.specs.Writing.{IsUnwritten, WritesFrame, payload_fault}
-use Rattle.amqp_stream.specs.Streaming.{Ending, finished, refused_by, stopped_by, ending_of, as_run, WritesBy}
+use Rattle.amqp_stream.specs.declared.decision.Decision.{Decision}
+use Rattle.amqp_stream.specs.declared.decision.Decision.TheVariants as decisions
+use Rattle.amqp_stream.specs.declared.errors.StreamError.TheVariants as errors
+use Rattle.amqp_stream.specs.declared.errors.RunError.{RunError}
+use Rattle.amqp_stream.specs.declared.errors.RunError.TheVariants as ends
+use Rattle.amqp_stream.specs.Decisions.{TakesTo, RefusesTo}
+use Rattle.amqp_stream.specs.Writing.{payload_fault}
+use Rattle.amqp_stream.specs.Streaming.{Ending, finished, refused_by, stopped_by, error_ending, WritesBy}
 use Rattle.amqp_stream.proofs.Writes.{IsNone, is_none, refusing, is_faulty, kept}
 use Rattle.amqp_filter.specs.declared.errors.Refusal.{Refusal}
 use Rattle.amqp_filter.specs.declared.errors.Refusal.TheVariants as refusals
 use Rattle.amqp_filter.specs.declared.message_filter.MessageFilter.{MessageFilter}
-use Rattle.amqp_filter.specs.Stepping.{given, step_filtering, filtering, is_method_type, IsUnpassed, PassesFrame, RefusesFrame, StepsTo}
-
--- ---- a frame that is kept, or dropped
-
-unwritten_passes : (raw : Raw) (a b : Store) (x y : List ℕ) (cause : Cause) → IsUnwritten raw a b x y cause → IsUnpassed true raw a b x y cause
-unwritten_passes raw a b x y (faulty bad) h = h
-unwritten_passes raw a b x y write_failed h = h
-unwritten_passes raw a b x y cut_short h = absurd h
-unwritten_passes raw a b x y turns_spent h = absurd h
-unwritten_passes raw a b x y read_failed h = absurd h
-unwritten_passes raw a b x y out_of_memory h = absurd h
-
-written_true : (raw : Raw) (a b : Store) (x y : List ℕ) (r : Result (Unit {0}) StreamError) → WritesFrame raw a b x y r → PassesFrame true raw a b x y r
-written_true raw a b x y (Ok done) h = h
-written_true raw a b x y (Err error) h = unwritten_passes raw a b x y (cause_of error) h
-
-pub written_passes : (keep : Bool) (raw : Raw) (a b : Store) (x y : List ℕ) (r : Result (Unit {0}) StreamError) → keep ≡ true → WritesFrame raw a b x y r → PassesFrame keep raw a b x y r
-written_passes keep raw a b x y r e h = subst (λ (k : Bool). PassesFrame k raw a b x y r) (sym e) (written_true raw a b x y r h)
-
-pub dropped_passes : (keep : Bool) (raw : Raw) (a : Store) (x y : List ℕ) (frame : Frame) → keep ≡ false → y ≡ x → whole raw ≡ Ok frame → PassesFrame keep raw a a x y (Ok tt)
-dropped_passes keep raw a x y frame e same h = subst (λ (k : Bool). PassesFrame k raw a a x y (Ok tt)) (sym e) (frame, h, kept a x y same)
+use Rattle.amqp_filter.specs.Stepping.{given, step_filtering, filtering, is_method_type, IsFaultyBy, JudgesKept, RefusesFrame, StepsTo}
 
 -- ---- a payload that is none
 
@@ -49,10 +36,8 @@ not_memory error some e = some cc
 no_frame : (raw : Raw) (error : ParserError) → IsPayloadFault error → RefusesWhole error (whole raw) → IsNone raw (cause_of (payload_fault error))
 no_frame raw error fault h = is_none raw error fault.0 (not_memory error fault.1) h
 
-pub faulty_passes : (keep : Bool) (raw : Raw) (error : ParserError) (a : Store) (x y : List ℕ) → y ≡ x → IsPayloadFault error → RefusesWhole error (whole raw) → PassesFrame keep raw a a x y (Err (payload_fault error))
-faulty_passes keep raw error a x y same fault h =
-    let none = no_frame raw error fault h in
-    subst (λ cause. IsUnpassed keep raw a a x y cause) none.tells (none.is_whole, none.other, kept a x y same)
+pub faulty_by : (raw : Raw) (error : ParserError) → IsPayloadFault error → RefusesWhole error (whole raw) → IsFaultyBy raw (cause_of (payload_fault error))
+faulty_by raw error fault h = let none = no_frame raw error fault h in subst (IsFaultyBy raw) none.tells (is_faulty plain raw none.bad none.is_whole none.other)
 
 pub refuses_faulty : (raw : Raw) (other : ContentFault) (error : ParserError) → IsPayloadFault error → RefusesWhole error (whole raw) → RefusesFrame raw other (stopped_by (cause_of (payload_fault error)))
 refuses_faulty raw other error fault h =
@@ -60,6 +45,9 @@ refuses_faulty raw other error fault h =
     subst (λ cause. RefusesFrame raw other (stopped_by cause)) none.tells (is_faulty plain raw none.bad none.is_whole none.other)
 
 -- ---- what is returned
+
+pub method_wants : (kind : AMQPFrameType) → kind ≡ kinds.Method → IsTrue (is_method_type kind)
+method_wants kind e = subst (λ k. IsTrue (is_method_type k)) (sym e) refl
 
 pub refused_as : (s : MessageFilter) (raw : Raw) (bad : ContentFault) (ending : Ending Refusal) (a : Store) (x y : List ℕ) → y ≡ x → ((frame : Frame) → whole raw ≡ Ok frame → step_filtering s frame ≡ Err (refusals.BadContent bad)) → RefusesFrame raw bad ending → WritesBy filtering s s raw a a x y ending
 refused_as s raw bad (refused_by (refusals.BadContent other)) a x y same steps h =
@@ -73,30 +61,30 @@ refused_as s raw bad (stopped_by read_failed) a x y same steps h = absurd h
 refused_as s raw bad (stopped_by write_failed) a x y same steps h = absurd h
 refused_as s raw bad (stopped_by out_of_memory) a x y same steps h = absurd h
 
--- a frame that was passed, and what is kept then
-pub passed_on : (s t u : MessageFilter) (keep : Bool) (raw : Raw) (a b : Store) (x y : List ℕ) → u ≡ t → StepsTo s t raw keep → PassesFrame keep raw a b x y (Ok tt) → WritesBy filtering s u raw a b x y finished
-passed_on s t u keep raw a b x y is steps h = record {
-  bytes = given keep h.0;
-  step = record { frame = h.0; is_whole = h.1; at_level = refl; steps = steps h.0 h.1 ∙ ap (λ v. Ok (given keep h.0, v)) (sym is) };
-  gathered = h.2;
+-- before anything is written for it
+pub turn_refuses : (s : MessageFilter) (raw : Raw) (bad : ContentFault) (error : RunError Refusal) → ((frame : Frame) → whole raw ≡ Ok frame → step_filtering s frame ≡ Err (refusals.BadContent bad)) → RefusesFrame raw bad (error_ending error) → RefusesTo filtering s s raw error
+turn_refuses s raw bad error steps h = λ store pending. refused_as s raw bad (error_ending error) store pending pending refl steps h
+
+-- a frame that was taken, and what is kept then
+pub judged_takes : (s t u : MessageFilter) (keep : Bool) (raw : Raw) (decision : Decision) → u ≡ t → StepsTo s t raw keep → JudgesKept keep raw (Ok decision) → TakesTo filtering s u raw decision
+judged_takes s t u keep raw (decisions.Kept judged) is steps h = record {
+  is_judged = h.1;
+  step = record { frame = h.1.frame; is_whole = h.1.is; at_level = refl; steps = steps h.1.frame h.1.is ∙ ap (λ k. Ok (given k h.1.frame, t)) h.0 ∙ ap (λ v. Ok (canon h.1.frame, v)) (sym is) };
+  compact = refl;
+}
+judged_takes s t u keep raw decisions.Dropped is steps h = record {
+  step = record { frame = h.1.0; is_whole = h.1.1; at_level = refl; steps = steps h.1.0 h.1.1 ∙ ap (λ k. Ok (given k h.1.0, t)) h.0 ∙ ap (λ v. Ok ([], v)) (sym is) };
+  compact = refl;
 }
 
-unpassed_cause : (s t u : MessageFilter) (keep : Bool) (raw : Raw) (a b : Store) (x y : List ℕ) (cause : Cause) → u ≡ s → StepsTo s t raw keep → IsUnpassed keep raw a b x y cause → WritesBy filtering s u raw a b x y (stopped_by cause)
-unpassed_cause s t u keep raw a b x y (faulty bad) is steps h = (is_faulty plain raw bad h.0 h.1, h.2, is)
-unpassed_cause s t u keep raw a b x y write_failed is steps h = record { bytes = given keep h.0; next = t; step = record { frame = h.0; is_whole = h.1; at_level = refl; steps = steps h.0 h.1 }; failed = h.2 }
-unpassed_cause s t u keep raw a b x y cut_short is steps h = absurd h
-unpassed_cause s t u keep raw a b x y turns_spent is steps h = absurd h
-unpassed_cause s t u keep raw a b x y read_failed is steps h = absurd h
-unpassed_cause s t u keep raw a b x y out_of_memory is steps h = absurd h
+faulty_at : (s : MessageFilter) (raw : Raw) (cause : Cause) (store : Store) (pending : List ℕ) → IsFaultyBy raw cause → WritesBy filtering s s raw store store pending pending (stopped_by cause)
+faulty_at s raw (faulty bad) store pending h = (h, kept store pending pending refl, refl)
+faulty_at s raw cause store pending h = absurd h
 
--- one that was not, and nothing has changed
-pub unpassed : (s t u : MessageFilter) (keep : Bool) (raw : Raw) (a b : Store) (x y : List ℕ) (error : StreamError) → u ≡ s → StepsTo s t raw keep → PassesFrame keep raw a b x y (Err error) → WritesBy filtering s u raw a b x y (stopped_by (cause_of error))
-unpassed s t u keep raw a b x y error is steps h = unpassed_cause s t u keep raw a b x y (cause_of error) is steps h
+-- one that was not
+pub judged_refuses : (s : MessageFilter) (keep : Bool) (raw : Raw) (error : StreamError) → JudgesKept keep raw (Err error) → RefusesTo filtering s s raw (ends.Stream error)
+judged_refuses s keep raw error h = λ store pending. faulty_at s raw (cause_of error) store pending h
 
--- one that leaves what is kept
-pub passed_as : (s : MessageFilter) (keep : Bool) (raw : Raw) (a b : Store) (x y : List ℕ) (r : Result (Unit {0}) StreamError) → StepsTo s s raw keep → PassesFrame keep raw a b x y r → WritesBy filtering s s raw a b x y (ending_of (as_run r))
-passed_as s keep raw a b x y (Ok done) steps h = passed_on s s s keep raw a b x y refl steps h
-passed_as s keep raw a b x y (Err error) steps h = unpassed s s s keep raw a b x y error refl steps h
-
-pub method_wants : (kind : AMQPFrameType) → kind ≡ kinds.Method → IsTrue (is_method_type kind)
-method_wants kind e = subst (λ k. IsTrue (is_method_type k)) (sym e) refl
+-- memory ran out at a method
+pub memory_refuses : (s u : MessageFilter) (raw : Raw) → raw.kind ≡ kinds.Method → RefusesTo filtering s u raw (ends.Stream errors.NoMemory)
+memory_refuses s u raw is = λ store pending. (method_wants raw.kind is, kept store pending pending refl)

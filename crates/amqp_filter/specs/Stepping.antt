@@ -1,26 +1,27 @@
 -- How filtering goes from frame to frame: what is written for a frame, and what is kept after it.
-use Rattle.std.specs.Prelude.{◌≡◌, ◌≢◌, ℕ, ◌==◌, Bool, true, false, List, [], Option, Some, None, Result, Ok, Err, if◌then◌else◌}
+use Rattle.std.specs.Prelude.{◌≡◌, ℕ, ◌==◌, Bool, true, false, List, [], Option, Some, None, Result, Ok, Err, if◌then◌else◌}
 use Rattle.std.specs.FinMap as finite
 use Rattle.amqp_types.specs.Levels.{plain}
-use Rattle.amqp_types.specs.Judging.{not_tidy}
 use Rattle.amqp_wire.specs.declared.frame_type.AMQPFrameType.{AMQPFrameType}
 use Rattle.amqp_wire.specs.declared.frame_type.AMQPFrameType.TheVariants as kinds
 use Rattle.amqp_wire.specs.declared.outline.FrameOutline.{FrameOutline}
 use Rattle.amqp_wire.specs.Frames.{Raw, Frame, channel_id_of}
 use Rattle.amqp_wire.specs.Outlines.{outline_of}
 use Rattle.amqp_wire.specs.Canonical.{canon}
+use Rattle.amqp_wire.specs.Judgements.{IsJudged}
 use Rattle.amqp_wire.specs.Verdicts.{whole}
 use Rattle.amqp_turns.specs.declared.fault.ContentFault.{ContentFault}
 use Rattle.amqp_turns.specs.declared.mark.Mark.{Mark}
 use Rattle.amqp_turns.specs.declared.mark.Mark.TheVariants as marks
 use Rattle.amqp_turns.specs.Steps.{mark_after, progress_after}
 use Rattle.amqp_select.specs.Matching.{decides}
+use Rattle.amqp_stream.specs.declared.decision.Decision.{Decision}
+use Rattle.amqp_stream.specs.declared.decision.Decision.TheVariants as decisions
 use Rattle.amqp_stream.specs.declared.errors.StreamError.{StreamError}
-use Rattle.amqp_stream.specs.Ends.{Store}
-use Rattle.amqp_stream.specs.Errors.{Cause, faulty, write_failed, cause_of}
+use Rattle.amqp_stream.specs.Errors.{Cause, faulty, cause_of}
 use Rattle.amqp_stream.specs.Steps.{Manner}
 use Rattle.amqp_stream.specs.Streaming.{Ending, finished, refused_by, stopped_by}
-use Rattle.amqp_stream.specs.Writing.{Gathered, GatherFails, Keeps, IsFaulty}
+use Rattle.amqp_stream.specs.Writing.{IsFaulty}
 use Rattle.amqp_filter.specs.declared.errors.Refusal.{Refusal}
 use Rattle.amqp_filter.specs.declared.errors.Refusal.TheVariants as refusals
 use Rattle.amqp_filter.specs.declared.messages.Open.{Open}
@@ -79,16 +80,16 @@ step_filtering s frame = step_marked s (held_at s (channel_id_of frame)) frame (
 
 -- ---- calls of the writer
 
--- why a frame that is kept was not written, or one that is dropped is none
-abbrev pub IsUnpassed : Bool → Raw → Store → Store → List ℕ → List ℕ → Cause → Type 0
-IsUnpassed kept raw old new before after (faulty bad) = (whole raw ≡ Err bad) × (bad ≢ not_tidy) × Keeps old new before after
-IsUnpassed kept raw old new before after write_failed = (frame : Frame) × (whole raw ≡ Ok frame) × GatherFails old new before after (given kept frame)
-IsUnpassed kept raw old new before after cause = ⊥
+-- a fault of a payload
+abbrev pub IsFaultyBy : Raw → Cause → Type 0
+IsFaultyBy raw (faulty bad) = IsFaulty plain raw bad
+IsFaultyBy raw cause = ⊥
 
--- A whole frame, whose canonical bytes were gathered where it is kept; or it is reported why not.
-abbrev pub PassesFrame : Bool → Raw → Store → Store → List ℕ → List ℕ → Result (Unit {0}) StreamError → Type 0
-PassesFrame kept raw old new before after (Ok done) = (frame : Frame) × (whole raw ≡ Ok frame) × Gathered old new before after (given kept frame)
-PassesFrame kept raw old new before after (Err error) = IsUnpassed kept raw old new before after (cause_of error)
+-- What is decided of a whole frame that is kept, or is not; or why it is none.
+abbrev pub JudgesKept : Bool → Raw → Result Decision StreamError → Type 0
+JudgesKept kept raw (Ok (decisions.Kept judged)) = (kept ≡ true) × IsJudged raw judged
+JudgesKept kept raw (Ok decisions.Dropped) = (kept ≡ false) × ((frame : Frame) × (whole raw ≡ Ok frame))
+JudgesKept kept raw (Err error) = IsFaultyBy raw (cause_of error)
 
 -- A frame is refused for this fault, or for a fault of its payload.
 abbrev pub RefusesFrame : Raw → ContentFault → Ending Refusal → Type 0

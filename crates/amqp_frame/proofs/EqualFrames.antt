@@ -4,10 +4,8 @@ use Rattle.std.specs.Bool.{Decides}
 use Rattle.std.specs.Cmp.{unsigned_Decides}
 use Rattle.std.specs.Cmp.Lexicographic.{bytes_decides}
 use Rattle.amqp_laws.proofs.Deciding.{both}
-use Rattle.amqp_properties.specs.declared.properties.AMQPProperties.{AMQPProperties}
-use Rattle.amqp_properties.specs.contracts.properties.AMQPPropertiesPartialEq.TheImpl as properties
-use Rattle.amqp_properties.proofs.Equality.{all_equal-decides}
-use Rattle.amqp_protocol.proofs.Equality.{same_class}
+use Rattle.amqp_properties.proofs.EqualProperties.{same_properties}
+use Rattle.amqp_protocol.proofs.EqualClasses.{same_class}
 use Rattle.amqp_wire.proofs.EqualVersions.{same_version}
 use Rattle.amqp_frame.specs.declared.content_header.AMQPContentHeader.{AMQPContentHeader}
 use Rattle.amqp_frame.specs.contracts.content_header.AMQPContentHeaderPartialEq.TheImpl as header
@@ -16,9 +14,6 @@ use Rattle.amqp_frame.specs.declared.frame.AMQPFrame.TheVariants as frames
 use Rattle.amqp_frame.specs.contracts.frame.AMQPFramePartialEq.TheImpl as frame
 
 -- ---- content headers
-
-same_properties : (p q : AMQPProperties) → Decides (properties.ghosts.eq p q) (p ≡ q)
-same_properties p q = all_equal-decides p q
 
 abbrev SameHeader : AMQPContentHeader → AMQPContentHeader → Type 0
 SameHeader a b = (a.class_id ≡ b.class_id) × ((a.body_size ≡ b.body_size) × (a.properties ≡ b.properties))

@@ -1,9 +1,12 @@
--- Tests joined: what two of them decide, and what it says of each that neither, or both, hold.
-use Rattle.std.proofs.Common.{◌≡◌, Bool, true, false, ◌&&◌, ◌||◌, true≢false, refl, rules}
+-- Tests joined: what two of them decide, what one decides said in another way, and what it says of each that neither, or both, hold.
+use Rattle.std.proofs.Common.{◌≡◌, ◌↔◌, Bool, true, false, ◌&&◌, ◌||◌, true≢false, refl, rules}
 use Rattle.std.specs.Bool.{Decides}
 
 pub both : (p q : Bool) {P Q : Type 0} → Decides p P → Decides q Q → Decides (p && q) (P × Q)
 both p q d e = search rules
+
+pub decides_same : (p : Bool) {P Q : Type 0} → Decides p P → (P ↔ Q) → Decides p Q
+decides_same p d e = (λ h. e.0 (d.0 h), λ q. d.1 (e.1 q))
 
 pub or_left : (a b : Bool) → (a || b) ≡ false → a ≡ false
 or_left true b h = h

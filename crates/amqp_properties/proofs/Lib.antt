@@ -1,4 +1,4 @@
 -- The lemmas of amqp_properties.
 pub mod AllProperties
 pub mod Holding
-pub mod Equality
+pub mod EqualProperties

@@ -3,7 +3,9 @@
 ghost use Rattle.amqp_types.specs.Calls.{Measures, HasRoom};
 ghost use Rattle.amqp_types.specs.Writing.{Puts, Appends};
 ghost use Rattle.amqp_types.specs.PropertyBytes.{properties_bytes, properties_size};
-ghost use Rattle.amqp_values.specs.Fields.{Lists};
+ghost use Rattle.amqp_types.specs.Properties.{properties};
+ghost use Rattle.amqp_types.specs.PropertyLaws.{AreOptionsHeld};
+ghost use Rattle.amqp_values.specs.Fields.{AreFieldsHeld, Lists};
 ghost use Rattle.amqp_properties.specs.Options.{options};
 
 use crate::optional_fields::{
@@ -15,25 +17,26 @@ use std::alloc::Global;
 
 /// The mask, and the properties that are set.
 #[tactic(auto, unfolding(crate::proofs::AllProperties::all_properties))]
-fn properties_fields(properties: &AMQPProperties) -> [Field<'_>; 15]
-    ensures { Lists result (properties_size (options properties.now)) (properties_bytes (options properties.now)) }
+pub(crate) fn properties_fields(p: &AMQPProperties) -> [Field<'_>; 15]
+    ensures lists { Lists result (properties_size (options p.now)) (properties_bytes (options p.now)) }
+    ensures held { AreFieldsHeld result → AreOptionsHeld properties (options p.now) }
 {
     [
-        Field::ShortUInt(properties.bitmask()),
-        field_short_string(&properties.content_type),
-        field_short_string(&properties.content_encoding),
-        field_table(&properties.headers),
-        field_short_short_uint(&properties.delivery_mode),
-        field_short_short_uint(&properties.priority),
-        field_short_string(&properties.correlation_id),
-        field_short_string(&properties.reply_to),
-        field_short_string(&properties.expiration),
-        field_short_string(&properties.message_id),
-        field_long_long_uint(&properties.timestamp),
-        field_short_string(&properties.kind),
-        field_short_string(&properties.user_id),
-        field_short_string(&properties.app_id),
-        field_short_string(&properties.cluster_id),
+        Field::ShortUInt(p.bitmask()),
+        field_short_string(&p.content_type),
+        field_short_string(&p.content_encoding),
+        field_table(&p.headers),
+        field_short_short_uint(&p.delivery_mode),
+        field_short_short_uint(&p.priority),
+        field_short_string(&p.correlation_id),
+        field_short_string(&p.reply_to),
+        field_short_string(&p.expiration),
+        field_short_string(&p.message_id),
+        field_long_long_uint(&p.timestamp),
+        field_short_string(&p.kind),
+        field_short_string(&p.user_id),
+        field_short_string(&p.app_id),
+        field_short_string(&p.cluster_id),
     ]
 }
 

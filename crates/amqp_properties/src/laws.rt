@@ -6,11 +6,13 @@ ghost use Rattle.amqp_types.specs.ContentHeaders.{ContentHeadersAreLawful, Spell
 ghost use Rattle.amqp_types.specs.Tidiness.{TidyPropertiesAreDecided, TidyContentHeadersAreDecided};
 
 /// The laws of lists of properties that give one item each, whatever the mask.
+#[tactic(auto, using(amqp_laws::proofs::Options::sets_lawful))]
 pub fn sets_are_lawful()
     ensures { SetsAreLawful }
 {}
 
 /// The laws of the 14 properties and their mask.
+#[tactic(auto, using(amqp_laws::proofs::PropertyLaws::properties_lawful))]
 pub fn properties_are_lawful()
     ensures { PropertiesAreLawful }
 {}
@@ -21,11 +23,13 @@ pub fn spelled_properties_are_bounded()
 {}
 
 /// Properties that programs hold and write are read back.
+#[tactic(auto, using(amqp_laws::proofs::PropertyLaws::properties_read_back))]
 pub fn held_properties_are_read_back()
     ensures { HeldPropertiesAreReadBack }
 {}
 
 /// The laws of the payloads of content headers.
+#[tactic(auto, using(amqp_laws::proofs::HeaderLaws::content_headers_lawful))]
 pub fn content_headers_are_lawful()
     ensures { ContentHeadersAreLawful }
 {}
@@ -36,21 +40,25 @@ pub fn spelled_content_headers_are_bounded()
 {}
 
 /// Content headers that programs hold and write are read back.
+#[tactic(auto, using(amqp_laws::proofs::HeaderLaws::content_headers_read_back))]
 pub fn held_content_headers_are_read_back()
     ensures { HeldContentHeadersAreReadBack }
 {}
 
 /// A test decides which properties are tidy.
+#[tactic(auto, using(amqp_laws::proofs::PropertyTidiness::properties_decided))]
 pub fn tidy_properties_are_decided()
     ensures { TidyPropertiesAreDecided }
 {}
 
 /// A test decides which payloads of content headers are tidy.
+#[tactic(auto, using(amqp_laws::proofs::PropertyTidiness::content_headers_decided))]
 pub fn tidy_content_headers_are_decided()
     ensures { TidyContentHeadersAreDecided }
 {}
 
 /// The payload of a content header shows only faults of what stands inside it.
+#[tactic(auto, using(amqp_laws::proofs::PropertyFaults::content_headers_inside))]
 pub fn content_headers_fail_inside()
     ensures { ContentHeadersFailInside }
 {}

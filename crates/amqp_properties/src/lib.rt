@@ -1,7 +1,7 @@
 //! The 14 properties of a message, and how they are decoded and encoded.
 #![tactic(auto)]
 
-mod equality_laws;
+mod equality;
 mod generation;
 mod held_properties;
 mod laws;
@@ -10,7 +10,7 @@ mod optional_fields;
 mod parsing;
 mod properties;
 
-pub use equality_laws::equal_properties;
+pub use equality::equal_properties;
 pub use generation::{gen_properties, put_properties, size_properties};
 pub use held_properties::properties_held;
 pub use laws::{

@@ -1,4 +1,4 @@
 -- The lemmas of amqp_protocol.
 pub mod Codes
 pub mod PlainLogins
-pub mod Equality
+pub mod EqualClasses

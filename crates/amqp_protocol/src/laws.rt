@@ -25,12 +25,14 @@ use amqp_types::{
 };
 
 /// Codes and errors name each other.
+#[tactic(auto, using(crate::proofs::Codes::codes_are_names))]
 pub fn codes_name_errors()
     ensures { CodesNameErrors }
 {}
 
 /// Two Plain login strings whose user names hold no zero byte are equal exactly where the credentials
 /// are.
+#[tactic(auto, using(crate::proofs::PlainLogins::plain_logins))]
 pub fn plain_logins_name_credentials()
     ensures { PlainLoginsNameCredentials }
 {}

@@ -6,7 +6,7 @@ mod class;
 mod closing;
 pub mod constants;
 mod credentials;
-mod equality_laws;
+mod equality;
 mod errors;
 mod laws;
 pub mod metadata;
@@ -16,7 +16,7 @@ pub use amqp_connection::{access, connection};
 pub use amqp_topology::{exchange, queue};
 pub use class::{AMQPClass, gen_class, parse_class, put_class, size_class};
 pub use credentials::{AMQPUserInfo, Credentials, SASLMechanism};
-pub use equality_laws::{
+pub use equality::{
     equal_classes, equal_credentials, equal_error_kinds, equal_errors, equal_hard_errors,
     equal_mechanisms, equal_soft_errors, equal_user_infos,
 };

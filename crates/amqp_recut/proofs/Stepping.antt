@@ -24,7 +24,7 @@ use Rattle.amqp_turns.specs.Steps.{mark_after, progress_after, progress_marked, 
 use Rattle.amqp_stream.specs.declared.errors.StreamError.{StreamError}
 use Rattle.amqp_stream.specs.Errors.{Cause, faulty, cut_short, turns_spent, read_failed, write_failed, out_of_memory, cause_of}
 use Rattle.amqp_stream.specs.Ends.{Store}
-use Rattle.amqp_stream.specs.Writing.{IsUnwritten, WritesFrame, length_around}
+use Rattle.amqp_stream.specs.Writing.{IsUnwritten, WritesFrame}
 use Rattle.amqp_stream.specs.Streaming.{Ending, finished, refused_by, stopped_by, ending_of, as_run, WritesBy}
 use Rattle.amqp_stream.proofs.Writes.{kept, is_faulty}
 use Rattle.amqp_recut.specs.declared.errors.Refusal.{Refusal}
@@ -215,28 +215,6 @@ passing_cause s raw a b x y out_of_memory steps h = absurd h
 pub passing : (s : Recutter) (raw : Raw) (a b : Store) (x y : List ℕ) (r : Result (Unit {0}) StreamError) → ((frame : Frame) → whole raw ≡ Ok frame → step_recutting s frame ≡ Ok (canon frame, s)) → WritesFrame raw a b x y r → WritesBy recutting s s raw a b x y (ending_of (as_run r))
 passing s raw a b x y (Ok done) steps h = record { bytes = canon h.0; step = record { frame = h.0; is_whole = h.1; at_level = refl; steps = steps h.0 h.1 }; gathered = h.2 }
 passing s raw a b x y (Err error) steps h = passing_cause s raw a b x y (cause_of error) steps h
-
-changing_cause : (s t : Recutter) (raw : Raw) (a b : Store) (x y : List ℕ) (whole_is : Frame) (cause : Cause) → whole raw ≡ Ok whole_is → ((frame : Frame) → whole raw ≡ Ok frame → step_recutting s frame ≡ Ok (canon frame, t)) → IsUnwritten raw a b x y cause → WritesBy recutting s t raw a b x y (stopped_by cause)
-changing_cause s t raw a b x y frame (faulty bad) is steps h = let other : Ok frame ≡ Err bad = sym is ∙ h.0 in absurd cc
-changing_cause s t raw a b x y frame write_failed is steps h = record { bytes = canon h.0; next = t; step = record { frame = h.0; is_whole = h.1; at_level = refl; steps = steps h.0 h.1 }; failed = h.2 }
-changing_cause s t raw a b x y frame cut_short is steps h = absurd h
-changing_cause s t raw a b x y frame turns_spent is steps h = absurd h
-changing_cause s t raw a b x y frame read_failed is steps h = absurd h
-changing_cause s t raw a b x y frame out_of_memory is steps h = absurd h
-
--- a whole frame is written as it is, and something is kept
-pub changing : (s t : Recutter) (raw : Raw) (a b : Store) (x y : List ℕ) (frame : Frame) (r : Result (Unit {0}) StreamError) → whole raw ≡ Ok frame → ((frame : Frame) → whole raw ≡ Ok frame → step_recutting s frame ≡ Ok (canon frame, t)) → WritesFrame raw a b x y r → WritesBy recutting s t raw a b x y (ending_of (as_run r))
-changing s t raw a b x y frame (Ok done) is steps h = record { bytes = canon h.0; step = record { frame = h.0; is_whole = h.1; at_level = refl; steps = steps h.0 h.1 }; gathered = h.2 }
-changing s t raw a b x y frame (Err error) is steps h = changing_cause s t raw a b x y frame (cause_of error) is steps h
-
--- ---- room
-
-pub typed_length : (kind : AMQPFrameType) (n : ℕ) → IsTyped kind → length_around kind n ≡ n + 8
-typed_length kinds.Method n typed = refl
-typed_length kinds.Header n typed = refl
-typed_length kinds.ProtocolHeader n typed = absurd typed
-typed_length kinds.Body n typed = absurd typed
-typed_length kinds.Heartbeat n typed = absurd typed
 
 -- ---- bodies
 

@@ -1,25 +1,46 @@
 -- What the writer returns for a frame, by what its calls return.
-use Rattle.std.proofs.Common.{◌≡◌, ◌≢◌, ℕ, ◌+◌, ◌-◌, ◌*◌, ◌/◌, ◌%◌, ◌≤◌, List, [], ◌++◌, length, drop, refl, sym, ap, subst, ◌∙◌, arith, Err}
-use Rattle.std.proofs.lemmas.List.{length-append}
+use Rattle.std.proofs.Common.{◌≡◌, ◌≢◌, ℕ, ◌+◌, ◌-◌, ◌*◌, ◌/◌, ◌%◌, ◌≤◌, Bool, true, false, eqb, List, [], ◌∷◌, ◌++◌, map, length, drop, refl, sym, ap, ap₂, subst, ◌∙◌, inl, inr, arith, append-nil, Some, None, Ok, Err}
+use Rattle.std.specs.FinMap as finite
+use Rattle.std.proofs.lemmas.Bool.{cases_lt, ne_eqb}
+use Rattle.std.proofs.lemmas.List.{length-append, take_all, drop_all}
+use Rattle.std.proofs.Math.Nat.{div_self}
 use Rattle.std.proofs.lemmas.Nat.{div-add-mod'}
 use Rattle.amqp_types.specs.Levels.{plain}
 use Rattle.amqp_types.specs.Answers.{RefusesWhole}
 use Rattle.amqp_types.specs.declared.errors.ParserError.{ParserError}
 use Rattle.amqp_types.specs.declared.errors.ParserError.TheVariants as parses
-use Rattle.amqp_wire.specs.Frames.{Raw}
+use Rattle.amqp_wire.specs.declared.frame_type.AMQPFrameType.{AMQPFrameType}
+use Rattle.amqp_wire.specs.declared.frame_type.AMQPFrameType.TheVariants as kinds
+use Rattle.amqp_wire.specs.Frames.{Raw, Frame, Body, IsTyped}
+use Rattle.amqp_wire.specs.Canonical.{canon, canon_frames}
 use Rattle.amqp_wire.specs.Judgements.{IsPayloadFault}
-use Rattle.amqp_wire.specs.Verdicts.{whole}
+use Rattle.amqp_wire.specs.Outlines.{outline_of}
+use Rattle.amqp_wire.specs.Verdicts.{whole, whole_as}
+use Rattle.amqp_wire.proofs.Judged.{body_frame}
 use Rattle.amqp_turns.specs.declared.fault.ContentFault.{ContentFault}
 use Rattle.amqp_stream.specs.declared.errors.RunError.{RunError}
 use Rattle.amqp_stream.specs.declared.errors.RunError.TheVariants as runs
 use Rattle.amqp_stream.specs.Errors.{Cause, faulty, cut_short, turns_spent, read_failed, write_failed, out_of_memory, cause_of}
 use Rattle.amqp_stream.specs.Ends.{Store}
+use Rattle.amqp_stream.specs.declared.decision.Decision.{Decision}
+use Rattle.amqp_stream.specs.declared.decision.Decision.TheVariants as decisions
+use Rattle.amqp_stream.specs.declared.errors.StreamError.{StreamError}
+use Rattle.amqp_stream.specs.declared.errors.StreamError.TheVariants as errors
+use Rattle.amqp_stream.specs.Decisions.{IsKept, TakesTo, RefusesTo}
 use Rattle.amqp_stream.specs.Writing.{Keeps, payload_fault}
 use Rattle.amqp_stream.specs.Streaming.{error_ending, stopped_by, WritesBy}
 use Rattle.amqp_stream.proofs.Writes.{IsNone, is_none, refusing, is_faulty, kept}
 use Rattle.amqp_recut.specs.declared.errors.Refusal.{Refusal}
 use Rattle.amqp_recut.specs.declared.recutter.Recutter.{Recutter}
-use Rattle.amqp_recut.specs.Stepping.{recutting, left_over, RefusesFrame}
+use Rattle.amqp_turns.specs.declared.mark.Mark.TheVariants as marks
+use Rattle.amqp_turns.specs.declared.progress.Progress.{Progress}
+use Rattle.amqp_turns.specs.Steps.{progress_after}
+use Rattle.amqp_turns.specs.InTurn.{greatest}
+use Rattle.amqp_recut.specs.Held.{progress_in, kept_in}
+use Rattle.amqp_recut.specs.declared.errors.Refusal.TheVariants as refusals
+use Rattle.amqp_recut.specs.Stepping.{pieces_given, frames_given, recutting, step_recutting, left_over, mark_held, held_at, IsFaultyBy, JudgesWhole, RefusesFrame}
+use Rattle.amqp_recut.proofs.Cutting.{given-more, given-ended, given-nothing}
+use Rattle.amqp_recut.proofs.Stepping.{refused_as, typed_wants, body_ends, body_goes_on}
 
 -- ---- a payload that is none
 
@@ -34,10 +55,100 @@ refuses_faulty raw other error fault h =
     let none = no_frame raw error fault h in
     subst (λ cause. RefusesFrame raw other (stopped_by cause)) none.tells (is_faulty plain raw none.bad none.is_whole none.other)
 
-pub faulty_frame : (s : Recutter) (raw : Raw) (error : ParserError) (a : Store) (x y : List ℕ) → y ≡ x → IsPayloadFault error → RefusesWhole error (whole raw) → WritesBy recutting s s raw a a x y (stopped_by (cause_of (payload_fault error)))
-faulty_frame s raw error a x y same fault h =
-    let none = no_frame raw error fault h in
-    subst (λ cause. WritesBy recutting s s raw a a x y (stopped_by cause)) none.tells (is_faulty plain raw none.bad none.is_whole none.other, kept a x y same, refl)
+pub faulty_by : (raw : Raw) (error : ParserError) → IsPayloadFault error → RefusesWhole error (whole raw) → IsFaultyBy raw (cause_of (payload_fault error))
+faulty_by raw error fault h = let none = no_frame raw error fault h in subst (IsFaultyBy raw) none.tells (is_faulty plain raw none.bad none.is_whole none.other)
+
+-- ---- before anything is written for a frame
+
+-- what the step gives for a whole frame is its canonical bytes
+abbrev pub StepsAs : Recutter → Recutter → Raw → Type 0
+StepsAs s t raw = (frame : Frame) → whole raw ≡ Ok frame → step_recutting s frame ≡ Ok (canon frame, t)
+
+pub judged_takes : (s t u : Recutter) (raw : Raw) (decision : Decision) → u ≡ t → StepsAs s t raw → JudgesWhole raw (Ok decision) → TakesTo recutting s u raw decision
+judged_takes s t u raw (decisions.Kept judged) is steps h = record {
+  is_judged = h;
+  step = record { frame = h.frame; is_whole = h.is; at_level = refl; steps = steps h.frame h.is ∙ ap (λ v. Ok (canon h.frame, v)) (sym is) };
+  compact = refl;
+}
+judged_takes s t u raw decisions.Dropped is steps h = absurd h
+
+faulty_at : (s : Recutter) (raw : Raw) (cause : Cause) (store : Store) (pending : List ℕ) → IsFaultyBy raw cause → WritesBy recutting s s raw store store pending pending (stopped_by cause)
+faulty_at s raw (faulty bad) store pending h = (h, kept store pending pending refl, refl)
+faulty_at s raw cause store pending h = absurd h
+
+pub judged_refuses : (s : Recutter) (raw : Raw) (error : StreamError) → JudgesWhole raw (Err error) → RefusesTo recutting s s raw (runs.Stream error)
+judged_refuses s raw error h = λ store pending. faulty_at s raw (cause_of error) store pending h
+
+pub turn_refuses : (s : Recutter) (raw : Raw) (bad : ContentFault) (error : RunError Refusal) → ((frame : Frame) → whole raw ≡ Ok frame → step_recutting s frame ≡ Err (refusals.BadContent bad)) → RefusesFrame raw bad (error_ending error) → RefusesTo recutting s s raw error
+turn_refuses s raw bad error steps h = λ store pending. refused_as s raw bad (error_ending error) store pending pending refl steps h
+
+-- memory ran out at a method or content header
+pub memory_refuses : (s u : Recutter) (raw : Raw) → IsTyped raw.kind → RefusesTo recutting s u raw (runs.Stream errors.NoMemory)
+memory_refuses s u raw typed = λ store pending. (typed_wants raw.kind typed, kept store pending pending refl)
+
+-- a body that is one piece
+pub body_kept : (s t : Recutter) (raw : Raw) → raw.kind ≡ kinds.Body → step_recutting s (Body raw.channel raw.payload) ≡ Ok (canon (Body raw.channel raw.payload), t) → IsKept recutting s t raw (record { canonical = true; tidy = true })
+unfolding whole_as
+body_kept s t raw is steps =
+    let P : AMQPFrameType → Type 0 = λ k. IsKept recutting s t (record { kind = k; channel = raw.channel; payload = raw.payload }) (record { canonical = true; tidy = true }) in
+    let judged = body_frame raw.channel raw.payload in
+    let own : P kinds.Body = record {
+      is_judged = record { frame = Body raw.channel raw.payload; is = refl; canonical = judged.canonical; tidy = judged.tidy };
+      step = record { frame = Body raw.channel raw.payload; is_whole = refl; at_level = refl; steps = steps };
+      compact = refl;
+    } in
+    subst P (sym is) own
+
+-- the whole of a body that is no longer than a piece
+pub one_piece : (size channel : ℕ) (ends : Bool) (payload : List ℕ) → 1 ≤ size → length payload ≡ size → canon_frames (frames_given size channel ends payload) ≡ canon (Body channel payload)
+one_piece size channel ends payload some full =
+    let none : drop size payload ≡ [] = drop_all size payload (omega (arith, full)) in
+    let pieces : pieces_given size ends payload ≡ payload ∷ [] =
+    given-more size ends payload some (omega (arith, full)) ∙ ap₂ (λ (x : List ℕ) (xs : List (List ℕ)). x ∷ xs) (take_all size payload (omega (arith, full))) (given-nothing size ends (drop size payload) some (ap length none)) in
+    ap (λ (ps : List (List ℕ)). canon_frames (map (λ piece. Body channel piece) ps)) pieces ∙ append-nil (canon (Body channel payload))
+
+pub last_piece : (size channel : ℕ) (payload : List ℕ) → 1 ≤ length payload → length payload ≤ size → canon_frames (frames_given size channel true payload) ≡ canon (Body channel payload)
+last_piece size channel payload some few = elim (cases_lt (length payload) size) [
+  | inl less ↦ ap (λ (ps : List (List ℕ)). canon_frames (map (λ piece. Body channel piece) ps)) (given-ended size payload (omega arith) some less) ∙ append-nil (canon (Body channel payload))
+  | inr full ↦ one_piece size channel true payload (omega arith) (omega (arith, full))
+]
+
+pub none_left : (size : ℕ) (payload : List ℕ) → 1 ≤ size → length payload ≡ size → left_over size payload ≡ []
+none_left size payload some full =
+    let one : length payload / size ≡ 1 = ap (λ n. n / size) full ∙ div_self some in
+    let all : (length payload / size) * size ≡ size = ap (λ k. k * size) one ∙ omega arith in
+    drop_all ((length payload / size) * size) payload (omega (arith, full, all))
+
+-- no bytes
+pub empty_is : (xs : List ℕ) (empty : Bool) → empty ≡ eqb (length xs) 0 → empty ≡ true → xs ≡ []
+empty_is [] empty told is = refl
+empty_is (x ∷ xs) empty told is = absurd (let other = sym is ∙ told ∙ ne_eqb (length (x ∷ xs)) 0 (λ e. absurd (omega (arith, e))) in cc)
+
+pub some_are : (xs : List ℕ) (empty : Bool) → empty ≡ eqb (length xs) 0 → empty ≡ false → 1 ≤ length xs
+some_are [] empty told is = absurd (let other = sym is ∙ told in cc)
+some_are (x ∷ xs) empty told is = omega arith
+
+-- the last body of a message is one piece, and nothing was kept
+pub body_last : (s t : Recutter) (channel : ℕ) (payload : List ℕ) (before after n : ℕ) → marks.Body before after n ≡ mark_held (held_at s channel) (Body channel payload) → None ≡ progress_after greatest (progress_in (held_at s channel)) (outline_of (Body channel payload)) → kept_in (held_at s channel) ≡ [] → 1 ≤ length payload → length payload ≤ s.size → t ≡ record s { messages = finite.remove s.messages channel } → step_recutting s (Body channel payload) ≡ Ok (canon (Body channel payload), t)
+body_last s t channel payload before after n mark none empty some few is =
+    let u : Recutter = record s { messages = finite.remove s.messages channel } in
+    body_ends s channel payload before after n mark none
+    ∙ ap (λ (k : List ℕ). Ok (canon_frames (frames_given s.size channel true (k ++ payload)), u)) empty
+    ∙ ap (λ (bytes : List ℕ). Ok (bytes, u)) (last_piece s.size channel payload some few)
+    ∙ ap (λ v. Ok (canon (Body channel payload), v)) (sym is)
+
+-- a body in the midst of a message is one piece, and nothing was kept
+pub body_midst : (s t : Recutter) (channel : ℕ) (payload : List ℕ) (before after n : ℕ) (progress : Progress) → marks.Body before after n ≡ mark_held (held_at s channel) (Body channel payload) → Some progress ≡ progress_after greatest (progress_in (held_at s channel)) (outline_of (Body channel payload)) → kept_in (held_at s channel) ≡ [] → 1 ≤ length payload → length payload ≡ s.size
+    → t ≡ record s { messages = finite.insert s.messages channel (record { progress = progress; kept = kept_in (held_at s channel) ++ [] }) } → step_recutting s (Body channel payload) ≡ Ok (canon (Body channel payload), t)
+body_midst s t channel payload before after n progress mark some_left empty some full is =
+    let with_kept : List ℕ → Recutter = λ kept. record s { messages = finite.insert s.messages channel (record { progress = progress; kept = kept }) } in
+    let left : left_over s.size (kept_in (held_at s channel) ++ payload) ≡ [] = ap (λ (k : List ℕ). left_over s.size (k ++ payload)) empty ∙ none_left s.size payload (omega (arith, some, full)) full in
+    let state : with_kept [] ≡ t = ap with_kept (sym (ap (λ (k : List ℕ). k ++ []) empty)) ∙ sym is in
+    body_goes_on s channel payload before after n progress mark some_left
+    ∙ ap (λ (k : List ℕ). Ok (canon_frames (frames_given s.size channel false (k ++ payload)), with_kept (left_over s.size (kept_in (held_at s channel) ++ payload)))) empty
+    ∙ ap (λ (bytes : List ℕ). Ok (bytes, with_kept (left_over s.size (kept_in (held_at s channel) ++ payload)))) (one_piece s.size channel false payload (omega (arith, some, full)) full)
+    ∙ ap (λ (kept : List ℕ). Ok (canon (Body channel payload), with_kept kept)) left
+    ∙ ap (λ v. Ok (canon (Body channel payload), v)) state
 
 -- ---- what is pending after an error
 

@@ -8,6 +8,7 @@ use Rattle.amqp_wire.specs.declared.frame_type.AMQPFrameType.TheVariants as kind
 use Rattle.amqp_wire.specs.Frames.{Raw, Frame, Body, channel_id_of}
 use Rattle.amqp_wire.specs.Outlines.{outline_of}
 use Rattle.amqp_wire.specs.Canonical.{canon, canon_frames}
+use Rattle.amqp_wire.specs.Judgements.{IsJudged}
 use Rattle.amqp_wire.specs.Verdicts.{whole}
 use Rattle.amqp_turns.specs.declared.fault.ContentFault.{ContentFault}
 use Rattle.amqp_turns.specs.declared.mark.Mark.{Mark}
@@ -15,7 +16,10 @@ use Rattle.amqp_turns.specs.declared.mark.Mark.TheVariants as marks
 use Rattle.amqp_turns.specs.Messages.{bytes_of}
 use Rattle.amqp_turns.specs.Splits.{pieces}
 use Rattle.amqp_turns.specs.Steps.{mark_after, progress_after}
-use Rattle.amqp_stream.specs.Errors.{faulty}
+use Rattle.amqp_stream.specs.declared.decision.Decision.{Decision}
+use Rattle.amqp_stream.specs.declared.decision.Decision.TheVariants as decisions
+use Rattle.amqp_stream.specs.declared.errors.StreamError.{StreamError}
+use Rattle.amqp_stream.specs.Errors.{Cause, faulty, cause_of}
 use Rattle.amqp_stream.specs.Steps.{Manner}
 use Rattle.amqp_stream.specs.Streaming.{Ending, finished, refused_by, stopped_by}
 use Rattle.amqp_stream.specs.Writing.{IsFaulty}
@@ -88,6 +92,17 @@ step_recutting s frame = step_marked s (held_at s (channel_id_of frame)) frame (
 -- a whole body frame
 abbrev pub body_raw : ℕ → List ℕ → Raw
 body_raw channel payload = record { kind = kinds.Body; channel = channel; payload = payload }
+
+-- a fault of a payload
+abbrev pub IsFaultyBy : Raw → Cause → Type 0
+IsFaultyBy raw (faulty bad) = IsFaulty plain raw bad
+IsFaultyBy raw cause = ⊥
+
+-- A whole frame is kept, as it was judged; or why it is none.
+abbrev pub JudgesWhole : Raw → Result Decision StreamError → Type 0
+JudgesWhole raw (Ok (decisions.Kept judged)) = IsJudged raw judged
+JudgesWhole raw (Ok decisions.Dropped) = ⊥
+JudgesWhole raw (Err error) = IsFaultyBy raw (cause_of error)
 
 -- A frame is refused for this fault, or for a fault of its payload.
 abbrev pub RefusesFrame : Raw → ContentFault → Ending Refusal → Type 0

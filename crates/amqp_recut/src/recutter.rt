@@ -6,11 +6,14 @@ use crate::errors::Refusal;
 use crate::messages::Messages;
 use crate::pieces::{last_of, settle, write_pieces};
 use amqp_stream::{
-    FrameWriter, OutputBuffer, RunError, Sink, StreamError, as_run, payload_error, write_canonical,
+    Decision, FrameWriter, OutputBuffer, RunError, Sink, StreamError, as_run, payload_error,
+    put_decided, write_canonical,
 };
 use amqp_turns::{ContentFault, Mark, Progress, step};
 use amqp_types::{ChannelId, NoMemory};
-use amqp_wire::{AMQPFrameType, AMQPRawFrame, FrameOutline, judge_frame, outline_front};
+use amqp_wire::{
+    AMQPFrameType, AMQPRawFrame, FrameJudgement, FrameOutline, judge_frame, outline_front,
+};
 use std::alloc::Global;
 
 /// Cuts the bodies of messages into pieces of one size, and writes all else as it is.
@@ -29,11 +32,10 @@ impl Recutter {
     ghost use Rattle.amqp_wire.specs.Frames.{Frame, Body, raw_of, IsTyped};
     ghost use Rattle.amqp_wire.specs.Canonical.{canon, canon_frames};
     ghost use Rattle.amqp_wire.specs.Verdicts.{whole};
-    ghost use Rattle.amqp_stream.specs.Ends.{Store};
-    ghost use Rattle.amqp_stream.specs.Writing.{frame_length};
-    ghost use Rattle.amqp_stream.specs.Streaming.{WritesBy, ending_of};
+    ghost use Rattle.amqp_stream.specs.Decisions.{DecidesBy};
+    ghost use Rattle.amqp_stream.specs.Streaming.{WritesBy, ending_of, error_ending};
     ghost use Rattle.amqp_recut.specs.Held.{held_with, set_at, kept_in};
-    ghost use Rattle.amqp_recut.specs.Stepping.{recutting, step_recutting, held_at, frames_given, left_over, body_raw, RefusesFrame};
+    ghost use Rattle.amqp_recut.specs.Stepping.{recutting, step_recutting, held_at, frames_given, left_over, body_raw, JudgesWhole, RefusesFrame};
 
     /// A writer that has taken no frame.
     pub(crate) fn new(alloc: Global, size: u32) -> Recutter
@@ -95,76 +97,112 @@ impl Recutter {
         self.messages.replace(channel_id, progress, kept);
     }
 
-    /// Why a frame that is not in turn is refused: a fault of its payload comes first.
-    fn refuse(raw: AMQPRawFrame<'_>, fault: ContentFault) -> Result<(), RunError<Refusal>>
-        ensures { RefusesFrame (raw_of raw.entry) fault (ending_of result) }
+    /// What is written for a whole frame that is no piece of a body: its canonical bytes.
+    #[inline(always)]
+    fn judge(raw: AMQPRawFrame<'_>) -> Result<Decision, StreamError>
+        ensures { JudgesWhole (raw_of raw.entry) result }
     {
         match judge_frame(raw) {
-            Ok(_) => Err(RunError::Refused(Refusal::BadContent(fault))),
-            Err(error) => Err(RunError::Stream(payload_error(error))),
+            Ok(judged) => Ok(Decision::Kept(judged)),
+            Err(error) => Err(payload_error(error)),
         }
     }
 
-    /// Puts a method or content header that is part of a message after the pending bytes. Where memory runs out, it is
-    /// taken back.
+    /// Why a frame that is not in turn is refused: a fault of its payload comes first.
+    fn refuse(raw: AMQPRawFrame<'_>, fault: ContentFault) -> RunError<Refusal>
+        ensures { RefusesFrame (raw_of raw.entry) fault (error_ending result) }
+    {
+        match judge_frame(raw) {
+            Ok(_) => RunError::Refused(Refusal::BadContent(fault)),
+            Err(error) => RunError::Stream(payload_error(error)),
+        }
+    }
+
+    /// Takes a method or content header that is part of a message.
     #[inline(always)]
-    fn write_part(
+    fn decide_part(
         &mut self,
-        out: &mut OutputBuffer,
         raw: AMQPRawFrame<'_>,
         progress: Option<Progress>,
-    ) -> Result<(), RunError<Refusal>>
+    ) -> Result<Decision, RunError<Refusal>>
         requires typed { IsTyped raw.frame_type }
-        requires few { length raw.payload.now < 2 ^ 32 }
-        requires room { length out.old.bytes + (length raw.payload.now + 8) ≤ out.old.room }
         requires steps { (frame : Frame) → whole (raw_of raw) ≡ Ok frame
             → step_recutting self.old frame ≡ Ok (canon frame, record self.old { messages = set_at self.old.messages raw.channel_id (held_with progress []) }) }
-        ensures room { out.new.room ≡ out.old.room }
-        ensures writes { (store : Store) → WritesBy recutting self.old self.new (raw_of raw.entry) store store out.old.bytes out.new.bytes (ending_of result) }
-        ensures compact { length out.new.bytes ≤ length out.old.bytes + (length raw.entry.payload.now + 8) }
+        ensures { DecidesBy recutting self.old self.new (raw_of raw.entry) result }
     {
-        let pending = out.bytes().len();
-        match out.push_raw(raw) {
-            Err(error) => return Err(RunError::Stream(payload_error(error))),
-            Ok(()) => {}
-        }
-        match self.keep(raw.channel_id, progress) {
-            Ok(()) => Ok(()),
-            Err(_) => {
-                out.truncate(pending);
-                Err(RunError::Stream(StreamError::NoMemory))
-            }
+        match Recutter::judge(raw) {
+            Err(error) => Err(RunError::Stream(error)),
+            Ok(decision) => match self.keep(raw.channel_id, progress) {
+                Err(_) => Err(RunError::Stream(StreamError::NoMemory)),
+                Ok(()) => Ok(decision),
+            },
         }
     }
 
-    /// Gathers a method or content header.
+    /// Takes a method or content header.
     #[inline(always)]
-    fn write_typed<K: Sink>(
-        &mut self,
-        out: &mut OutputBuffer,
-        sink: &mut K,
-        raw: AMQPRawFrame<'_>,
-    ) -> Result<(), RunError<Refusal>>
+    fn decide_typed(&mut self, raw: AMQPRawFrame<'_>) -> Result<Decision, RunError<Refusal>>
         requires typed { IsTyped raw.frame_type }
-        requires few { length raw.payload.now < 2 ^ 32 }
-        requires room { length out.old.bytes + frame_length (raw_of raw) ≤ out.old.room }
-        ensures room { out.new.room ≡ out.old.room }
-        ensures writes { WritesBy recutting self.old self.new (raw_of raw.entry) (K.store sink.old) (K.store sink.new)
-            out.old.bytes out.new.bytes (ending_of result) }
-        ensures compact { length out.new.bytes ≤ length out.old.bytes + frame_length (raw_of raw.entry) }
+        ensures { DecidesBy recutting self.old self.new (raw_of raw.entry) result }
     {
         match outline_front(raw) {
-            None => as_run(write_canonical(out, sink, raw)),
+            // Only a payload that has a fault has no outline.
+            None => match judge_frame(raw) {
+                Err(error) => Err(RunError::Stream(payload_error(error))),
+                Ok(_) => unreachable!(),
+            },
             Some(outline) => {
                 let stepped = step(u64::MAX, self.messages.progress(raw.channel_id), outline);
                 match stepped.0 {
-                    Mark::Fault(fault) => Recutter::refuse(raw, fault),
-                    Mark::Passed => as_run(write_canonical(out, sink, raw)),
-                    Mark::Opening => self.write_part(out, raw, stepped.1),
-                    Mark::Header => self.write_part(out, raw, stepped.1),
-                    Mark::Body { .. } => self.write_part(out, raw, stepped.1),
+                    Mark::Fault(fault) => Err(Recutter::refuse(raw, fault)),
+                    Mark::Passed => match Recutter::judge(raw) {
+                        Ok(decision) => Ok(decision),
+                        Err(error) => Err(RunError::Stream(error)),
+                    },
+                    Mark::Opening => self.decide_part(raw, stepped.1),
+                    Mark::Header => self.decide_part(raw, stepped.1),
+                    Mark::Body { .. } => self.decide_part(raw, stepped.1),
                 }
             }
+        }
+    }
+
+    /// Takes a body that is one piece, where nothing is kept of its message before it; and else leaves it.
+    fn pass_body(&mut self, channel_id: ChannelId, payload: &[u8]) -> bool
+        ensures taken { result ≡ true → step_recutting self.old (Body channel_id payload.now) ≡ Ok (canon (Body channel_id payload.now), self.new) }
+        ensures left { result ≡ false → self.new ≡ self.old }
+    {
+        if payload.is_empty() || payload.len() > self.size {
+            return false;
+        }
+        if !self.messages.kept(channel_id).is_empty() {
+            return false;
+        }
+        let outline = FrameOutline::Body {
+            channel_id,
+            length: payload.len() as u64,
+        };
+        let stepped = step(u64::MAX, self.messages.progress(channel_id), outline);
+        match stepped.0 {
+            Mark::Body { .. } => match stepped.1 {
+                None => {
+                    self.forget(channel_id);
+                    true
+                }
+                Some(progress) => {
+                    if payload.len() < self.size {
+                        return false;
+                    }
+                    match self.append(channel_id, progress, &[]) {
+                        Ok(()) => true,
+                        Err(_) => false,
+                    }
+                }
+            },
+            Mark::Fault(_) => false,
+            Mark::Passed => false,
+            Mark::Opening => false,
+            Mark::Header => false,
         }
     }
 
@@ -303,6 +341,33 @@ impl FrameWriter for Recutter {
 
     ghost manner = { recutting };
 
+    #[inline(always)]
+    fn pass(&mut self, raw: AMQPRawFrame<'_>) -> Result<Option<Decision>, RunError<Refusal>> {
+        match raw.frame_type {
+            AMQPFrameType::ProtocolHeader => match Recutter::judge(raw) {
+                Ok(decision) => Ok(Some(decision)),
+                Err(error) => Err(RunError::Stream(error)),
+            },
+            AMQPFrameType::Heartbeat => match Recutter::judge(raw) {
+                Ok(decision) => Ok(Some(decision)),
+                Err(error) => Err(RunError::Stream(error)),
+            },
+            AMQPFrameType::Method | AMQPFrameType::Header => match self.decide_typed(raw) {
+                Ok(decision) => Ok(Some(decision)),
+                Err(error) => Err(error),
+            },
+            AMQPFrameType::Body => {
+                if self.pass_body(raw.channel_id, raw.payload) {
+                    return Ok(Some(Decision::Kept(FrameJudgement {
+                        canonical: true,
+                        tidy: true,
+                    })));
+                }
+                Ok(None)
+            }
+        }
+    }
+
     fn write_frame<K: Sink>(
         &mut self,
         out: &mut OutputBuffer,
@@ -311,10 +376,15 @@ impl FrameWriter for Recutter {
     ) -> Result<(), RunError<Refusal>> {
         match raw.frame_type {
             AMQPFrameType::ProtocolHeader => as_run(write_canonical(out, sink, raw)),
-            AMQPFrameType::Method => self.write_typed(out, sink, raw),
-            AMQPFrameType::Header => self.write_typed(out, sink, raw),
-            AMQPFrameType::Body => self.write_body(out, sink, raw.channel_id, raw.payload),
             AMQPFrameType::Heartbeat => as_run(write_canonical(out, sink, raw)),
+            AMQPFrameType::Method | AMQPFrameType::Header => match self.decide_typed(raw) {
+                Ok(decision) => {
+                    put_decided(out, raw, decision);
+                    Ok(())
+                }
+                Err(error) => Err(error),
+            },
+            AMQPFrameType::Body => self.write_body(out, sink, raw.channel_id, raw.payload),
         }
     }
 

@@ -1,13 +1,13 @@
 -- Words that are read one after another.
-use Rattle.std.proofs.Common.{◌≡◌, ℕ, ◌+◌, ◌<◌, ◌≤◌, List, [], ◌∷◌, ◌++◌, length, take, drop, get_or, map, Some, None, refl, sym, ap, subst, ◌∙◌, arith}
-use Rattle.std.specs.Prelude.{String, string_bytes}
+use Rattle.std.proofs.Common.{◌≡◌, ℕ, ◌+◌, ◌<◌, ◌≤◌, List, [], ◌∷◌, ◌++◌, length, take, drop, get_or, map, Option, Some, None, refl, sym, ap, subst, ◌∙◌, arith}
+use Rattle.std.specs.Prelude.{String, string_bytes, IfSome}
 use Rattle.std.specs.List.{AllByRecursion}
 use Rattle.std.specs.declared.alloc.Global.{Global}
 use Rattle.std.proofs.lemmas.List.{get_or-map, length-map, map-append, take_more, take-append-drop, take_all, drop_more, length-take-le}
 use Rattle.amqp_select.specs.declared.rule.Rule.{Rule}
 use Rattle.amqp_select.specs.Rules.{IsRule, spelled}
 use Rattle.amqp_select.specs.Reading.{read_rule}
-use Rattle.amqp_select.specs.Refusals.{texts_of, IsRuleWord, Spell, IsFirstMalformed}
+use Rattle.amqp_select.specs.Refusals.{texts_of, IsRuleFor, IsRuleWord, Spell, IsFirstMalformed}
 use Rattle.amqp_select.proofs.Words.{rule_taken, rule_front}
 
 -- the words stand for the rules
@@ -47,6 +47,14 @@ rule_words (rule ∷ rules) all = (record { rule = rule; is_rule = all.0; is = r
 
 unread : (word : List ℕ) → read_rule word ≡ None → IsRuleWord word → ⊥
 unread word e h = let read = ap read_rule h.is ∙ rule_taken h.rule h.is_rule in cc
+
+-- the rule that a word is, and where it is none
+pub rule_read : (word : List ℕ) (result : Option Rule) → result ≡ read_rule word → IfSome result (IsRuleFor word)
+rule_read word None e = tt
+rule_read word (Some rule) e = let front = rule_front word rule (sym e) in (front.is_rule, front.is)
+
+pub none_read : (word : List ℕ) (result : Option Rule) → result ≡ read_rule word → result ≡ None → ¬ IsRuleWord word
+none_read word result e none = unread word (sym e ∙ none)
 
 pub first_malformed : (words : List (String Global)) (place : ℕ) (word : String Global) (rules : List Rule) → 0 < length words → length words ≤ 64 → place < length words → word ≡ get_or words place word → SpelledBy (take place (texts_of words)) rules → read_rule (string_bytes word) ≡ None → IsFirstMalformed (texts_of words) place
 first_malformed words place word rules some few h is so_far e =

@@ -1,5 +1,5 @@
 -- A frame that is kept is written, one that is dropped is decoded.
-use Rattle.std.proofs.Common.{◌≡◌, ℕ, Bool, true, false, List, [], ◌∷◌, ◌++◌, ◌⊎◌, inl, inr, Result, Ok, Err, cond, refl, sym, ap, subst, ◌∙◌}
+use Rattle.std.proofs.Common.{◌≡◌, ℕ, Bool, true, false, List, [], ◌∷◌, ◌++◌, ◌⊎◌, inl, inr, Result, Ok, cond, refl, sym, ap, subst, ◌∙◌}
 use mathlib.Core.Path.{fun_ext}
 use Rattle.std.specs.Prelude.{if◌then◌else◌}
 use Rattle.std.specs.List.{flat_map}
@@ -10,15 +10,15 @@ use Rattle.amqp_wire.specs.Canonical.{canon, canon_frames}
 use Rattle.amqp_wire.specs.declared.outline.FrameOutline.{FrameOutline}
 use Rattle.amqp_wire.specs.Outlines.{outline_of}
 use Rattle.amqp_wire.specs.Verdicts.{whole}
+use Rattle.amqp_wire.specs.declared.judging.FrameJudgement.{FrameJudgement}
+use Rattle.amqp_wire.specs.Judgements.{IsJudged}
 use Rattle.amqp_stream.specs.declared.errors.StreamError.{StreamError}
-use Rattle.amqp_stream.specs.Errors.{Cause, faulty, cut_short, turns_spent, read_failed, write_failed, out_of_memory, cause_of}
 use Rattle.amqp_stream.specs.Ends.{Supply, Store}
-use Rattle.amqp_stream.specs.Writing.{IsUnwritten, WritesFrame}
-use Rattle.amqp_stream.specs.Streaming.{finished, stopped_by, ending_of, as_run, IsStep, WritesBy, Streams, RunNeverBegan}
+use Rattle.amqp_stream.specs.Streaming.{ending_of, as_run, IsStep, Streams, RunNeverBegan}
+use Rattle.amqp_stream.specs.Decisions.{IsKept, IsDropped}
 use Rattle.amqp_stream.specs.Canonicalizing.{Canonicalizes, AnswersExactly}
 use Rattle.amqp_stream.specs.Transcribing.{Transcribes, TranscribesExactly, NeverBegan}
 use Rattle.amqp_stream.proofs.Transcribing.{Transcriber, maps, transcribes, never_began}
-use Rattle.amqp_stream.proofs.Writes.{kept, is_faulty}
 use Rattle.amqp_select.specs.declared.rule.Rule.{Rule}
 use Rattle.amqp_select.specs.declared.selecting.Selector.{Selector}
 use Rattle.amqp_select.specs.Matching as matching
@@ -45,8 +45,8 @@ all_exact rules m bytes k l r all h = subst (λ text. TranscribesExactly text pl
 -- ---- one frame
 
 -- whether the frame that a whole payload is is kept
-abbrev pub IsDecided : Selector → Raw → Bool → Type 0
-IsDecided s raw b = (frame : Frame) → whole raw ≡ Ok frame → b ≡ decides s.rules.now (outline_of frame)
+abbrev pub IsDecision : Selector → Raw → Bool → Type 0
+IsDecision s raw b = (frame : Frame) → whole raw ≡ Ok frame → b ≡ decides s.rules.now (outline_of frame)
 
 drops : (s : Selector) (frame : Frame) → decides s.rules.now (outline_of frame) ≡ false → selected s.rules.now frame ≡ []
 drops s frame e = rw e refl
@@ -54,29 +54,19 @@ drops s frame e = rw e refl
 keeps : (s : Selector) (frame : Frame) → decides s.rules.now (outline_of frame) ≡ true → selected s.rules.now frame ≡ canon frame
 keeps s frame e = rw e refl
 
--- a frame that is dropped is one all the same
-pub dropped : (s : Selector) (raw : Raw) (a : Store) (before : List ℕ) (frame : Frame) (b : Bool) → whole raw ≡ Ok frame → IsDecided s raw b → b ≡ false → WritesBy selecting s s raw a a before before finished
-dropped s raw a before frame b is decided no-keep = record {
-  bytes = [];
-  step = record { frame = frame; is_whole = is; at_level = refl; steps = ap (λ (bytes : List ℕ). Ok (bytes, s)) (drops s frame (sym (decided frame is) ∙ no-keep)) };
-  gathered = kept a before before refl;
-}
-
 -- a frame that is kept
-kept_step : (s : Selector) (raw : Raw) (frame : Frame) (b : Bool) → whole raw ≡ Ok frame → IsDecided s raw b → b ≡ true → IsStep selecting s s raw (canon frame)
+kept_step : (s : Selector) (raw : Raw) (frame : Frame) (b : Bool) → whole raw ≡ Ok frame → IsDecision s raw b → b ≡ true → IsStep selecting s s raw (canon frame)
 kept_step s raw frame b is decided yes-keep = record { frame = frame; is_whole = is; at_level = refl; steps = ap (λ (bytes : List ℕ). Ok (bytes, s)) (keeps s frame (sym (decided frame is) ∙ yes-keep)) }
 
-unwritten : (s : Selector) (raw : Raw) (a b : Store) (before after : List ℕ) (keep : Bool) (cause : Cause) → IsDecided s raw keep → keep ≡ true → IsUnwritten raw a b before after cause → WritesBy selecting s s raw a b before after (stopped_by cause)
-unwritten s raw a b before after keep (faulty bad) decided e h = (is_faulty plain raw bad h.0 h.1, h.2, refl)
-unwritten s raw a b before after keep write_failed decided e h = record { bytes = canon h.0; next = s; step = kept_step s raw h.0 keep h.1 decided e; failed = h.2 }
-unwritten s raw a b before after keep out_of_memory decided e h = absurd h
-unwritten s raw a b before after keep cut_short decided e h = absurd h
-unwritten s raw a b before after keep turns_spent decided e h = absurd h
-unwritten s raw a b before after keep read_failed decided e h = absurd h
+-- before anything is written for it
+pub keeps_frame : {judged : FrameJudgement} (s : Selector) (raw : Raw) (b : Bool) → (h : IsJudged raw judged) → IsDecision s raw b → b ≡ true → IsKept selecting s s raw judged
+keeps_frame s raw b h decided e = record { is_judged = h; step = kept_step s raw h.frame b h.is decided e; compact = refl }
 
-pub written : (s : Selector) (raw : Raw) (a b : Store) (before after : List ℕ) (keep : Bool) (r : Result (Unit {0}) StreamError) → IsDecided s raw keep → keep ≡ true → WritesFrame raw a b before after r → WritesBy selecting s s raw a b before after (ending_of (as_run r))
-written s raw a b before after keep (Ok done) decided e h = record { bytes = canon h.0; step = kept_step s raw h.0 keep h.1 decided e; gathered = h.2 }
-written s raw a b before after keep (Err error) decided e h = unwritten s raw a b before after keep (cause_of error) decided e h
+pub drops_frame : {judged : FrameJudgement} (s : Selector) (raw : Raw) (b : Bool) → IsJudged raw judged → IsDecision s raw b → b ≡ false → IsDropped selecting s s raw
+drops_frame s raw b h decided e = record {
+  step = record { frame = h.frame; is_whole = h.is; at_level = refl; steps = ap (λ (bytes : List ℕ). Ok (bytes, s)) (drops s h.frame (sym (decided h.frame h.is) ∙ e)) };
+  compact = refl;
+}
 
 -- ---- a stream
 

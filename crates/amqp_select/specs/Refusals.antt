@@ -12,6 +12,10 @@ use Rattle.amqp_select.specs.Rules.{IsRule, spelled}
 abbrev pub texts_of : List (String Global) → List (List ℕ)
 texts_of words = map (λ word. string_bytes word) words
 
+-- the word stands for this rule
+abbrev pub IsRuleFor : List ℕ → Rule → Type 0
+IsRuleFor word rule = IsRule rule × (word ≡ spelled rule)
+
 -- a word that stands for a rule
 pub record IsRuleWord (word : List ℕ) : Type 0 where
   pub rule : Rule

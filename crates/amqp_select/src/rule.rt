@@ -1,15 +1,16 @@
 //! A rule: which frames it speaks of, and whether they are kept.
 
-ghost use Rattle.std.specs.Prelude.{◌≡◌, true, IsTrue};
+ghost use Rattle.std.specs.Prelude.{◌≡◌, true, None, IfSome, IsTrue};
 ghost use Rattle.amqp_select.specs.Matching.{contains, has_class, has_method, is_of_kind};
 ghost use Rattle.amqp_select.specs.Covering.{ends, includes};
 
+use crate::parsing::read_rule;
 use amqp_types::{ChannelId, Identifier};
 use amqp_wire::{AMQPFrameType, FrameOutline};
 
 /// The channels that a rule speaks of.
 #[derive(Clone, Copy, Debug, PartialEq, Eq)]
-pub(crate) enum Span {
+pub enum Span {
     /// One channel.
     One(ChannelId),
 
@@ -50,7 +51,7 @@ impl Span {
 
 /// Keeps or drops the frames for which each part that is there holds.
 #[derive(Clone, Copy, Debug, PartialEq, Eq)]
-pub(crate) struct Rule {
+pub struct Rule {
     /// Whether the frames that the rule matches are kept, or dropped.
     pub keep: bool,
 
@@ -103,9 +104,18 @@ fn has_method(id: Identifier, outline: FrameOutline) -> bool
 }
 
 impl Rule {
+    ghost use Rattle.amqp_select.specs.Refusals.{IsRuleFor, IsRuleWord};
     ghost use Rattle.amqp_select.specs.Matching.{matches};
     ghost use Rattle.amqp_select.specs.Covering.{covers};
     ghost use Rattle.amqp_wire.specs.declared.outline.FrameOutline.{FrameOutline};
+
+    /// The rule that a word is, as `drop,channel=1-5,kind=body`. No memory is taken.
+    pub fn parse(word: &[u8]) -> Option<Rule>
+        ensures rule { IfSome result (IsRuleFor word.now) }
+        ensures none { result ≡ None → ¬ IsRuleWord word.now }
+    {
+        read_rule(word)
+    }
 
     /// Whether each part holds for the frame.
     pub fn matches(&self, outline: FrameOutline) -> bool

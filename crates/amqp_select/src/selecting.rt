@@ -7,12 +7,13 @@ ghost use Rattle.amqp_wire.specs.Frames.{Frame, raw_of};
 ghost use Rattle.amqp_wire.specs.Outlines.{outline_of};
 ghost use Rattle.amqp_wire.specs.Verdicts.{whole};
 ghost use Rattle.amqp_select.specs.Matching.{decides};
-ghost use Rattle.amqp_select.specs.Selecting.{selection};
+ghost use Rattle.amqp_stream.specs.Decisions.{DecidesBy};
+ghost use Rattle.amqp_select.specs.Selecting.{selection, selecting};
 
 use crate::rules::Rules;
 use amqp_stream::{
-    FrameWriter, OutputBuffer, RunError, Sink, Source, StreamError, as_run, canonicalize,
-    payload_error, run_stream, unrefused, write_canonical,
+    Decision, FrameWriter, OutputBuffer, RunError, Sink, Source, StreamError, canonicalize,
+    payload_error, put_decided, run_stream, unrefused,
 };
 use amqp_types::ChunkSize;
 use amqp_wire::{AMQPRawFrame, judge_frame, outline_front};
@@ -39,6 +40,19 @@ impl<'a> Selector<'a> {
             None => false,
         }
     }
+
+    /// What is written for a borrowed frame. One that is dropped is decoded all the same.
+    #[inline(always)]
+    fn decide(&self, raw: AMQPRawFrame<'_>) -> Result<Decision, RunError<Infallible>>
+        ensures { DecidesBy selecting self.now self.now (raw_of raw.entry) result }
+    {
+        let keeps = self.keeps(raw);
+        match judge_frame(raw) {
+            Ok(judged) if keeps => Ok(Decision::Kept(judged)),
+            Ok(_) => Ok(Decision::Dropped),
+            Err(error) => Err(RunError::Stream(payload_error(error))),
+        }
+    }
 }
 
 impl<'a> FrameWriter for Selector<'a> {
@@ -48,18 +62,26 @@ impl<'a> FrameWriter for Selector<'a> {
 
     ghost manner = { selecting };
 
+    #[inline(always)]
+    fn pass(&mut self, raw: AMQPRawFrame<'_>) -> Result<Option<Decision>, RunError<Infallible>> {
+        match self.decide(raw) {
+            Ok(decision) => Ok(Some(decision)),
+            Err(error) => Err(error),
+        }
+    }
+
     fn write_frame<K: Sink>(
         &mut self,
         out: &mut OutputBuffer,
-        sink: &mut K,
+        _sink: &mut K,
         raw: AMQPRawFrame<'_>,
     ) -> Result<(), RunError<Infallible>> {
-        if self.keeps(raw) {
-            return as_run(write_canonical(out, sink, raw));
-        }
-        match judge_frame(raw) {
-            Ok(_) => Ok(()),
-            Err(error) => Err(RunError::Stream(payload_error(error))),
+        match self.decide(raw) {
+            Ok(decision) => {
+                put_decided(out, raw, decision);
+                Ok(())
+            }
+            Err(error) => Err(error),
         }
     }
 

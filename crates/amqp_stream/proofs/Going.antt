@@ -168,13 +168,12 @@ pub frame_fits : (m : ℕ) (held : List ℕ) (raw : Raw) (n : ℕ) → outer (So
 frame_fits m held raw n found = around_fits raw.kind (length raw.payload) n (outer-in_bounds (Some m) held raw n found).least (λ e. outer-beside (Some m) held raw n found e)
 
 -- a frame that lies at the front of what is held is used, and what is written for it was gathered
-pub Going-frame : {S E : Type 0} {r : Start S E} {u v : S} {left : ℕ} {b : Supply} {l l' : Store} {held before after : List ℕ} {layout : FrameLayout} → Going r u left b l held before → Lies r.m held layout → Writes r.w u v (laid_out layout held) l l' before after → (IsTrue r.w.compact → length after ≤ length before + frame_length (laid_out layout held)) → Going r v left b l' (drop layout.frame_len held) after
+pub Going-frame : {S E : Type 0} {r : Start S E} {u v : S} {left : ℕ} {b : Supply} {l l' : Store} {held before after : List ℕ} {layout : FrameLayout} → Going r u left b l held before → Lies r.m held layout → Writes r.w u v (laid_out layout held) l l' before after → (IsTrue r.w.compact → length after ≤ length before + layout.frame_len) → Going r v left b l' (drop layout.frame_len held) after
 Going-frame {r = r} {l = l} {l' = l'} {held = held} {before = before} {after = after} {layout = layout} g lies w compact =
     let n = layout.frame_len in
     let k = w.gathered in
     let all : take n held ++ drop n held ≡ held = take-append-drop n held in
     let rest : (g.since ++ take n held) ++ drop n held ≡ g.since ++ held = append_assoc g.since (take n held) (drop n held) ∙ ap (λ (xs : List ℕ). g.since ++ xs) all in
-    let long = frame_fits r.m held (laid_out layout held) n lies.found in
     record {
       used = g.used;
       text = g.text;
@@ -188,7 +187,7 @@ Going-frame {r = r} {l = l} {l' = l'} {held = held} {before = before} {after = a
       parts = append_assoc g.written k.written after ∙ ap (λ (xs : List ℕ). g.written ++ xs) k.parts ∙ sym (append_assoc g.written before w.bytes) ∙ ap (λ (xs : List ℕ). xs ++ w.bytes) g.parts;
       taken = Taken-as (ap (λ (xs : List ℕ). g.used ++ xs) (sym rest)) g.taken;
       room = omega (arith, g.room, ap length rest);
-      compact = λ is. omega (arith, g.compact is, compact is, long, lies.inside, ap length all, length-append (take n held) (drop n held), length-drop n held, length-append g.since (take n held));
+      compact = λ is. omega (arith, g.compact is, compact is, lies.inside, ap length all, length-append (take n held) (drop n held), length-drop n held, length-append g.since (take n held));
     }
 
 -- what is pending for a compact writer and the next frame fit a buffer for the largest frame

@@ -6,11 +6,13 @@ pub mod Writes
 pub mod Passing
 pub mod Going
 pub mod Finishing
+pub mod Standing
 pub mod Turning
 pub mod Exactly
 pub mod Transcribing
 pub mod Tidying
 pub mod Putting
+pub mod Deciding
 pub mod Flushes
 pub mod MadeSizes
 pub mod MadeSequences

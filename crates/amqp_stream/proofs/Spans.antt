@@ -48,3 +48,7 @@ part-part xs s e from len g h =
 -- the same of a copy of the whole
 pub part-frame : (xs ys : List ℕ) (s e from len : ℕ) → ys ≡ xs → s ≤ e → from + len ≤ e - s → take ((s + from + len) - (s + from)) (drop (s + from) ys) ≡ take len (drop from (take (e - s) (drop s xs)))
 part-frame xs ys s e from len same g h = ap (λ (zs : List ℕ). take ((s + from + len) - (s + from)) (drop (s + from) zs)) same ∙ part-part xs s e from len g h
+
+-- a part after the first bytes, of a copy of the whole
+pub part-behind : (xs ys : List ℕ) (passed from len : ℕ) → xs ≡ ys → take ((passed + from + len) - (passed + from)) (drop (passed + from) xs) ≡ take len (drop from (drop passed ys))
+part-behind xs ys passed from len same = ap (λ k. take k (drop (passed + from) xs)) {x = (passed + from + len) - (passed + from)} {y = len} (omega arith) ∙ ap (take len) (sym (drop-drop from passed xs)) ∙ ap (λ (zs : List ℕ). take len (drop from (drop passed zs))) same

@@ -84,6 +84,20 @@ flush_failed a b before after bytes e none f = gather_fails bytes f refl none
 pub all_but : {a b : Store} {bytes before after all : List ℕ} {u : Unit {0}} → WritesAll a b bytes (Ok u) → bytes ++ after ≡ before ++ all → Gathered a b before after all
 all_but {a = a} {b = b} f same = record { written = f.piece; gains = f.gains; parts = ap (λ (xs : List ℕ). xs ++ _) f.ok ∙ same }
 
+-- bytes were gathered, and then all that was pending was written
+pub gathered_flushed : {a b c : Store} {before mid bytes : List ℕ} {r : Result (Unit {0}) SinkFault} → Gathered a b before mid bytes → WritesAll b c mid r → WritesAll a c (before ++ bytes) r
+gathered_flushed {a = a} {b = b} {c = c} {mid = mid} {r = r} g f =
+    let front : WritesAll a b g.written (Ok tt) = record { piece = g.written; gains = g.gains; prefix = ([], append-nil g.written); ok = refl; err = tt } in
+    subst (λ (xs : List ℕ). WritesAll a c xs r) g.parts (WritesAll-then a b c g.written mid tt r front f)
+
+-- a part of the front of them all was written
+pub gather_failed : {a b : Store} {before after bytes : List ℕ} (e : SinkFault) → GatherFails a b before after bytes → WritesAll a b (before ++ bytes) (Err e)
+gather_failed e f = record { piece = f.piece; gains = f.gains; prefix = f.prefix; ok = tt; err = f.rises }
+
+-- bytes that were gathered were pending before, too
+pub settled : {a b : Store} {before mid bytes : List ℕ} → Gathered a b before mid bytes → Keeps a b (before ++ bytes) mid
+settled {before = before} {bytes = bytes} g = record { written = g.written; gains = g.gains; parts = g.parts ∙ sym (append-nil (before ++ bytes)) }
+
 -- ---- the canonical bytes of a frame
 
 pub wrote : (raw : Raw) (a b : Store) (before after bytes : List ℕ) (f : Frame) (r : Result (Unit {0}) SinkFault) → whole raw ≡ Ok f → bytes ≡ canon f → Gathers a b before after bytes r → WritesFrame raw a b before after (stream_result r)

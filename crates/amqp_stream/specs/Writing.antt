@@ -1,5 +1,5 @@
 -- What calls write, and what is pending after them.
-use Rattle.std.specs.Prelude.{◌≡◌, ◌≢◌, ℕ, ◌+◌, true, List, [], ◌++◌, length, Result, Ok, Err, OnOk, OnErr}
+use Rattle.std.specs.Prelude.{◌≡◌, ◌≢◌, ℕ, ◌+◌, List, [], ◌++◌, length, Result, Ok, Err, OnOk, OnErr}
 use Rattle.amqp_types.specs.Levels.{Level, plain, tidy, strict}
 use Rattle.amqp_types.specs.Judging.{Fault, not_tidy, fault, took}
 use Rattle.amqp_types.specs.declared.errors.ParserError.{ParserError}
@@ -7,7 +7,7 @@ use Rattle.amqp_types.specs.declared.errors.ParserError.TheVariants as parser_er
 use Rattle.amqp_wire.specs.declared.frame_type.AMQPFrameType.{AMQPFrameType}
 use Rattle.amqp_wire.specs.declared.frame_type.AMQPFrameType.TheVariants as kinds
 use Rattle.amqp_wire.specs.Frames.{Raw, Frame}
-use Rattle.amqp_wire.specs.Verdicts.{whole, is_at, judged}
+use Rattle.amqp_wire.specs.Verdicts.{whole, judged}
 use Rattle.amqp_wire.specs.Canonical.{canon}
 use Rattle.amqp_stream.specs.declared.errors.StreamError.{StreamError}
 use Rattle.amqp_stream.specs.declared.errors.StreamError.TheVariants as errors
@@ -103,13 +103,3 @@ IsUnwritten raw old new before after cause = ⊥
 abbrev pub WritesFrame : Raw → Store → Store → List ℕ → List ℕ → Result (Unit {0}) StreamError → Type 0
 WritesFrame raw old new before after (Ok done) = (frame : Frame) × (whole raw ≡ Ok frame) × Gathered old new before after (canon frame)
 WritesFrame raw old new before after (Err error) = IsUnwritten raw old new before after (cause_of error)
-
--- why no method or content header was put at a level: a fault, and nothing more is pending
-abbrev pub IsUnread : Level → Raw → Store → Store → List ℕ → List ℕ → Cause → Type 0
-IsUnread level raw old new before after (faulty bad) = IsFaulty level raw bad × Keeps old new before after
-IsUnread level raw old new before after cause = ⊥
-
--- the canonical bytes of a method or content header at a level were put after the pending ones, or it is reported why not
-abbrev pub PutsTyped : Level → Raw → Store → Store → List ℕ → List ℕ → Result (Unit {0}) StreamError → Type 0
-PutsTyped level raw old new before after (Ok done) = (frame : Frame) × (whole raw ≡ Ok frame) × (is_at level raw ≡ true) × Gathered old new before after (canon frame)
-PutsTyped level raw old new before after (Err error) = IsUnread level raw old new before after (cause_of error)

@@ -1,15 +1,24 @@
 //! The one loop that reads frames and writes for each.
 
-ghost use Rattle.std.specs.Prelude.{◌≡◌, ◌+◌, ◌≤◌, [], zero, Err};
+ghost use Rattle.std.specs.Prelude.{◌≡◌, ◌+◌, ◌≤◌, [], length, drop, zero, Ok, Err, IsTrue};
+ghost use Rattle.amqp_types.specs.Judging.{IsBytes};
+ghost use Rattle.amqp_wire.specs.Looks.{laid_out};
+ghost use Rattle.amqp_stream.specs.Reading.{Lies};
+ghost use Rattle.amqp_stream.specs.Writing.{frame_length};
 ghost use Rattle.amqp_stream.specs.Streaming.{Streams, ending_of, end_with};
+ghost use Rattle.amqp_stream.specs.Decisions.{PassesBy};
+ghost use Rattle.amqp_stream.specs.Taking.{TakesFrame};
 
+use crate::decision::{Decision, is_dropped, put_decided, stands};
 use crate::errors::{RunError, StreamError};
 use crate::frame_writer::FrameWriter;
-use crate::output::{flush, stop};
+use crate::output::{gather_stretch, stop, stop_after, write_after};
 use crate::output_buffer::OutputBuffer;
 use crate::reader::FrameReader;
 use crate::sink::Sink;
 use crate::source::Source;
+use crate::stretch::Stretch;
+use amqp_wire::FrameLayout;
 
 /// The result at the end of input: bytes that are held are cut short.
 fn end_of_input<W: FrameWriter>(
@@ -27,8 +36,90 @@ fn end_of_input<W: FrameWriter>(
     }
 }
 
+/// Gathers the stretch, and then what is written for the frame after it, of which this was decided. Nothing has passed
+/// then. It is no part of the loop's code, which is for frames that stand.
+#[inline(never)]
+fn write_decided<W: FrameWriter, K: Sink>(
+    reader: &mut FrameReader,
+    out: &mut OutputBuffer,
+    writer: &mut W,
+    sink: &mut K,
+    stretch: Stretch,
+    layout: FrameLayout,
+    decision: Option<Decision>,
+) -> Result<Stretch, RunError<W::Refusal>>
+    requires within { stretch.len ≤ length reader.old.held }
+    requires lies { Lies reader.old.limit (drop stretch.len reader.old.held) layout }
+    requires room { IsTrue W.manner.compact → length out.old.bytes + stretch.len + frame_length (laid_out layout (drop stretch.len reader.old.held)) ≤ out.old.room }
+    requires decided { (s : W) × PassesBy W.manner s writer.old (laid_out layout (drop stretch.len reader.old.held)) (Ok decision) }
+    ensures limit { reader.new.limit ≡ reader.old.limit }
+    ensures room { out.new.room ≡ out.old.room }
+    ensures takes { (s : W) → PassesBy W.manner s writer.old (laid_out layout (drop stretch.len reader.old.held)) (Ok decision)
+        → TakesFrame W.manner s writer.new layout (K.store sink.old) (K.store sink.new)
+        reader.old.held reader.new.held out.old.bytes out.new.bytes stretch result }
+{
+    match gather_stretch(out, sink, reader.front(stretch.len), stretch.has_large()) {
+        Err(_) => return Err(RunError::Stream(StreamError::WriteFault)),
+        Ok(()) => {}
+    }
+    let raw = reader.frame_after(stretch.len, layout);
+    let used = stretch.len + layout.frame_len;
+    match decision {
+        Some(decision) => {
+            put_decided(out, raw, decision);
+            reader.skip(used);
+            Ok(Stretch::empty())
+        }
+        None => match writer.write_frame(out, sink, raw) {
+            Err(error) => Err(stop(out, sink, error)),
+            Ok(()) => {
+                reader.skip(used);
+                Ok(Stretch::empty())
+            }
+        },
+    }
+}
+
+/// Takes the frame that lies after the stretch, and returns the stretch after it. A frame that stands lengthens it. At an
+/// error all that was gathered is written.
+#[inline(always)]
+fn take_frame<W: FrameWriter, K: Sink>(
+    reader: &mut FrameReader,
+    out: &mut OutputBuffer,
+    writer: &mut W,
+    sink: &mut K,
+    stretch: Stretch,
+    layout: FrameLayout,
+) -> Result<Stretch, RunError<W::Refusal>>
+    requires within { stretch.len ≤ length reader.old.held }
+    requires bytes { IsBytes reader.old.held }
+    requires lies { Lies reader.old.limit (drop stretch.len reader.old.held) layout }
+    requires room { IsTrue W.manner.compact → length out.old.bytes + stretch.len + frame_length (laid_out layout (drop stretch.len reader.old.held)) ≤ out.old.room }
+    ensures limit { reader.new.limit ≡ reader.old.limit }
+    ensures room { out.new.room ≡ out.old.room }
+    ensures takes { TakesFrame W.manner writer.old writer.new layout (K.store sink.old) (K.store sink.new)
+        reader.old.held reader.new.held out.old.bytes out.new.bytes stretch result }
+{
+    match writer.pass(reader.frame_after(stretch.len, layout)) {
+        Err(error) => {
+            let bytes = reader.front(stretch.len);
+            Err(stop_after(out, sink, bytes, stretch.has_large(), error))
+        }
+        Ok(decision) => {
+            if stands(decision) {
+                return Ok(stretch.with(layout));
+            }
+            if stretch.len == 0 && is_dropped(decision) {
+                reader.skip(layout.frame_len);
+                return Ok(stretch);
+            }
+            write_decided(reader, out, writer, sink, stretch, layout, decision)
+        }
+    }
+}
+
 /// Writes for each frame that is read, to the end of input. What is pending is written before each
-/// read, and at the end.
+/// read, and at the end; frames that stand are written from where they lie.
 pub(crate) fn run_with<W: FrameWriter, S: Source, K: Sink>(
     reader: &mut FrameReader,
     out: &mut OutputBuffer,
@@ -49,22 +140,29 @@ pub(crate) fn run_with<W: FrameWriter, S: Source, K: Sink>(
 {
     out.clear();
     let mut left = turns;
+    let mut stretch = Stretch::empty();
     'frames: loop {
-        match reader.buffered() {
-            Err(error) => return stop(out, sink, RunError::Stream(StreamError::from(error))),
-            Ok(Some(layout)) => {
-                match writer.write_frame(out, sink, reader.frame(layout)) {
-                    Err(error) => return stop(out, sink, error),
-                    Ok(()) => reader.consume(layout),
-                }
-                continue;
+        match reader.buffered_after(stretch.len) {
+            Err(error) => {
+                let error = RunError::Stream(StreamError::from(error));
+                let bytes = reader.front(stretch.len);
+                return Err(stop_after(out, sink, bytes, stretch.has_large(), error));
             }
+            Ok(Some(layout)) => match take_frame(reader, out, writer, sink, stretch, layout) {
+                Err(error) => return Err(error),
+                Ok(longer) => {
+                    stretch = longer;
+                    continue;
+                }
+            },
             Ok(None) => {}
         }
-        match flush(out, sink) {
+        match write_after(out, sink, reader.front(stretch.len), stretch.has_large()) {
             Err(_) => return Err(RunError::Stream(StreamError::WriteFault)),
             Ok(()) => {}
         }
+        reader.skip(stretch.len);
+        stretch = Stretch::empty();
         if left == 0 {
             return Err(RunError::Stream(StreamError::TurnsSpent));
         }

@@ -5,7 +5,9 @@ ghost use Rattle.amqp_wire.specs.Frames.{raw_of};
 ghost use Rattle.amqp_stream.specs.Writing.{frame_length};
 ghost use Rattle.amqp_stream.specs.Steps.{Manner};
 ghost use Rattle.amqp_stream.specs.Streaming.{WritesBy, ending_of, end_result};
+ghost use Rattle.amqp_stream.specs.Decisions.{PassesBy};
 
+use crate::decision::Decision;
 use crate::errors::RunError;
 use crate::output_buffer::OutputBuffer;
 use crate::sink::Sink;
@@ -20,6 +22,15 @@ pub trait FrameWriter {
     /// How the writer writes: the level that frames are read at, the step from frame to frame, where
     /// the stream may end, where memory may run out, and whether it is compact.
     ghost manner: { Manner Self Self.Refusal };
+
+    /// Takes a borrowed frame without writing, where its canonical bytes are to be written, or nothing; and else
+    /// leaves it to `write_frame`. Where it refuses one, `write_frame` would.
+    fn pass(&mut self, raw: AMQPRawFrame<'_>) -> Result<Option<Decision>, RunError<Self::Refusal>>
+        requires few { length raw.payload.now < 2 ^ 32 }
+        ensures passes { PassesBy manner self.old self.new (raw_of raw.entry) result }
+    {
+        Ok(None)
+    }
 
     /// Gathers what is written for a borrowed frame.
     fn write_frame<K: Sink>(

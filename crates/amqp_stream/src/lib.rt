@@ -5,6 +5,7 @@ mod buffer;
 mod canonical;
 mod codec;
 mod count_sink;
+mod decision;
 mod engine;
 mod equality;
 mod errors;
@@ -18,10 +19,12 @@ mod sink;
 mod sinks;
 mod source;
 mod sources;
+mod stretch;
 
 pub use canonical::{Canonical, TidyCanonical, as_run, unrefused};
 pub use codec::{Codec, canonicalize, canonicalize_in, run_stream};
 pub use count_sink::CountSink;
+pub use decision::{Decision, put_decided};
 pub use equality::{
     equal_read_errors, equal_sink_faults, equal_source_faults, equal_stream_errors,
 };

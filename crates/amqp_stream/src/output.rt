@@ -1,11 +1,12 @@
 //! Writing: all of some bytes, what is pending, and the canonical bytes of a frame.
 
-ghost use Rattle.std.specs.Prelude.{◌≡◌, ◌+◌, ◌++◌, ◌^◌, ◌<◌, ◌≤◌, [], length, Ok};
-ghost use Rattle.amqp_types.specs.Levels.{tidy};
+ghost use Rattle.std.specs.Prelude.{◌≡◌, ◌+◌, ◌++◌, ◌^◌, ◌<◌, ◌≤◌, [], length, Ok, Err};
 ghost use Rattle.amqp_wire.specs.Frames.{raw_of, IsTyped};
 ghost use Rattle.amqp_wire.specs.Spelling.{framed};
-ghost use Rattle.amqp_wire.specs.Verdicts.{IsPayloadError};
-ghost use Rattle.amqp_stream.specs.Writing.{WritesAll, WritesFrame, PutsTyped, Gathers, stream_result, payload_fault, frame_length};
+ghost use Rattle.amqp_wire.specs.Verdicts.{IsPayloadError, whole};
+ghost use Rattle.amqp_wire.specs.Judgements.{IsJudged};
+ghost use Rattle.amqp_stream.specs.Writing.{WritesAll, WritesFrame, Gathers, stream_result, payload_fault, frame_length};
+ghost use Rattle.amqp_stream.specs.Buffers.{Adds};
 ghost use Rattle.amqp_stream.specs.Ends.{Store};
 ghost use Rattle.amqp_stream.specs.Streaming.{EndsWith};
 ghost use Rattle.amqp_types.specs.Constants.{body_byte};
@@ -15,8 +16,8 @@ use crate::output_buffer::OutputBuffer;
 use crate::sink::{Sink, SinkFault};
 use amqp_types::{ChannelId, FRAME_BODY, FRAME_END, ParserError};
 use amqp_wire::{
-    AMQPFrameType, AMQPRawFrame, ProtocolVersion, frame_head, header_bytes, heartbeat_bytes,
-    is_tidy,
+    AMQPFrameType, AMQPRawFrame, FrameJudgement, ProtocolVersion, frame_head, header_bytes,
+    heartbeat_bytes,
 };
 
 /// Bodies up to this size are pending with the small frames; larger ones are written from where they
@@ -67,6 +68,52 @@ pub fn gather<K: Sink>(out: &mut OutputBuffer, sink: &mut K, bytes: &[u8]) -> Re
     }
 }
 
+/// Writes what is pending, and then these bytes. Nothing is pending afterwards, also where a write failed. Bytes that
+/// are not worth a write of their own are written together with what is pending.
+pub(crate) fn write_after<K: Sink>(
+    out: &mut OutputBuffer,
+    sink: &mut K,
+    bytes: &[u8],
+    worth: bool,
+) -> Result<(), SinkFault>
+    ensures written { WritesAll (K.store sink.old) (K.store sink.new) (out.old.bytes ++ bytes.now) result }
+    ensures empty { out.new ≡ record { room = out.old.room; bytes = [] } }
+    ensures nothing { out.old.bytes ≡ [] → bytes.now ≡ [] → (result ≡ Ok tt) × (sink.new ≡ sink.old) }
+{
+    if bytes.is_empty() {
+        return flush(out, sink);
+    }
+    if !worth && !out.bytes().is_empty() {
+        match gather(out, sink, bytes) {
+            Err(fault) => return Err(fault),
+            Ok(()) => return flush(out, sink),
+        }
+    }
+    match flush(out, sink) {
+        Err(fault) => Err(fault),
+        Ok(()) => write_all(sink, bytes),
+    }
+}
+
+/// Gathers bytes: those that are worth a write of their own are written from where they lie.
+pub(crate) fn gather_stretch<K: Sink>(
+    out: &mut OutputBuffer,
+    sink: &mut K,
+    bytes: &[u8],
+    worth: bool,
+) -> Result<(), SinkFault>
+    ensures room { out.new.room ≡ out.old.room }
+    ensures gathers { Gathers (K.store sink.old) (K.store sink.new) out.old.bytes out.new.bytes bytes.now result }
+{
+    if bytes.is_empty() {
+        return Ok(());
+    }
+    if worth {
+        return write_after(out, sink, bytes, true);
+    }
+    gather(out, sink, bytes)
+}
+
 /// Puts a body frame after the pending bytes.
 fn push_body(out: &mut OutputBuffer, channel_id: ChannelId, payload: &[u8])
     requires few { length payload.now < 2 ^ 32 }
@@ -115,18 +162,35 @@ fn as_stream(written: Result<(), SinkFault>) -> Result<(), StreamError>
     }
 }
 
-/// Writes what is pending, and ends with an error.
+/// Writes what is pending, and returns the error that a run ends with: this one, where it could be written.
 pub(crate) fn stop<K: Sink, R: Drop>(
     out: &mut OutputBuffer,
     sink: &mut K,
     error: RunError<R>,
-) -> Result<(), RunError<R>>
+) -> RunError<R>
     ensures room { out.new.room ≡ out.old.room }
-    ensures ends { EndsWith (K.store sink.old) (K.store sink.new) out.old.bytes error result }
+    ensures ends { EndsWith (K.store sink.old) (K.store sink.new) out.old.bytes error (Err result) }
 {
     match flush(out, sink) {
-        Ok(()) => Err(error),
-        Err(_) => Err(RunError::Stream(StreamError::WriteFault)),
+        Ok(()) => error,
+        Err(_) => RunError::Stream(StreamError::WriteFault),
+    }
+}
+
+/// The same of what is pending, and then these bytes.
+pub(crate) fn stop_after<K: Sink, R: Drop>(
+    out: &mut OutputBuffer,
+    sink: &mut K,
+    bytes: &[u8],
+    worth: bool,
+    error: RunError<R>,
+) -> RunError<R>
+    ensures room { out.new.room ≡ out.old.room }
+    ensures ends { EndsWith (K.store sink.old) (K.store sink.new) (out.old.bytes ++ bytes.now) error (Err result) }
+{
+    match write_after(out, sink, bytes, worth) {
+        Ok(()) => error,
+        Err(_) => RunError::Stream(StreamError::WriteFault),
     }
 }
 
@@ -168,27 +232,6 @@ fn write_typed(out: &mut OutputBuffer, raw: AMQPRawFrame<'_>) -> Result<(), Stre
     }
 }
 
-/// Puts the canonical bytes of a method or content header after the pending ones, where it is tidy.
-#[tactic(auto, using(crate::proofs::Tidying::tidy_refused, crate::proofs::Tidying::untidy, crate::proofs::Tidying::tidied))]
-pub(crate) fn push_tidy(out: &mut OutputBuffer, raw: AMQPRawFrame<'_>) -> Result<(), StreamError>
-    requires typed { IsTyped raw.frame_type }
-    requires few { length raw.payload.now < 2 ^ 32 }
-    requires room { length out.old.bytes + (length raw.payload.now + 8) ≤ out.old.room }
-    ensures room { out.new.room ≡ out.old.room }
-    ensures puts { (store : Store) → PutsTyped tidy (raw_of raw.entry) store store out.old.bytes out.new.bytes result }
-    ensures compact { length out.new.bytes ≤ length out.old.bytes + (length raw.entry.payload.now + 8) }
-{
-    let pending = out.bytes().len();
-    if let Err(error) = out.push_raw(raw) {
-        return Err(payload_error(error));
-    }
-    if is_tidy(raw) {
-        return Ok(());
-    }
-    out.truncate(pending);
-    Err(StreamError::NotTidy)
-}
-
 /// Gathers the canonical bytes of a borrowed frame. A large body is written from where it lies.
 #[tactic(auto, unfolding(amqp_wire::specs::Verdicts::whole_as, amqp_wire::specs::Canonical::canon))]
 #[inline(always)]
@@ -224,5 +267,26 @@ pub fn write_canonical<K: Sink>(
             out.push(&heartbeat_bytes(raw.channel_id));
             Ok(())
         }
+    }
+}
+
+/// Puts the canonical bytes of a borrowed frame, judged already, after the pending ones.
+pub(crate) fn push_canonical(out: &mut OutputBuffer, raw: AMQPRawFrame<'_>, judged: FrameJudgement)
+    requires judged { IsJudged (raw_of raw) judged }
+    requires few { length raw.payload.now < 2 ^ 32 }
+    requires room { length out.old.bytes + frame_length (raw_of raw) ≤ out.old.room }
+    ensures room { out.new.room ≡ out.old.room }
+    ensures adds { Adds out.old.bytes out.new.bytes (whole (raw_of raw.entry)) (Ok tt) }
+    ensures compact { length out.new.bytes ≤ length out.old.bytes + frame_length (raw_of raw.entry) }
+{
+    match raw.frame_type {
+        AMQPFrameType::ProtocolHeader => match ProtocolVersion::from_payload(raw.payload) {
+            Ok(version) => out.push(&header_bytes(version)),
+            Err(_) => unreachable!(),
+        },
+        AMQPFrameType::Method => out.push_judged(raw, judged),
+        AMQPFrameType::Header => out.push_judged(raw, judged),
+        AMQPFrameType::Body => push_body(out, raw.channel_id, raw.payload),
+        AMQPFrameType::Heartbeat => out.push(&heartbeat_bytes(raw.channel_id)),
     }
 }

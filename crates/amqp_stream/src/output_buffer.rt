@@ -1,13 +1,14 @@
 //! A buffer in which bytes are pending, to be written together.
 
-ghost use Rattle.std.specs.Prelude.{◌≡◌, ◌≢◌, ◌+◌, ◌++◌, ◌^◌, ◌<◌, ◌≤◌, [], length, take, Err, IfOk, IfErr};
+ghost use Rattle.std.specs.Prelude.{◌≡◌, ◌≢◌, ◌+◌, ◌++◌, ◌^◌, ◌<◌, ◌≤◌, [], length, take, Ok, Err, IfOk, IfErr};
 ghost use Rattle.amqp_wire.specs.Frames.{raw_of};
 ghost use Rattle.amqp_wire.specs.Spelling.{framed, head};
 ghost use Rattle.amqp_wire.specs.Verdicts.{IsPayloadError, whole};
+ghost use Rattle.amqp_wire.specs.Judgements.{IsJudged};
 ghost use Rattle.amqp_stream.specs.Buffers.{Adds, AddsAt};
 
 use amqp_types::{NoMemory, ParserError, put_bytes};
-use amqp_wire::{AMQPRawFrame, EntryMark, put_canonical};
+use amqp_wire::{AMQPRawFrame, EntryMark, FrameJudgement, put_canonical, put_judged};
 use std::alloc::Global;
 use std::marker::Model;
 
@@ -37,6 +38,24 @@ fn put_raw_after(
     ensures memory { result ≢ Err ParserError.NoMemory }
 {
     put_canonical(buf, len, scratch, raw)
+}
+
+/// The same of a frame that is judged already.
+fn put_judged_after(
+    buf: &mut [u8],
+    len: usize,
+    scratch: &mut [EntryMark],
+    raw: AMQPRawFrame<'_>,
+    judged: FrameJudgement,
+) -> usize
+    requires judged { IsJudged (raw_of raw) judged }
+    requires few { length raw.payload.now < 2 ^ 32 }
+    requires room { len + length raw.payload.now + 8 ≤ length buf.old }
+    ensures adds { AddsAt buf.old buf.new len (whole (raw_of raw.entry)) (Ok result) }
+    ensures place { result ≤ len + length raw.entry.payload.now + 8 }
+{
+    let (frame_type, channel_id, payload) = (raw.frame_type, raw.channel_id, raw.payload);
+    put_judged(buf, len, scratch, frame_type, channel_id, payload, judged)
 }
 
 /// Bytes that are not written yet, in a buffer that is reserved in full, with the scratch that frames of this size
@@ -126,5 +145,17 @@ impl OutputBuffer {
     {
         self.len = put_raw_after(&mut self.buf, self.len, &mut self.scratch, raw)?;
         Ok(())
+    }
+
+    /// Puts the canonical bytes of a borrowed frame, judged already, after the pending ones.
+    pub fn push_judged(&mut self, raw: AMQPRawFrame<'_>, judged: FrameJudgement)
+        requires judged { IsJudged (raw_of raw) judged }
+        requires few { length raw.payload.now < 2 ^ 32 }
+        requires enough { length self.old.bytes + (length raw.payload.now + 8) ≤ self.old.room }
+        ensures room { self.new.room ≡ self.old.room }
+        ensures adds { Adds self.old.bytes self.new.bytes (whole (raw_of raw.entry)) (Ok tt) }
+        ensures compact { length self.new.bytes ≤ length self.old.bytes + (length raw.entry.payload.now + 8) }
+    {
+        self.len = put_judged_after(&mut self.buf, self.len, &mut self.scratch, raw, judged);
     }
 }

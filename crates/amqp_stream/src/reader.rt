@@ -30,7 +30,7 @@ impl Model for FrameReader {
 }
 
 impl FrameReader {
-    ghost use Rattle.std.specs.Prelude.{◌≡◌, ◌+◌, ◌^◌, ◌<◌, ◌≤◌, ◌↔◌, [], Some, IsTrue, IfOk, IfSome, length, drop};
+    ghost use Rattle.std.specs.Prelude.{◌≡◌, ◌+◌, ◌^◌, ◌<◌, ◌≤◌, ◌↔◌, [], Some, IsTrue, IfOk, IfSome, length, take, drop};
     ghost use Rattle.std.specs.Borrow.{sem};
     ghost use Rattle.std.specs.Io.BufRead.{Rests};
     ghost use Rattle.amqp_types.specs.Judging.{past, IsBytes};
@@ -65,6 +65,7 @@ impl FrameReader {
         ensures held { result.now ≡ self.now.held }
         ensures bytes { IsBytes self.now.held }
         ensures room { length self.now.held ≤ self.now.limit + 8 }
+        ensures limit { self.now.limit < 2 ^ 32 }
     {
         held_of(&self.buf, self.span)
     }
@@ -76,15 +77,34 @@ impl FrameReader {
         self.span.start == self.span.end
     }
 
+    /// The first held bytes.
+    #[inline(always)]
+    pub fn front(&self, count: usize) -> &[u8]
+        requires { count ≤ length self.now.held }
+        ensures { result.now ≡ take count self.now.held }
+    {
+        &self.held()[..count]
+    }
+
     /// Where the frame at the front of the held bytes lies in them; `None` where more bytes are
     /// needed. Nothing is read.
-    #[inline(always)]
     pub fn buffered(&self) -> Result<Option<FrameLayout>, ReadError>
         ensures finds { Finds self.now.limit self.now.held result }
         ensures bytes { IsBytes self.now.held }
         ensures room { length self.now.held ≤ self.now.limit + 8 }
     {
-        match look_at(Some(self.max_payload), self.held()) {
+        self.buffered_after(0)
+    }
+
+    /// The same of the bytes after the first of those that are held.
+    #[inline(always)]
+    pub fn buffered_after(&self, passed: usize) -> Result<Option<FrameLayout>, ReadError>
+        requires { passed ≤ length self.now.held }
+        ensures finds { Finds self.now.limit (drop passed self.now.held) result }
+        ensures bytes { IsBytes self.now.held }
+        ensures room { length self.now.held ≤ self.now.limit + 8 }
+    {
+        match look_at(Some(self.max_payload), &self.held()[passed..]) {
             Look::Whole(layout) => Ok(Some(layout)),
             Look::Incomplete => Ok(None),
             Look::UnknownFrameType => Err(ReadError::UnknownFrameType),
@@ -95,28 +115,49 @@ impl FrameReader {
     }
 
     /// The frame at the front of the held bytes, whose payload is borrowed out of them.
-    #[inline(always)]
     pub fn frame(&self, layout: FrameLayout) -> AMQPRawFrame<'_>
         requires { Lies self.now.limit self.now.held layout }
         ensures frame { raw_of result ≡ laid_out layout self.now.held }
         ensures few { length result.payload.now < 2 ^ 32 }
     {
-        let start = self.span.start + layout.payload_start;
+        self.frame_after(0, layout)
+    }
+
+    /// The frame after the first held bytes.
+    #[inline(always)]
+    pub fn frame_after(&self, passed: usize, layout: FrameLayout) -> AMQPRawFrame<'_>
+        requires passed { passed ≤ length self.now.held }
+        requires lies { Lies self.now.limit (drop passed self.now.held) layout }
+        ensures frame { raw_of result ≡ laid_out layout (drop passed self.now.held) }
+        ensures few { length result.payload.now < 2 ^ 32 }
+        ensures place { passed + layout.frame_len < 2 ^ 63 }
+    {
+        let held = self.held();
+        let start = passed + layout.payload_start;
         AMQPRawFrame {
             frame_type: layout.frame_type,
             channel_id: layout.channel_id,
-            payload: &self.buf[start..start + layout.payload_len],
+            payload: &held[start..start + layout.payload_len],
         }
     }
 
     /// Drops the frame at the front of the held bytes.
-    #[inline(always)]
     pub fn consume(&mut self, layout: FrameLayout)
         requires { Lies self.old.limit self.old.held layout }
         ensures limit { self.new.limit ≡ self.old.limit }
         ensures held { self.new.held ≡ drop layout.frame_len self.old.held }
     {
-        self.span.start += layout.frame_len;
+        self.skip(layout.frame_len);
+    }
+
+    /// Drops the first held bytes.
+    #[inline(always)]
+    pub fn skip(&mut self, count: usize)
+        requires { count ≤ length self.old.held }
+        ensures limit { self.new.limit ≡ self.old.limit }
+        ensures held { self.new.held ≡ drop count self.old.held }
+    {
+        self.span.start += count;
     }
 
     /// Reads once, after the held bytes, and returns how many bytes came. None is the end of input.

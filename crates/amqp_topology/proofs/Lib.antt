@@ -1,2 +1,2 @@
 -- The lemmas of amqp_topology.
-pub mod Equality
+pub mod EqualMethods

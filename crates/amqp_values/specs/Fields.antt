@@ -4,6 +4,7 @@ use Rattle.amqp_types.specs.Numbers.{bytes1, bytes2, bytes4, bytes8}
 use Rattle.amqp_types.specs.Sizes.{measured}
 use Rattle.amqp_types.specs.Slots.{number_item, text_item, bytes_item, entries_item, number_form, short_string_form, long_string_form, table_form}
 use Rattle.amqp_types.specs.SlotBytes.{form_bytes, is_deep_item, is_long_item}
+use Rattle.amqp_types.specs.SlotLaws.{IsFormHeld}
 use Rattle.amqp_types.specs.declared.errors.GenError.{GenError}
 use Rattle.amqp_values.specs.declared.fields.Field.{Field}
 use Rattle.amqp_values.specs.declared.fields.Field.TheVariants as field
@@ -49,6 +50,21 @@ any_long_field (x ∷ xs) = is_long_field x || any_long_field xs
 -- the number of the canonical bytes of fields; `TooDeep` where one nests too deep, else `TooLong` where one is too long
 unfoldable pub fields_size : List Field → Result ℕ GenError
 fields_size fields = measured (any_deep_field fields) (any_long_field fields) (fields_bytes fields)
+
+-- what a field holds is held in the form that its variant names; of bytes and flags nothing is asked
+abbrev pub IsFieldHeld : Field → Type 0
+IsFieldHeld (field.ShortShortUInt n) = IsFormHeld (number_form bytes1) (number_item n ∷ [])
+IsFieldHeld (field.ShortUInt n) = IsFormHeld (number_form bytes2) (number_item n ∷ [])
+IsFieldHeld (field.LongUInt n) = IsFormHeld (number_form bytes4) (number_item n ∷ [])
+IsFieldHeld (field.LongLongUInt n) = IsFormHeld (number_form bytes8) (number_item n ∷ [])
+IsFieldHeld (field.ShortString s) = IsFormHeld short_string_form (text_item s.now ∷ [])
+IsFieldHeld (field.Table t) = IsFormHeld table_form (entries_item t.now ∷ [])
+IsFieldHeld x = Unit {0}
+
+-- each of the fields is held
+abbrev pub AreFieldsHeld : List Field → Type 0
+AreFieldsHeld [] = Unit {0}
+AreFieldsHeld (x ∷ xs) = IsFieldHeld x × AreFieldsHeld xs
 
 -- these are the canonical bytes of the fields, this is their size, and there are at most 64 fields
 pub record Lists (fields : List Field) (size : Result ℕ GenError) (bytes : List ℕ) : Type 0 where

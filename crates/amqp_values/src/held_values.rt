@@ -1,13 +1,15 @@
-//! What values, arrays and tables hold, whatever a program does: the premise of the laws that read canonical bytes
-//! back.
+//! What values, arrays, tables and fields hold, whatever a program does: the premise of the laws that read canonical
+//! bytes back.
 
 ghost use Rattle.amqp_types.specs.Values.{entries_of, values_of};
 ghost use Rattle.amqp_types.specs.Settling.{IsRising};
 ghost use Rattle.amqp_types.specs.ValueLaws.{AllEntriesHeld, AllHeld, IsHeld};
+ghost use Rattle.amqp_values.specs.Fields.{AreFieldsHeld, IsFieldHeld};
 ghost use Rattle.amqp_values.specs.Views.{value_of};
 
+use crate::fields::Field;
 use crate::value::{AMQPValue, FieldArray, FieldTable};
-use amqp_types::{long_held, octet_held, text_held};
+use amqp_types::{long_held, long_long_held, octet_held, short_held, text_held};
 
 /// A value is held: its numbers fit their bytes, its keys are short strings, its tables have ascending keys.
 #[cycle(held)]
@@ -77,5 +79,33 @@ pub fn table_held(table: &FieldTable)
     for (key, value) in table.iter() {
         text_held(key);
         value_held(value);
+    }
+}
+
+/// A field is held.
+fn field_held(field: &Field<'_>)
+    ensures { IsFieldHeld field.now }
+{
+    match *field {
+        Field::ShortShortUInt(n) => octet_held(n),
+        Field::ShortUInt(n) => short_held(n),
+        Field::LongUInt(n) => long_held(n),
+        Field::LongLongUInt(n) => long_long_held(n),
+        Field::ShortString(text) => text_held(text),
+        Field::Table(table) => table_held(table),
+        Field::Nothing | Field::Flags(_) | Field::LongString(_) => {}
+    }
+}
+
+/// Each field is held.
+pub fn fields_held(fields: &[Field<'_>])
+    ensures { AreFieldsHeld fields.now }
+{
+    match fields {
+        [] => {}
+        [first, rest @ ..] => {
+            field_held(first);
+            fields_held(rest);
+        }
     }
 }

@@ -14,16 +14,19 @@ pub fn values_are_lawful()
 {}
 
 /// The laws of arrays.
+#[tactic(auto, using(amqp_laws::proofs::ValueLaws::arrays_lawful))]
 pub fn arrays_are_lawful()
     ensures { ArraysAreLawful }
 {}
 
 /// The laws of tables.
+#[tactic(auto, using(amqp_laws::proofs::ValueLaws::tables_lawful))]
 pub fn tables_are_lawful()
     ensures { TablesAreLawful }
 {}
 
 /// What is encoded is neither long nor deeper than it may nest.
+#[tactic(auto, using(amqp_laws::proofs::ValueLaws::spelled_is_bounded))]
 pub fn spelled_is_bounded()
     ensures { SpelledIsBounded }
 {}
@@ -34,11 +37,13 @@ pub fn settled_is_settling()
 {}
 
 /// An entry changes the value of its key and nothing else.
+#[tactic(auto, using(amqp_laws::proofs::Settling::insert_changes_one_key))]
 pub fn insert_changes_one_key()
     ensures { InsertChangesOneKey }
 {}
 
 /// What programs hold and write is read back. `value_held`, `array_held` and `table_held` say that it is held.
+#[tactic(auto, using(amqp_laws::proofs::ValueLaws::held_is_read_back))]
 pub fn held_is_read_back()
     ensures { HeldIsReadBack }
 {}
@@ -56,21 +61,25 @@ pub fn forms_are_lawful()
 {}
 
 /// The laws of lists of fields whose reserved fields have the least constants of their forms.
+#[tactic(auto, using(amqp_laws::proofs::SlotLaws::slots_lawful))]
 pub fn slots_are_lawful()
     ensures { SlotsAreLawful }
 {}
 
 /// What fields are encoded by is neither long nor too deep.
+#[tactic(auto, using(amqp_laws::proofs::SlotLaws::slots_bounded))]
 pub fn spelled_slots_are_bounded()
     ensures { SpelledSlotsAreBounded }
 {}
 
 /// What programs hold and write into fields is read back.
+#[tactic(auto, using(amqp_laws::proofs::SlotsHeld::slots_read_back))]
 pub fn held_slots_are_read_back()
     ensures { HeldSlotsAreReadBack }
 {}
 
 /// A test decides which fields are tidy.
+#[tactic(auto, using(amqp_laws::proofs::Tidiness::slots_decided))]
 pub fn tidy_slots_are_decided()
     ensures { TidySlotsAreDecided }
 {}

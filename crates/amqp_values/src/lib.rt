@@ -4,7 +4,6 @@
 
 mod copying;
 mod equality;
-mod equality_laws;
 mod fields;
 mod from_slots;
 mod generation;
@@ -14,6 +13,7 @@ mod measuring;
 mod method_laws;
 mod parsing;
 mod reader;
+mod sameness;
 pub mod value;
 
 pub use amqp_types::AMQPFlags;
@@ -129,9 +129,9 @@ pub use amqp_types::size_short_string;
 pub use amqp_types::size_short_uint;
 pub use amqp_types::size_timestamp;
 pub use amqp_types::text_held;
-pub use equality_laws::equal_field_arrays;
-pub use equality_laws::equal_field_tables;
-pub use equality_laws::equal_values;
+pub use equality::equal_field_arrays;
+pub use equality::equal_field_tables;
+pub use equality::equal_values;
 pub use fields::Field;
 pub use fields::gen_fields;
 pub use fields::put_fields;
@@ -147,6 +147,7 @@ pub use generation::put_field_array;
 pub use generation::put_field_table;
 pub use generation::put_value;
 pub use held_values::array_held;
+pub use held_values::fields_held;
 pub use held_values::table_held;
 pub use held_values::value_held;
 pub use laws::arrays_are_lawful;

@@ -14,11 +14,13 @@ pub fn table_is_sound()
 {}
 
 /// The laws of the fields of each method of the table.
+#[tactic(auto, using(amqp_laws::proofs::MethodLaws::rows_lawful))]
 pub fn rows_are_lawful()
     ensures { RowsAreLawful }
 {}
 
 /// The laws of methods in payloads, after both their ids.
+#[tactic(auto, using(amqp_laws::proofs::MethodLaws::payloads_lawful))]
 pub fn payloads_are_lawful()
     ensures { PayloadsAreLawful }
 {}
@@ -29,16 +31,19 @@ pub fn spelled_payloads_are_bounded()
 {}
 
 /// A test decides which payloads of methods are tidy.
+#[tactic(auto, using(amqp_laws::proofs::Tidiness::payloads_decided))]
 pub fn tidy_payloads_are_decided()
     ensures { TidyPayloadsAreDecided }
 {}
 
 /// A payload of a method shows only faults of what stands inside it.
+#[tactic(auto, using(amqp_laws::proofs::PayloadFaults::payloads_inside))]
 pub fn payloads_fail_inside()
     ensures { PayloadsFailInside }
 {}
 
 /// What programs hold and write as the payload of a method is read back.
+#[tactic(auto, using(amqp_laws::proofs::MethodLaws::payloads_read_back))]
 pub fn held_payloads_are_read_back()
     ensures { HeldPayloadsAreReadBack }
 {}

@@ -214,3 +214,12 @@ impl<'a> SlotReader<'a> {
         Ok(())
     }
 }
+
+/// What a call returns that decodes the fields of one method, with the method in its variant.
+#[macro_export]
+macro_rules! in_variant {
+    ($parsed:expr, $variant:path) => {{
+        let (used, method) = $parsed?;
+        Ok((used, $variant(method)))
+    }};
+}

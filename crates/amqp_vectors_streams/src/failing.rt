@@ -131,3 +131,39 @@ fn writes_are_gathered(rt: HostRuntime) -> Result<(), Fail> {
     }
     Ok(())
 }
+
+/// A heartbeat, a body of 5,000 bytes, and a heartbeat that ends with these bytes, from the last one of its length on.
+fn around_large(alloc: Global, end: &[u8]) -> Result<Vec<u8>, Fail> {
+    let mut bytes = Vec::from_slice(alloc, &HEARTBEAT)?;
+    bytes.extend_from_slice(&[3, 0, 1, 0, 0, 19, 136])?;
+    bytes.extend_from_slice(&[7; 5000])?;
+    bytes.extend_from_slice(&[206, 8, 0, 0, 0, 0, 0])?;
+    bytes.extend_from_slice(end)?;
+    Ok(bytes)
+}
+
+/// How the second heartbeat ends, without a payload and with one, and how many writes are made.
+const ENDS: &[(&[u8], u64)] = &[(&[0, 206], 1), (&[2, 1, 2, 206], 2)];
+
+/// How many writes are made for a large body between small frames: one where all of them stand, and one for what
+/// stands before a frame that does not.
+#[test]
+fn large_bodies_are_written_with_what_stands(rt: HostRuntime) -> Result<(), Fail> {
+    let alloc = rt.alloc();
+    let written = around_large(alloc, &[0, 206])?;
+    for (end, writes) in ENDS {
+        let bytes = around_large(alloc, end)?;
+        let mut source = SliceSource::new(&bytes);
+        ends_after(
+            alloc,
+            "a large body",
+            &mut source,
+            &[],
+            &[],
+            Ok(()),
+            &written,
+            *writes,
+        )?;
+    }
+    Ok(())
+}

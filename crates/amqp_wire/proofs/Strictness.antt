@@ -108,7 +108,7 @@ canon_strict bytes (BadBeat channel) s = (s.0, empty_beat channel s.1.is_framed.
 framed_none : (bytes payload : List ℕ) (channel : ℕ) → IsFramed bytes 8 channel payload → payload ≡ [] → bytes ≡ framed 8 channel []
 framed_none bytes payload channel f none = f.bytes_are ∙ ap (framed 8 channel) none
 
-strict_canon : (bytes : List ℕ) (f : Frame) → Spells strict bytes f → bytes ≡ canon f
+pub strict_canon : (bytes : List ℕ) (f : Frame) → Spells strict bytes f → bytes ≡ canon f
 unfolding canon
 strict_canon bytes (Proto major minor revision) s = s
 strict_canon bytes (Meth channel m) s = carries_only judge_payload SpellsPayload payload_bytes payloads_lawful 1 bytes channel m s

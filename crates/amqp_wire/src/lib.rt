@@ -37,6 +37,6 @@ pub use looking::{FrameLayout, Look, look_at};
 pub use outline::{FrameOutline, outline_front, outline_raw};
 pub use parsing::{parse_channel, parse_frame_type, parse_protocol_header, parse_raw_frame};
 pub use raw_frame::AMQPRawFrame;
-pub use rewriting::put_canonical;
+pub use rewriting::{put_canonical, put_judged};
 pub use tidiness::is_tidy;
 pub use version::ProtocolVersion;

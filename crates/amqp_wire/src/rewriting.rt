@@ -53,9 +53,10 @@ fn put_header(
     put_around(buf, at, end, FRAME_HEADER, channel_id)
 }
 
-/// Puts the canonical bytes of the frame that a payload of this type encodes.
+/// Puts the canonical bytes of the frame that a whole payload of this type encodes, as `put_canonical` does, where it is
+/// judged already.
 #[inline(always)]
-fn put_judged(
+pub fn put_judged(
     buf: &mut [u8],
     at: usize,
     scratch: &mut [EntryMark],

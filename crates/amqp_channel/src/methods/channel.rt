@@ -6,12 +6,14 @@ ghost use Rattle.amqp_types.specs.Slots.{number_item, text_item, flag_item};
 ghost use Rattle.amqp_types.specs.Calls.{Parses, NeedsNoMemory, Measures, HasRoom};
 ghost use Rattle.amqp_types.specs.Writing.{Puts, Appends};
 ghost use Rattle.amqp_types.specs.Methods.{method, judge_method, judge_in_class, method_bytes, method_size, payload_bytes, payload_size};
+ghost use Rattle.amqp_laws.specs.HeldMethods.{IsHeldMethod};
 ghost use Rattle.amqp_values.specs.MethodFields.{ListsMethod};
 ghost use Rattle.amqp_channel.specs.Channel.{open_method, open_ok_method, flow_method, flow_ok_method, close_method, close_ok_method, method_of};
 
 use amqp_values::{
     Boolean, Field, GenError, Identifier, NoMemory, ParserError, ShortString, ShortUInt,
-    SlotReader, byte_of_flags, flag_of_byte, gen_fields, parse_id, put_fields, size_fields,
+    SlotReader, byte_of_flags, fields_held, flag_of_byte, gen_fields, in_variant, parse_id,
+    put_fields, size_fields,
 };
 use std::alloc::Global;
 
@@ -539,30 +541,12 @@ fn parse_method(alloc: Global, id: Identifier, i: &[u8]) -> Result<(usize, AMQPM
     ensures { Parses method_of result i.now (judge_method 20 id) }
 {
     match id {
-        10 => {
-            let (used, method) = parse_open(alloc, i)?;
-            Ok((used, AMQPMethod::Open(method)))
-        }
-        11 => {
-            let (used, method) = parse_open_ok(alloc, i)?;
-            Ok((used, AMQPMethod::OpenOk(method)))
-        }
-        20 => {
-            let (used, method) = parse_flow(alloc, i)?;
-            Ok((used, AMQPMethod::Flow(method)))
-        }
-        21 => {
-            let (used, method) = parse_flow_ok(alloc, i)?;
-            Ok((used, AMQPMethod::FlowOk(method)))
-        }
-        40 => {
-            let (used, method) = parse_close(alloc, i)?;
-            Ok((used, AMQPMethod::Close(method)))
-        }
-        41 => {
-            let (used, method) = parse_close_ok(alloc, i)?;
-            Ok((used, AMQPMethod::CloseOk(method)))
-        }
+        10 => in_variant!(parse_open(alloc, i), AMQPMethod::Open),
+        11 => in_variant!(parse_open_ok(alloc, i), AMQPMethod::OpenOk),
+        20 => in_variant!(parse_flow(alloc, i), AMQPMethod::Flow),
+        21 => in_variant!(parse_flow_ok(alloc, i), AMQPMethod::FlowOk),
+        40 => in_variant!(parse_close(alloc, i), AMQPMethod::Close),
+        41 => in_variant!(parse_close_ok(alloc, i), AMQPMethod::CloseOk),
         _ => Err(ParserError::UnknownMethod),
     }
 }
@@ -611,4 +595,11 @@ pub fn gen_channel(_alloc: Global, out: &mut Vec<u8>, method: &AMQPMethod) -> Re
     ensures { Appends out.old.items out.new.items (payload_size (method_of method.now)) (payload_bytes (method_of method.now)) result }
 {
     with_fields!(method, gen_fields(out))
+}
+
+/// A method of the class is held, whatever a program does: the premise of the laws that read canonical bytes back.
+pub fn channel_method_held(method: &AMQPMethod)
+    ensures { IsHeldMethod (method_of method.now) }
+{
+    with_fields!(method, fields_held())
 }

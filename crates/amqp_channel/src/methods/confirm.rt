@@ -6,12 +6,13 @@ ghost use Rattle.amqp_types.specs.Slots.{flag_item};
 ghost use Rattle.amqp_types.specs.Calls.{Parses, NeedsNoMemory, Measures, HasRoom};
 ghost use Rattle.amqp_types.specs.Writing.{Puts, Appends};
 ghost use Rattle.amqp_types.specs.Methods.{judge_method, judge_in_class, method_bytes, method_size, payload_bytes, payload_size, method};
+ghost use Rattle.amqp_laws.specs.HeldMethods.{IsHeldMethod};
 ghost use Rattle.amqp_values.specs.MethodFields.{ListsMethod};
 ghost use Rattle.amqp_channel.specs.Confirm.{select_method, select_ok_method, method_of};
 
 use amqp_values::{
     Boolean, Field, GenError, Identifier, NoMemory, ParserError, SlotReader, byte_of_flags,
-    flag_of_byte, gen_fields, parse_id, put_fields, size_fields,
+    fields_held, flag_of_byte, gen_fields, in_variant, parse_id, put_fields, size_fields,
 };
 use std::alloc::Global;
 
@@ -201,14 +202,8 @@ fn parse_method(alloc: Global, id: Identifier, i: &[u8]) -> Result<(usize, AMQPM
     ensures memory { NeedsNoMemory result }
 {
     match id {
-        10 => {
-            let (used, method) = parse_select(alloc, i)?;
-            Ok((used, AMQPMethod::Select(method)))
-        }
-        11 => {
-            let (used, method) = parse_select_ok(alloc, i)?;
-            Ok((used, AMQPMethod::SelectOk(method)))
-        }
+        10 => in_variant!(parse_select(alloc, i), AMQPMethod::Select),
+        11 => in_variant!(parse_select_ok(alloc, i), AMQPMethod::SelectOk),
         _ => Err(ParserError::UnknownMethod),
     }
 }
@@ -254,4 +249,11 @@ pub fn gen_confirm(_alloc: Global, out: &mut Vec<u8>, method: &AMQPMethod) -> Re
     ensures { Appends out.old.items out.new.items (payload_size (method_of method.now)) (payload_bytes (method_of method.now)) result }
 {
     with_fields!(method, gen_fields(out))
+}
+
+/// A method of the class is held, whatever a program does: the premise of the laws that read canonical bytes back.
+pub fn confirm_method_held(method: &AMQPMethod)
+    ensures { IsHeldMethod (method_of method.now) }
+{
+    with_fields!(method, fields_held())
 }

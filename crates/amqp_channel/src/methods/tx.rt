@@ -5,12 +5,13 @@ ghost use Rattle.std.specs.Prelude.{◌≡◌, IfOk};
 ghost use Rattle.amqp_types.specs.Calls.{Parses, NeedsNoMemory, Measures, HasRoom};
 ghost use Rattle.amqp_types.specs.Writing.{Puts, Appends};
 ghost use Rattle.amqp_types.specs.Methods.{judge_method, judge_in_class, method_bytes, method_size, payload_bytes, payload_size};
+ghost use Rattle.amqp_laws.specs.HeldMethods.{IsHeldMethod};
 ghost use Rattle.amqp_values.specs.MethodFields.{ListsMethod};
 ghost use Rattle.amqp_channel.specs.Tx.{select_method, select_ok_method, commit_method, commit_ok_method, rollback_method, rollback_ok_method, method_of};
 
 use amqp_values::{
-    Field, GenError, Identifier, NoMemory, ParserError, SlotReader, gen_fields, parse_id,
-    put_fields, size_fields,
+    Field, GenError, Identifier, NoMemory, ParserError, SlotReader, fields_held, gen_fields,
+    in_variant, parse_id, put_fields, size_fields,
 };
 use std::alloc::Global;
 
@@ -444,30 +445,12 @@ fn parse_method(alloc: Global, id: Identifier, i: &[u8]) -> Result<(usize, AMQPM
     ensures memory { NeedsNoMemory result }
 {
     match id {
-        10 => {
-            let (used, method) = parse_select(alloc, i)?;
-            Ok((used, AMQPMethod::Select(method)))
-        }
-        11 => {
-            let (used, method) = parse_select_ok(alloc, i)?;
-            Ok((used, AMQPMethod::SelectOk(method)))
-        }
-        20 => {
-            let (used, method) = parse_commit(alloc, i)?;
-            Ok((used, AMQPMethod::Commit(method)))
-        }
-        21 => {
-            let (used, method) = parse_commit_ok(alloc, i)?;
-            Ok((used, AMQPMethod::CommitOk(method)))
-        }
-        30 => {
-            let (used, method) = parse_rollback(alloc, i)?;
-            Ok((used, AMQPMethod::Rollback(method)))
-        }
-        31 => {
-            let (used, method) = parse_rollback_ok(alloc, i)?;
-            Ok((used, AMQPMethod::RollbackOk(method)))
-        }
+        10 => in_variant!(parse_select(alloc, i), AMQPMethod::Select),
+        11 => in_variant!(parse_select_ok(alloc, i), AMQPMethod::SelectOk),
+        20 => in_variant!(parse_commit(alloc, i), AMQPMethod::Commit),
+        21 => in_variant!(parse_commit_ok(alloc, i), AMQPMethod::CommitOk),
+        30 => in_variant!(parse_rollback(alloc, i), AMQPMethod::Rollback),
+        31 => in_variant!(parse_rollback_ok(alloc, i), AMQPMethod::RollbackOk),
         _ => Err(ParserError::UnknownMethod),
     }
 }
@@ -517,4 +500,11 @@ pub fn gen_tx(_alloc: Global, out: &mut Vec<u8>, method: &AMQPMethod) -> Result<
     ensures { Appends out.old.items out.new.items (payload_size (method_of method.now)) (payload_bytes (method_of method.now)) result }
 {
     with_fields!(method, gen_fields(out))
+}
+
+/// A method of the class is held, whatever a program does: the premise of the laws that read canonical bytes back.
+pub fn tx_method_held(method: &AMQPMethod)
+    ensures { IsHeldMethod (method_of method.now) }
+{
+    with_fields!(method, fields_held())
 }

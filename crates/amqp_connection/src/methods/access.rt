@@ -6,12 +6,14 @@ ghost use Rattle.amqp_types.specs.Slots.{flag_item, text_item};
 ghost use Rattle.amqp_types.specs.Calls.{Parses, NeedsNoMemory, Measures, HasRoom};
 ghost use Rattle.amqp_types.specs.Writing.{Puts, Appends};
 ghost use Rattle.amqp_types.specs.Methods.{method, judge_method, judge_in_class, method_bytes, method_size, payload_bytes, payload_size};
+ghost use Rattle.amqp_laws.specs.HeldMethods.{IsHeldMethod};
 ghost use Rattle.amqp_values.specs.MethodFields.{ListsMethod};
 ghost use Rattle.amqp_connection.specs.Access.{request_method, request_ok_method, method_of};
 
 use amqp_values::{
     Boolean, Field, Flags, GenError, Identifier, NoMemory, ParserError, ShortString, SlotReader,
-    byte_of_flags, flag_of_byte, gen_fields, parse_id, put_fields, size_fields,
+    byte_of_flags, fields_held, flag_of_byte, gen_fields, in_variant, parse_id, put_fields,
+    size_fields,
 };
 use std::alloc::Global;
 
@@ -251,14 +253,8 @@ fn parse_method(alloc: Global, id: Identifier, i: &[u8]) -> Result<(usize, AMQPM
     ensures { Parses method_of result i.now (judge_method 30 id) }
 {
     match id {
-        10 => {
-            let (used, method) = parse_request(alloc, i)?;
-            Ok((used, AMQPMethod::Request(method)))
-        }
-        11 => {
-            let (used, method) = parse_request_ok(alloc, i)?;
-            Ok((used, AMQPMethod::RequestOk(method)))
-        }
+        10 => in_variant!(parse_request(alloc, i), AMQPMethod::Request),
+        11 => in_variant!(parse_request_ok(alloc, i), AMQPMethod::RequestOk),
         _ => Err(ParserError::UnknownMethod),
     }
 }
@@ -303,4 +299,11 @@ pub fn gen_access(_alloc: Global, out: &mut Vec<u8>, method: &AMQPMethod) -> Res
     ensures { Appends out.old.items out.new.items (payload_size (method_of method.now)) (payload_bytes (method_of method.now)) result }
 {
     with_fields!(method, gen_fields(out))
+}
+
+/// A method of the class is held, whatever a program does: the premise of the laws that read canonical bytes back.
+pub fn access_method_held(method: &AMQPMethod)
+    ensures { IsHeldMethod (method_of method.now) }
+{
+    with_fields!(method, fields_held())
 }

@@ -8,10 +8,12 @@ ghost use Rattle.std.specs.Prelude.{◌≡◌, IfOk};
 ghost use Rattle.amqp_types.specs.Calls.{Parses, Measures, HasRoom};
 ghost use Rattle.amqp_types.specs.Writing.{Puts, Appends};
 ghost use Rattle.amqp_types.specs.Methods.{judge_method, judge_in_class, payload_bytes, payload_size};
+ghost use Rattle.amqp_laws.specs.HeldMethods.{IsHeldMethod};
 ghost use Rattle.amqp_connection.specs.Connection.{method_of};
 
 use amqp_values::{
-    GenError, Identifier, NoMemory, ParserError, gen_fields, parse_id, put_fields, size_fields,
+    GenError, Identifier, NoMemory, ParserError, fields_held, gen_fields, in_variant, parse_id,
+    put_fields, size_fields,
 };
 pub use negotiating::{
     Secure, SecureOk, Start, StartOk, Tune, TuneOk, gen_secure, gen_secure_ok, gen_start,
@@ -136,62 +138,20 @@ fn parse_method(alloc: Global, id: Identifier, i: &[u8]) -> Result<(usize, AMQPM
     ensures { Parses method_of result i.now (judge_method 10 id) }
 {
     match id {
-        10 => {
-            let (used, method) = parse_start(alloc, i)?;
-            Ok((used, AMQPMethod::Start(method)))
-        }
-        11 => {
-            let (used, method) = parse_start_ok(alloc, i)?;
-            Ok((used, AMQPMethod::StartOk(method)))
-        }
-        20 => {
-            let (used, method) = parse_secure(alloc, i)?;
-            Ok((used, AMQPMethod::Secure(method)))
-        }
-        21 => {
-            let (used, method) = parse_secure_ok(alloc, i)?;
-            Ok((used, AMQPMethod::SecureOk(method)))
-        }
-        30 => {
-            let (used, method) = parse_tune(alloc, i)?;
-            Ok((used, AMQPMethod::Tune(method)))
-        }
-        31 => {
-            let (used, method) = parse_tune_ok(alloc, i)?;
-            Ok((used, AMQPMethod::TuneOk(method)))
-        }
-        40 => {
-            let (used, method) = parse_open(alloc, i)?;
-            Ok((used, AMQPMethod::Open(method)))
-        }
-        41 => {
-            let (used, method) = parse_open_ok(alloc, i)?;
-            Ok((used, AMQPMethod::OpenOk(method)))
-        }
-        50 => {
-            let (used, method) = parse_close(alloc, i)?;
-            Ok((used, AMQPMethod::Close(method)))
-        }
-        51 => {
-            let (used, method) = parse_close_ok(alloc, i)?;
-            Ok((used, AMQPMethod::CloseOk(method)))
-        }
-        60 => {
-            let (used, method) = parse_blocked(alloc, i)?;
-            Ok((used, AMQPMethod::Blocked(method)))
-        }
-        61 => {
-            let (used, method) = parse_unblocked(alloc, i)?;
-            Ok((used, AMQPMethod::Unblocked(method)))
-        }
-        70 => {
-            let (used, method) = parse_update_secret(alloc, i)?;
-            Ok((used, AMQPMethod::UpdateSecret(method)))
-        }
-        71 => {
-            let (used, method) = parse_update_secret_ok(alloc, i)?;
-            Ok((used, AMQPMethod::UpdateSecretOk(method)))
-        }
+        10 => in_variant!(parse_start(alloc, i), AMQPMethod::Start),
+        11 => in_variant!(parse_start_ok(alloc, i), AMQPMethod::StartOk),
+        20 => in_variant!(parse_secure(alloc, i), AMQPMethod::Secure),
+        21 => in_variant!(parse_secure_ok(alloc, i), AMQPMethod::SecureOk),
+        30 => in_variant!(parse_tune(alloc, i), AMQPMethod::Tune),
+        31 => in_variant!(parse_tune_ok(alloc, i), AMQPMethod::TuneOk),
+        40 => in_variant!(parse_open(alloc, i), AMQPMethod::Open),
+        41 => in_variant!(parse_open_ok(alloc, i), AMQPMethod::OpenOk),
+        50 => in_variant!(parse_close(alloc, i), AMQPMethod::Close),
+        51 => in_variant!(parse_close_ok(alloc, i), AMQPMethod::CloseOk),
+        60 => in_variant!(parse_blocked(alloc, i), AMQPMethod::Blocked),
+        61 => in_variant!(parse_unblocked(alloc, i), AMQPMethod::Unblocked),
+        70 => in_variant!(parse_update_secret(alloc, i), AMQPMethod::UpdateSecret),
+        71 => in_variant!(parse_update_secret_ok(alloc, i), AMQPMethod::UpdateSecretOk),
         _ => Err(ParserError::UnknownMethod),
     }
 }
@@ -252,4 +212,11 @@ pub fn gen_connection(
     ensures { Appends out.old.items out.new.items (payload_size (method_of method.now)) (payload_bytes (method_of method.now)) result }
 {
     with_fields!(method, gen_fields(out))
+}
+
+/// A method of the class is held, whatever a program does: the premise of the laws that read canonical bytes back.
+pub fn connection_method_held(method: &AMQPMethod)
+    ensures { IsHeldMethod (method_of method.now) }
+{
+    with_fields!(method, fields_held())
 }

@@ -26,7 +26,7 @@ frames-preserved c = let put = rw take_rest at c.in-Ok.ensures in going_on c.req
 pub returns-in-Err : goal.returns-in-Err
 returns-in-Err c =
     let stop = rw take_rest at c.in-Err.ensures in
-    rw (c.status.ensures, stop.1) (going_stops c.in-Err.error c.frames-test.true c.frames.invariant stop.0)
+    rw (c.came.ensures, c.status.ensures, stop.1) (going_stops c.in-Err.error c.frames-test.true c.frames.invariant stop.0)
 
 pub returns : goal.returns
-returns c = going_finishes c.frames-test.false c.frames.invariant
+returns c = rw c.came-2.ensures (going_finishes c.frames-test.false c.frames.invariant)

@@ -1,6 +1,5 @@
 -- `judge_entries`: what the loop keeps, and what falls with each iteration.
 use Rattle.std.proofs.Common.{length}
-use Rattle.amqp_types.specs.Constants.{inner_depth}
 use Rattle.amqp_types.specs.ValueJudging.{judge_entry, judge_value}
 use Rattle.amqp_fields.proofs.Filling.{Onward}
 use Rattle.amqp_fields.proofs.contents.judge_entries.Given as goal
@@ -9,4 +8,4 @@ abbrev pub decreases-loop-rest : goal.decreases-loop-rest
 decreases-loop-rest l = length l.rest
 
 abbrev pub invariant-loop-rest : goal.invariant-loop-rest
-invariant-loop-rest l = Onward (judge_entry (judge_value inner_depth)) l.content l.rest
+invariant-loop-rest l = Onward (judge_entry (judge_value l.depth_left)) l.content l.rest

@@ -1,5 +1,5 @@
 -- `run_with`: what loops keep and what falls with each iteration or call.
-use Rattle.std.proofs.Common.{◌≡◌, ◌+◌, ◌*◌, [], length}
+use Rattle.std.proofs.Common.{◌≡◌, ◌+◌, ◌*◌, [], length, drop}
 use Rattle.amqp_stream.proofs.Turning.{Turn}
 use Rattle.amqp_stream.proofs.engine.run_with.Given as goal
 
@@ -11,10 +11,10 @@ invariant-frames g l =
       turn : Turn
           (record { w = g.W.FrameWriter.manner; s = l.fn.writer; m = l.fn.reader.limit; turns = l.fn.turns; source = supply l.fn.source; sink = store l.fn.sink })
           l.fn.out.room
-          (record { writer = l.writer; left = l.left; source = supply l.source; sink = store l.sink; reader = l.reader; out = l.out });
+          (record { writer = l.writer; left = l.left; source = supply l.source; sink = store l.sink; reader = l.reader; out = l.out; passed = l.stretch.len });
       unread : l.left ≡ l.fn.turns → l.source ≡ l.fn.source;
       idle : l.left ≡ l.fn.turns → (l.reader.held ≡ []) × (l.out.bytes ≡ []) × (l.sink ≡ l.fn.sink);
     }
 
 abbrev pub decreases-frames : goal.decreases-frames
-decreases-frames g l = l.left * (l.fn.reader.limit + 9) + length l.reader.held
+decreases-frames g l = l.left * (l.fn.reader.limit + 9) + length (drop l.stretch.len l.reader.held)

@@ -1,13 +1,15 @@
--- `MessageFilter::begin`: clause `writes`.
-use Rattle.std.proofs.Common.{ap, ◌∙◌}
-use Rattle.std.specs.FinMap as finite
+-- `MessageFilter::begin`: what it ensures.
+use Rattle.std.proofs.Common.{ap}
 use Rattle.amqp_wire.specs.Frames.{raw_of}
 use Rattle.amqp_filter.specs.Held.{OpenByChannel}
-use Rattle.amqp_turns.proofs.Holding.{set_back}
-use Rattle.amqp_filter.proofs.Writing.{unpassed}
+use Rattle.amqp_filter.proofs.Writing.{judged_takes, judged_refuses, memory_refuses}
 use Rattle.amqp_filter.proofs.message_filter.MessageFilter.begin.Goals as goal
 
-pub returns-in-Err-pass-clause-writes : goal.returns-in-Err-pass-clause-writes
-returns-in-Err-pass-clause-writes g c =
-    let back = c.forget.ensures ∙ ap (λ (m : OpenByChannel). finite.remove m c.args.raw.channel_id) c.in-Ok.ensures.ok ∙ set_back c.args.self.now.messages c.args.raw.channel_id _ c.requires.none in
-    unpassed c.args.self.now _ _ c.args.kept (raw_of c.args.raw) _ _ _ _ c.in-Err-pass.error (ap (λ (m : OpenByChannel). record c.args.self.now { messages = m }) back) c.requires.steps c.in-Err-pass.ensures.passes
+pub returns-in-Err : goal.returns-in-Err
+returns-in-Err c = judged_refuses c.args.self.now c.args.kept (raw_of c.args.raw) c.in-Err.error c.in-Err.ensures
+
+pub returns-in-Err-begin : goal.returns-in-Err-begin
+returns-in-Err-begin c = memory_refuses c.args.self.now c.args.self.now (raw_of c.args.raw) c.requires.method
+
+pub returns-in-Ok-begin : goal.returns-in-Ok-begin
+returns-in-Ok-begin c = judged_takes c.args.self.now _ _ c.args.kept (raw_of c.args.raw) c.in-Ok.decision (ap (λ (m : OpenByChannel). record c.args.self.now { messages = m }) c.in-Ok-begin.ensures.ok) c.requires.steps c.in-Ok.ensures

@@ -1,0 +1,145 @@
+"""An exception for each status that a call of the library returns."""
+
+from typing import Dict, Optional, Type, Union
+
+
+class Error(Exception):
+    """No whole frame is in front of some bytes, or no line of one in front of some text."""
+
+    #: The exit status of the program for it.
+    status = 0
+
+    def __init__(self, used: int = 0, *more: int) -> None:
+        super().__init__(used, *more)
+        #: How many bytes come before it: those of the whole frames, or of their lines.
+        self.used = used
+        #: What was written for these: canonical bytes; from `dump` lines of text.
+        self.written: Union[bytes, str] = b""
+
+    def __str__(self) -> str:
+        return f"{type(self).__name__} at byte {self.used}: {self._what()}"
+
+    def _what(self) -> str:
+        return (type(self).__doc__ or f"status {self.status}").splitlines()[0]
+
+
+class UnknownFrameType(Error):
+    """The first byte of a frame names no frame type."""
+
+    status = 10
+
+
+class BadProtocolHeader(Error):
+    """A first byte 65 that does not begin a protocol header."""
+
+    status = 11
+
+
+class TooLarge(Error):
+    """A payload above the limit."""
+
+    status = 12
+
+
+class BadFrameEnd(Error):
+    """The byte after the payload is not 206."""
+
+    status = 13
+
+
+class UnknownClass(Error):
+    """A method of no class."""
+
+    status = 14
+
+
+class UnknownMethod(Error):
+    """A method that its class does not have."""
+
+    status = 15
+
+
+class ShortPayload(Error):
+    """Something passes the end of the payload, or of a table or array in it."""
+
+    status = 16
+
+
+class TrailingBytes(Error):
+    """Bytes are left after the last field of the payload."""
+
+    status = 17
+
+
+class NotUtf8(Error):
+    """A short string that is not UTF-8."""
+
+    status = 18
+
+
+class UnknownTag(Error):
+    """A field tag that names no type."""
+
+    status = 19
+
+
+class TooDeep(Error):
+    """Tables or arrays nested more than 64 deep."""
+
+    status = 20
+
+
+class CutShort(Error):
+    """The bytes end inside a frame, or the text inside a line."""
+
+    status = 21
+
+    def __init__(self, used: int = 0, needed: int = 0) -> None:
+        super().__init__(used, needed)
+        #: How many bytes the frame that begins at `used` wants at least, as far as it is known; 0 of a line.
+        self.needed = needed
+
+
+class NotTidy(Error):
+    """A frame that can be read and is not tidy, where only tidy frames are taken."""
+
+    status = 23
+
+
+class BadText(Error):
+    """A line that is not the line of any frame with a payload within the limit."""
+
+    status = 26
+
+
+class TooLong(Error):
+    """A short string or key of more than 255 bytes, which cannot be written."""
+
+    status = 42
+
+
+class UnknownStatus(Error):
+    """A status that this module does not know: the library is not the one it was written for."""
+
+    def __init__(self, used: int = 0, status: int = 0) -> None:
+        super().__init__(used, status)
+        self.status = status
+
+    def _what(self) -> str:
+        return f"the library returned status {self.status}, which this module does not know"
+
+
+#: The statuses of calls that are no frame's and no line's.
+NO_MEMORY, BUFFER_TOO_SMALL, BAD_ARGUMENT = 3, 40, 41
+
+ERRORS: Dict[int, Type[Error]] = {error.status: error for error in Error.__subclasses__() if error.status}
+
+
+def error_of(status: int, used: int = 0) -> Optional[Exception]:
+    """A new exception for a status that is met after so many bytes; None for 0."""
+    if status == 0:
+        return None
+    if status == NO_MEMORY:
+        return MemoryError()
+    known = ERRORS.get(status)
+    return known(used) if known else UnknownStatus(used, status)

@@ -1,0 +1,171 @@
+"""From nodes, as the library lists them, to values of Python.
+
+This is the hot path of reading: one pass over the nodes, in plain loops, with the frequent kinds first. Where `_nodes.c` is
+built, its loops are used for tables instead of those here, which do the same.
+"""
+
+import datetime
+import struct
+from decimal import Decimal
+from itertools import islice
+from typing import Any, Iterator, List, Tuple, Type, cast
+
+from ._kinds import (
+    ARRAY, BYTE_ARRAY, DECIMAL, FLAG, FLOAT32, FLOAT64, INNER_TABLE, INT32, INT64, LONG_LONG, LONG_STRING, NOTHING, SHORT_STRING,
+    STRING, TIME, TRUTH,
+)
+from .methods import Method, Properties
+from .values import LAST_SECOND, NUMBERS, UTC, Float32, Float64, Int64, LongString, Table, Value, time_of
+
+try:
+    from ._nodes import table as compiled_table
+except ImportError:
+    compiled_table = None  # type: ignore[assignment]
+
+#: What is read of the node of a value: number (signed), start, length, key_start, items; key_length, kind, scale.
+VALUE_NODE = struct.Struct("=q3I4xI2BxB")
+#: What is read of the node of a field: number, start, length, inside, items; place.
+FIELD_NODE = struct.Struct("=Q2I4x2I2xBx")
+NODE_SIZE = 32
+
+_UNSIGNED = 2**64 - 1
+_pack_bits = struct.Struct("=q").pack
+_unpack_float = struct.Struct("=d").unpack
+_number = int.__new__
+_time = datetime.datetime.fromtimestamp
+
+Nodes = Iterator[Tuple[int, ...]]
+
+
+def _rare(source: bytes, number: int, start: int, length: int, kind: int, scale: int) -> Value:
+    """A value of one of the kinds that the loops below leave, or one that is read as a wrapper."""
+    if kind == STRING:
+        return LongString(source[start : start + length])
+    if kind == INT64:
+        return Int64(number)
+    if kind == TIME:
+        return time_of(number & _UNSIGNED)
+    if kind == FLOAT64:
+        return Float64.from_bits(number & _UNSIGNED)
+    if kind == BYTE_ARRAY:
+        return source[start : start + length]
+    if kind == FLOAT32:
+        return Float32.from_bits(number)
+    if kind == DECIMAL:
+        return Decimal(f"{number}E-{scale}")
+    return cast(Value, _number(NUMBERS[kind], number))
+
+
+def table_of(source: bytes, nodes: Nodes, count: int) -> Table:
+    """The table of the next so many entries: of duplicate keys the last one wins."""
+    table: Table = {}
+    for number, start, length, key_start, items, key_length, kind, scale in islice(nodes, count):
+        key = source[key_start : key_start + key_length].decode()
+        if kind == STRING:
+            try:
+                table[key] = source[start : start + length].decode()
+            except UnicodeDecodeError:
+                table[key] = _rare(source, number, start, length, kind, scale)
+        elif kind == INT32:
+            table[key] = number
+        elif kind == TRUTH:
+            table[key] = number == 1
+        elif kind == INT64 and not -0x80000000 <= number < 0x80000000:
+            table[key] = number
+        elif kind == TIME and 0 <= number <= LAST_SECOND:
+            table[key] = _time(number, UTC)
+        elif kind == FLOAT64:
+            (fraction,) = _unpack_float(_pack_bits(number))
+            table[key] = fraction if fraction == fraction else _rare(source, number, start, length, kind, scale)
+        elif kind == INNER_TABLE:
+            table[key] = table_of(source, nodes, items)
+        elif kind == ARRAY:
+            table[key] = array_of(source, nodes, items)
+        elif kind == NOTHING:
+            table[key] = None
+        else:
+            table[key] = _rare(source, number, start, length, kind, scale)
+    return table
+
+
+def array_of(source: bytes, nodes: Nodes, count: int) -> List[Value]:
+    """The array of the next so many values: as a table, without keys."""
+    array: List[Value] = []
+    for number, start, length, _, items, _, kind, scale in islice(nodes, count):
+        if kind == STRING:
+            try:
+                array.append(source[start : start + length].decode())
+            except UnicodeDecodeError:
+                array.append(_rare(source, number, start, length, kind, scale))
+        elif kind == INT32:
+            array.append(number)
+        elif kind == TRUTH:
+            array.append(number == 1)
+        elif kind == INT64 and not -0x80000000 <= number < 0x80000000:
+            array.append(number)
+        elif kind == TIME and 0 <= number <= LAST_SECOND:
+            array.append(_time(number, UTC))
+        elif kind == FLOAT64:
+            (fraction,) = _unpack_float(_pack_bits(number))
+            array.append(fraction if fraction == fraction else _rare(source, number, start, length, kind, scale))
+        elif kind == INNER_TABLE:
+            array.append(table_of(source, nodes, items))
+        elif kind == ARRAY:
+            array.append(array_of(source, nodes, items))
+        elif kind == NOTHING:
+            array.append(None)
+        else:
+            array.append(_rare(source, number, start, length, kind, scale))
+    return array
+
+
+#: What the loops in C call, and are told.
+_CALLED = _rare, _number, NUMBERS, _time, UTC, LAST_SECOND
+
+
+def read_table_of(source: bytes, nodes: bytes, first: int, inside: int, items: int) -> Table:
+    """The table whose entries' nodes begin at `first`: `inside` with all that lies in them, of which `items` at most are its own."""
+    if compiled_table is not None:
+        return compiled_table(source, nodes, first, first + inside, *_CALLED)
+    entries = memoryview(nodes)[first * NODE_SIZE : (first + inside) * NODE_SIZE]
+    return table_of(source, VALUE_NODE.iter_unpack(entries), items)
+
+
+def _field_of(source: bytes, nodes: bytes, index: int, kind: int, node: Tuple[int, ...]) -> Any:
+    """The value of the field whose node this is, at `index` in the list; of a number that is done already."""
+    number, start, length, inside, items, _ = node
+    if kind == SHORT_STRING:
+        return source[start : start + length].decode()
+    if kind == FLAG:
+        return number == 1
+    if kind == LONG_STRING:
+        return source[start : start + length]
+    return read_table_of(source, nodes, index + 1, inside, items)
+
+
+def method_of(method: Type[Method], source: bytes, nodes: bytes, index: int) -> Method:
+    """The method whose fields' nodes begin at `index`."""
+    made = method.__new__(method)
+    for name, kind in method.fields:
+        node = FIELD_NODE.unpack_from(nodes, index * NODE_SIZE)
+        setattr(made, name, node[0] if kind <= LONG_LONG else _field_of(source, nodes, index, kind, node))
+        index += 1 + node[3]
+    return made
+
+
+def properties_of(source: bytes, nodes: bytes, index: int, end: int) -> Properties:
+    """The properties whose nodes stand from `index` to `end`."""
+    values: List[Any] = [None] * len(Properties.fields)
+    while index < end:
+        node = FIELD_NODE.unpack_from(nodes, index * NODE_SIZE)
+        place = node[5]
+        name, kind = Properties.fields[place]
+        if name == "timestamp":
+            values[place] = time_of(node[0])
+        else:
+            values[place] = node[0] if kind <= LONG_LONG else _field_of(source, nodes, index, kind, node)
+        index += 1 + node[3]
+    made = Properties.__new__(Properties)
+    for name, value in zip(Properties.__match_args__, values):
+        setattr(made, name, value)
+    return made

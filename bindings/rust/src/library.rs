@@ -1,0 +1,135 @@
+//! The C functions over slices. All unsafe code of the crate stands here: each call passes pointers and lengths of slices that
+//! live for the call, and those that are written are borrowed mutably, so that they overlap nothing else. The library keeps no
+//! pointer, and tests everything else that it is given.
+
+#![allow(unsafe_code)]
+
+use crate::error::Error;
+use crate::sys::{self, Convert, Fields, Frame, Head, Line, Mark, Node, Payload, Progress, Written};
+use std::alloc::{alloc_zeroed, Layout};
+use std::ptr::slice_from_raw_parts_mut;
+
+/// The header scan of the frame in front.
+pub fn next(bytes: &[u8], max_payload: u32) -> Frame {
+    // SAFETY: pointer and length are those of `bytes`.
+    unsafe { sys::feksroum_next(bytes.as_ptr(), bytes.len(), max_payload) }
+}
+
+/// What stands in a whole payload.
+pub fn check(frame_type: u8, payload: &[u8]) -> Payload {
+    // SAFETY: pointer and length are those of `payload`.
+    unsafe { sys::feksroum_check(frame_type, payload.as_ptr(), payload.len()) }
+}
+
+/// The fields of a whole payload, without what lies inside their tables.
+pub fn read(frame_type: u8, payload: &[u8], nodes: &mut [Node]) -> Fields {
+    const SHALLOW: u8 = 0;
+    // SAFETY: pointers and lengths are those of the slices, which do not overlap. A node is numbers, of any bits.
+    unsafe { sys::feksroum_read(frame_type, payload.as_ptr(), payload.len(), SHALLOW, nodes.as_mut_ptr(), nodes.len()) }
+}
+
+/// What fills a table (`F`) or an array (`A`), with all that lies inside.
+pub fn open(kind: u8, content: &[u8], nodes: &mut [Node]) -> Fields {
+    // SAFETY: pointers and lengths are those of the slices, which do not overlap. A node is numbers, of any bits.
+    unsafe { sys::feksroum_open(kind, content.as_ptr(), content.len(), nodes.as_mut_ptr(), nodes.len()) }
+}
+
+/// The bytes of frames, out of heads and nodes whose spans lie in the pool.
+pub fn write(heads: &[Head], nodes: &[Node], pool: &[u8], max_payload: u32, out: &mut [u8]) -> Written {
+    // SAFETY: pointers and lengths are those of the slices, of which none overlaps `out`.
+    unsafe {
+        sys::feksroum_write(
+            heads.as_ptr(),
+            heads.len(),
+            nodes.as_ptr(),
+            nodes.len(),
+            pool.as_ptr(),
+            pool.len(),
+            max_payload,
+            out.as_mut_ptr(),
+            out.len(),
+        )
+    }
+}
+
+/// What fills a table (`F`) or an array (`A`), out of nodes whose spans lie in the pool.
+pub fn write_content(kind: u8, nodes: &[Node], pool: &[u8], out: &mut [u8]) -> Written {
+    // SAFETY: pointers and lengths are those of the slices, of which none overlaps `out`.
+    unsafe { sys::feksroum_write_content(kind, nodes.as_ptr(), nodes.len(), pool.as_ptr(), pool.len(), out.as_mut_ptr(), out.len()) }
+}
+
+/// How many marks are enough for the tables in so many bytes.
+pub fn scratch(length: usize) -> usize {
+    // SAFETY: the call takes a number alone.
+    unsafe { sys::feksroum_scratch(length) }
+}
+
+/// The canonical bytes of the whole frames in front.
+pub fn canonicalize(bytes: &[u8], out: &mut [u8], marks: &mut [Mark], max_payload: u32, level: u8) -> Progress {
+    // SAFETY: pointers and lengths are those of the slices, which do not overlap. A mark is numbers, of any bits.
+    unsafe {
+        sys::feksroum_canonicalize(
+            bytes.as_ptr(),
+            bytes.len(),
+            out.as_mut_ptr(),
+            out.len(),
+            marks.as_mut_ptr(),
+            marks.len(),
+            max_payload,
+            level,
+        )
+    }
+}
+
+/// What `feksroum_dump` or `feksroum_undump` writes for what is in front.
+pub fn convert(convert: Convert, bytes: &[u8], out: &mut [u8], max_payload: u32) -> Line {
+    // SAFETY: pointers and lengths are those of the slices, which do not overlap.
+    unsafe { convert(bytes.as_ptr(), bytes.len(), out.as_mut_ptr(), out.len(), max_payload) }
+}
+
+/// Writes what comes before a body, where it fits, and returns how many bytes that has.
+pub fn body_head(channel: u16, length: u32, out: &mut [u8]) -> usize {
+    // SAFETY: pointer and length are those of `out`.
+    unsafe { sys::feksroum_body_head(channel, length, out.as_mut_ptr(), out.len()) }
+}
+
+/// The longest payload that a frame-max leaves.
+pub fn max_payload(frame_max: u32) -> u32 {
+    // SAFETY: the call takes a number alone.
+    unsafe { sys::feksroum_max_payload(frame_max) }
+}
+
+/// The library's version.
+pub fn version() -> u32 {
+    // SAFETY: the call takes nothing.
+    unsafe { sys::feksroum_version() }
+}
+
+/// The name of a status, empty where it is no error's.
+#[cfg(test)]
+pub fn name(status: u8) -> Vec<u8> {
+    let mut name = vec![0; 17];
+    // SAFETY: pointer and length are those of `name`.
+    let length = unsafe { sys::feksroum_name(status, name.as_mut_ptr(), name.len()) };
+    name.truncate(length);
+    name
+}
+
+/// So many marks that are zero, in memory that is not touched before they are used.
+///
+/// # Errors
+///
+/// [`Error::NoMemory`] where so much is not to be had.
+pub fn zeroed_marks(length: usize) -> Result<Box<[Mark]>, Error> {
+    let layout = Layout::array::<Mark>(length).map_err(|_| Error::NoMemory)?;
+    if layout.size() == 0 {
+        return Ok(Box::default());
+    }
+    // SAFETY: the layout has a size other than 0.
+    let pointer = unsafe { alloc_zeroed(layout) }.cast::<Mark>();
+    if pointer.is_null() {
+        return Err(Error::NoMemory);
+    }
+    // SAFETY: the global allocator gave the pointer for an array of so many marks, and zeros are marks.
+    Ok(unsafe { Box::from_raw(slice_from_raw_parts_mut(pointer, length)) })
+}

@@ -1,0 +1,77 @@
+//! Class access: asking for access, which brokers of AMQP 0-9-1 no longer need.
+
+// Made by `generate` out of the library's table. Change that, and not this file.
+
+use crate::encode::Encode;
+use crate::error::Error;
+use crate::field::{Field, Fielded, List};
+use crate::reader::Reader;
+
+/// `access.request`. The client asks for access to a realm.
+///
+/// Class 30, method 10, it wants an answer.
+#[derive(Clone, Copy, Debug, Default, PartialEq, Eq)]
+pub struct AccessRequest<'a> {
+    /// The realm's name (`realm`).
+    pub realm: &'a str,
+    /// Whether no one else may have it (`exclusive`).
+    pub exclusive: bool,
+    /// Whether entities are to be looked at (`passive`).
+    pub passive: bool,
+    /// Whether entities are to be created (`active`).
+    pub active: bool,
+    /// Whether messages are to be written (`write`).
+    pub write: bool,
+    /// Whether messages are to be read (`read`).
+    pub read: bool,
+}
+
+impl<'a> AccessRequest<'a> {
+    pub(super) fn read(fields: &mut Reader<'a, '_>) -> Result<Self, Error> {
+        Ok(AccessRequest {
+            realm: fields.short_string()?,
+            exclusive: fields.flag()?,
+            passive: fields.flag()?,
+            active: fields.flag()?,
+            write: fields.flag()?,
+            read: fields.flag()?,
+        })
+    }
+}
+
+impl Fielded for AccessRequest<'_> {
+    const ID: (u16, u16) = (30, 10);
+    const NAME: &'static str = "access.request";
+    const NAMES: &'static [&'static str] = &["realm", "exclusive", "passive", "active", "write", "read"];
+
+    fn list(&self) -> List<'_> {
+        List::of([
+            Some(Field::ShortString(self.realm)),
+            Some(Field::Flag(self.exclusive)),
+            Some(Field::Flag(self.passive)),
+            Some(Field::Flag(self.active)),
+            Some(Field::Flag(self.write)),
+            Some(Field::Flag(self.read)),
+        ])
+    }
+}
+
+impl Encode for AccessRequest<'_> {}
+
+/// `access.request-ok`. It has it.
+///
+/// Class 30, method 11.
+#[derive(Clone, Copy, Debug, Default, PartialEq, Eq)]
+pub struct AccessRequestOk;
+
+impl Fielded for AccessRequestOk {
+    const ID: (u16, u16) = (30, 11);
+    const NAME: &'static str = "access.request-ok";
+    const NAMES: &'static [&'static str] = &[];
+
+    fn list(&self) -> List<'_> {
+        List::of([])
+    }
+}
+
+impl Encode for AccessRequestOk {}

@@ -1,0 +1,39 @@
+//! A library whose calls all answer status 24, which none of them has: each call of this crate ends, with an error that says so. `.ci/rust`
+//! links answers_24.c for that; over another library there is nothing to be tested, and this says so.
+
+use feksroum::method::BasicAck;
+use feksroum::{canonicalize, canonicalize_slice, check, dump, library_version, undump, Canonicalizer, Encode, EncodeError, Error};
+use feksroum::{FrameType, Frames, Level, Payload, Scratch, StreamError, Table, TableBuf, MAX_PAYLOAD};
+
+const BEAT: [u8; 8] = [8, 0, 0, 0, 0, 0, 0, 206];
+const UNKNOWN: Error = Error::Incompatible(24);
+
+#[test]
+fn each_call_ends_with_an_error() {
+    if library_version() != (0, 0, 24) {
+        println!("skipped: the library is a real one");
+        return;
+    }
+    assert_eq!((dump(&BEAT, MAX_PAYLOAD).end, undump(b"beat\n", MAX_PAYLOAD).end), (Err(UNKNOWN), Err(UNKNOWN)));
+    let mut out = Vec::new();
+    let read = canonicalize(&BEAT[..], &mut out, MAX_PAYLOAD, Level::Plain);
+    assert!(matches!(read, Err(StreamError::Frame(UNKNOWN))), "{read:?}");
+    let mut stream = Canonicalizer::new(MAX_PAYLOAD, Level::Plain);
+    assert_eq!((stream.feed(&BEAT, &mut out), stream.finish()), (Err(UNKNOWN), Err(UNKNOWN)));
+    assert_eq!(canonicalize_slice(&BEAT, &mut [0; 8], &mut Scratch::none(), MAX_PAYLOAD, Level::Plain).end, Err(UNKNOWN));
+    assert_eq!(Frames::new(&BEAT, MAX_PAYLOAD).collect::<Vec<_>>(), [Err(UNKNOWN)]);
+    assert_eq!(check(FrameType::Heartbeat, b""), Err(UNKNOWN));
+    assert_eq!(Payload::read(FrameType::Heartbeat, b""), Err(UNKNOWN));
+    assert_eq!(Table::from_content(b""), Err(UNKNOWN));
+    assert_eq!(TableBuf::from_entries([("key", 1)]), Err(EncodeError::Incompatible(24)));
+    assert_eq!(BasicAck::default().encode(1, &mut out), Err(EncodeError::Incompatible(24)));
+    assert_eq!(BasicAck::default().encode_to_slice(1, &mut [0; 30]), Err(EncodeError::Incompatible(24)));
+    assert!(out.is_empty());
+}
+
+#[test]
+fn the_library_is_of_the_version_of_the_crate() {
+    let (major, minor, patch) = library_version();
+    let is_stand_in = (major, minor, patch) == (0, 0, 24);
+    assert!(is_stand_in || format!("{major}.{minor}.{patch}") == env!("CARGO_PKG_VERSION"));
+}

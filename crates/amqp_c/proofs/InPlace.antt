@@ -1,0 +1,325 @@
+-- Runs of canonical frames, and frames that are canonicalized within one buffer.
+use Rattle.std.proofs.Common.{◌≡◌, ◌≢◌, ℕ, ◌+◌, ◌-◌, ◌<◌, ◌≤◌, Bool, true, false, List, [], ◌∷◌, ◌++◌, length, take, drop, Some, Result, Ok, Err, refl, sym, ap, subst, ◌∙◌, arith, append_assoc, append-nil}
+use Rattle.std.specs.List.{copy_within}
+use Rattle.std.proofs.Math.Seq.{paste}
+use Rattle.std.proofs.lemmas.List.{length-append, length-drop, length-take-le, drop-drop, drop_all, take_at, take-append-drop}
+use Rattle.std.proofs.lemmas.Slice.{drop-append-drop}
+use Rattle.amqp_types.specs.Levels.{Level, plain, tidy, strict}
+use Rattle.amqp_types.specs.Judging.{Fault, IsBytes, Judged, past, fault, took, not_tidy}
+use Rattle.amqp_types.specs.Answers.{RefusesWhole}
+use Rattle.amqp_types.specs.Writing.{Puts, written}
+use Rattle.amqp_types.specs.declared.errors.ParserError.{ParserError}
+use Rattle.amqp_types.specs.declared.errors.ParserError.TheVariants as parses
+use Rattle.amqp_types.proofs.Puts.{puts-length}
+use Rattle.amqp_wire.specs.declared.judging.FrameJudgement.{FrameJudgement}
+use Rattle.amqp_wire.specs.declared.looking.FrameLayout.{FrameLayout}
+use Rattle.amqp_wire.specs.Canonical.{canon, canon_frames}
+use Rattle.amqp_wire.specs.Frames.{Frame, Raw}
+use Rattle.amqp_wire.specs.Fronts.{front, place}
+use Rattle.amqp_wire.specs.Judgements.{IsJudged}
+use Rattle.amqp_wire.specs.Looks.{laid_out}
+use Rattle.amqp_wire.specs.Outer.{outer}
+use Rattle.amqp_wire.specs.Spelling.{SpellsFrames}
+use Rattle.amqp_wire.specs.Verdicts.{IsPayloadError, is_at, judged, judged_frame, verdict, whole}
+use Rattle.amqp_wire.proofs.Cuts.{IsStop, front-got, front-stop, place-none, verdict-got_within, verdict-whole}
+use Rattle.amqp_wire.proofs.Encoded.{judged_frame-is, verdict-spells}
+use Rattle.amqp_wire.proofs.OuterLook.{outer-in_bounds}
+use Rattle.amqp_wire.proofs.Sequences.{SpellsFrames-precedes, longest_sequence}
+use Rattle.amqp_wire.proofs.Strictness.{one_strict}
+use Rattle.amqp_stream.specs.declared.errors.StreamError.{StreamError}
+use Rattle.amqp_stream.specs.declared.errors.StreamError.TheVariants as errors
+use Rattle.amqp_stream.specs.Errors.{stream_error_status}
+use Rattle.amqp_stream.specs.Reading.{Lies}
+use Rattle.amqp_stream.specs.Writing.{frame_length, payload_fault}
+use Rattle.amqp_stream.proofs.Going.{frame_fits}
+use Rattle.amqp_stream.proofs.Tidying.{is_untidy}
+use Rattle.amqp_c.specs.declared.in_place.Rewrite.TheVariants as rewrites
+use Rattle.amqp_c.specs.InPlace.{IsCanonicalRun, JudgesAt, LacksRoom, Rewrites, StopsBefore}
+use Rattle.amqp_c.specs.Rewriting.{PutsFrame, came}
+use Rattle.amqp_c.specs.Scans.{error_at}
+use Rattle.amqp_c.proofs.Fronts.{Going, fault_verdict, going_on, unput, unscanned}
+
+-- ---- the frame in front
+
+-- a frame that lies there, by its outer parts
+lies_as : (m : ℕ) (bytes : List ℕ) (raw : Raw) (layout : FrameLayout) → Lies m bytes layout → raw ≡ laid_out layout bytes → outer (Some m) bytes ≡ took raw layout.frame_len
+lies_as m bytes raw layout lies is = lies.found ∙ ap (λ (r : Raw). took r layout.frame_len) (sym is)
+
+-- what has an error is no frame
+no_frame : (j : Judged Frame) (error : StreamError) → error_at j ≡ Some error → (frame : Frame) (used : ℕ) → j ≢ took frame used
+no_frame (took x n) error e frame used is = absurd cc
+no_frame past error e frame used is = absurd cc
+no_frame (fault bad) error e frame used is = absurd cc
+
+fault_is_none : (j : Judged Frame) (bad : Fault) → j ≡ fault bad → (frame : Frame) (used : ℕ) → j ≢ took frame used
+fault_is_none (took x n) bad e frame used is = absurd cc
+fault_is_none past bad e frame used is = absurd cc
+fault_is_none (fault b) bad e frame used is = absurd cc
+
+below_level : (t : Bool) (read : Result Frame Fault) (f : Frame) (n : ℕ) → read ≡ Ok f → t ≡ false → judged_frame t read n ≡ fault not_tidy
+below_level true read f n e h = absurd cc
+below_level false read f n e h = ap (λ r. judged_frame false r n) e
+
+not_strict : (m : ℕ) (bytes : List ℕ) (raw : Raw) (n : ℕ) (f : Frame) → outer (Some m) bytes ≡ took raw n → whole raw ≡ Ok f → is_at strict raw ≡ false → verdict strict (Some m) bytes ≡ fault not_tidy
+unfolding verdict
+not_strict m bytes raw n f found e h = ap (judged strict) found ∙ below_level (is_at strict raw) (whole raw) f n e h
+
+-- the bytes of a canonical frame
+strict_bytes : (m : ℕ) (bytes : List ℕ) (f : Frame) (n : ℕ) → IsBytes bytes → verdict strict (Some m) bytes ≡ took f n → take n bytes ≡ canon f
+strict_bytes m bytes f n fits e =
+    let spelled = verdict-spells strict (Some m) bytes f n fits e in
+    let sequence : SpellsFrames strict (Some m) (take n bytes) (f ∷ []) = (take n bytes, [], sym (append-nil (take n bytes)), spelled.0, spelled.1, refl) in
+    (one_strict strict (Some m) (take n bytes) (f ∷ []) sequence).only (take n bytes) sequence ∙ append-nil (canon f)
+
+-- no other frame has its canonical bytes
+other_bytes : (level : Level) (m : ℕ) (bytes : List ℕ) (f : Frame) (n : ℕ) → IsBytes bytes → verdict level (Some m) bytes ≡ took f n → verdict strict (Some m) bytes ≡ fault not_tidy → take n bytes ≢ canon f
+other_bytes level m bytes f n fits e bad same =
+    let spelled = verdict-spells level (Some m) bytes f n fits e in
+    let sequence : SpellsFrames level (Some m) (take n bytes) (f ∷ []) = (take n bytes, [], sym (append-nil (take n bytes)), spelled.0, spelled.1, refl) in
+    let one = (one_strict level (Some m) (take n bytes) (f ∷ []) sequence).canonical in
+    let before = SpellsFrames-precedes strict (Some m) (canon_frames (f ∷ [])) (f ∷ []) one in
+    let parts : canon_frames (f ∷ []) ++ drop n bytes ≡ bytes = ap (λ (xs : List ℕ). xs ++ drop n bytes) (append-nil (canon f) ∙ sym same) ∙ take-append-drop n bytes in
+    let some : front strict (Some m) bytes ≡ f ∷ front strict (Some m) (drop n bytes) = ap (front strict (Some m)) (sym parts) ∙ before.sequence (drop n bytes) in
+    let none : front strict (Some m) bytes ≡ [] = (front-stop strict (Some m) bytes (subst IsStop (sym bad) tt)).0 in
+    absurd (let both : [] ≡ f ∷ front strict (Some m) (drop n bytes) = sym none ∙ some in cc)
+
+-- ---- a run of canonical frames
+
+-- no canonical frame is in front
+abbrev pub HasNone : ℕ → List ℕ → Type 0
+HasNone m bytes = (frame : Frame) (used : ℕ) → verdict strict (Some m) bytes ≢ took frame used
+
+-- a canonical frame of so many bytes is in front
+abbrev pub HasOne : ℕ → List ℕ → ℕ → Type 0
+HasOne m bytes used = (frame : Frame) × (verdict strict (Some m) bytes ≡ took frame used)
+
+pub run_unscanned : (m : ℕ) (bytes : List ℕ) (error : StreamError) → error_at (outer (Some m) bytes) ≡ Some error → HasNone m bytes
+run_unscanned m bytes error e = no_frame (verdict strict (Some m) bytes) error (unscanned strict m bytes error e)
+
+module _ (m : ℕ) (bytes : List ℕ) (raw : Raw) (layout : FrameLayout) (lies : Lies m bytes layout) (is : raw ≡ laid_out layout bytes) where
+  pub run_refused : (error : ParserError) → IsPayloadError error → error ≢ parses.NoMemory → RefusesWhole error (whole raw) → HasNone m bytes
+  run_refused error inside some h =
+      let u = unput strict [] [] 0 raw error (payload_fault error) refl inside some h refl in
+      fault_is_none (verdict strict (Some m) bytes) u.0 (fault_verdict strict m bytes raw layout.frame_len u.0 (lies_as m bytes raw layout lies is) u.1)
+
+  pub run_found : (found : FrameJudgement) → IsJudged raw found → found.canonical ≡ true → HasOne m bytes layout.frame_len
+  run_found found j canonical = (j.frame, verdict-whole strict (Some m) bytes raw layout.frame_len j.frame (lies_as m bytes raw layout lies is) (sym j.canonical ∙ canonical) j.is)
+
+  pub run_missed : (found : FrameJudgement) → IsJudged raw found → found.canonical ≡ false → HasNone m bytes
+  run_missed found j not = fault_is_none (verdict strict (Some m) bytes) not_tidy (not_strict m bytes raw layout.frame_len j.frame (lies_as m bytes raw layout lies is) j.is (sym j.canonical ∙ not))
+
+-- so many bytes are canonical frames, whatever follows
+pub record Running (m : ℕ) (bytes : List ℕ) (used : ℕ) : Type 0 where
+  pub after : place strict (Some m) bytes ≡ place strict (Some m) (drop used bytes)
+  pub within : used ≤ length bytes
+
+pub running_start : (m : ℕ) (bytes : List ℕ) → Running m bytes 0
+running_start m bytes = record { after = refl; within = omega arith }
+
+pub running_falls : (m : ℕ) (bytes : List ℕ) (used more : ℕ) → HasOne m (drop used bytes) more → (8 ≤ more) × (used + more ≤ length bytes)
+running_falls m bytes used more f =
+    let at = verdict-got_within strict (Some m) (drop used bytes) f.0 more f.1 in
+    (at.0, omega (arith, at.0, at.1, length-drop used bytes))
+
+pub running_on : {m : ℕ} {bytes : List ℕ} {used more : ℕ} → Running m bytes used → HasOne m (drop used bytes) more → Running m bytes (used + more)
+running_on {m = m} {bytes = bytes} {used = used} {more = more} r f =
+    let goes = front-got strict (Some m) (drop used bytes) f.0 more f.1 in
+    record {
+      after = r.after ∙ goes.after ∙ ap (place strict (Some m)) (drop-drop more used bytes);
+      within = (running_falls m bytes used more f).1;
+    }
+
+run_ends : (m : ℕ) (bytes : List ℕ) (used : ℕ) → IsBytes bytes → Running m bytes used → place strict (Some m) (drop used bytes) ≡ drop used bytes → IsCanonicalRun m bytes used
+run_ends m bytes used fits r stays =
+    let left : place strict (Some m) bytes ≡ drop used bytes = r.after ∙ stays in
+    let s = longest_sequence strict (Some m) bytes fits in
+    let frames = front strict (Some m) bytes in
+    let size : length s.spelled ≡ used = omega (arith, ap length s.parts, length-append s.spelled (place strict (Some m) bytes), ap length left, length-drop used bytes, r.within) in
+    let same : take used bytes ≡ s.spelled = ap (take used) s.parts ∙ take_at s.spelled (place strict (Some m) bytes) used size in
+    record {
+      within = r.within;
+      frames = frames;
+      sequence = subst (λ (xs : List ℕ). SpellsFrames strict (Some m) xs frames) (sym same) s.sequence;
+      canonical = same ∙ (one_strict strict (Some m) s.spelled frames s.sequence).only s.spelled s.sequence;
+      longest = λ other rest fs e h. omega (arith, s.longest other rest fs e h, size);
+    }
+
+stopped : (j : Judged Frame) → ((frame : Frame) (used : ℕ) → j ≢ took frame used) → IsStop j
+stopped (took f n) h = absurd (h f n refl)
+stopped past h = tt
+stopped (fault bad) h = tt
+
+pub run_stops : {m : ℕ} {bytes : List ℕ} {used : ℕ} → IsBytes bytes → Running m bytes used → HasNone m (drop used bytes) → IsCanonicalRun m bytes used
+run_stops {m = m} {bytes = bytes} {used = used} fits r none = run_ends m bytes used fits r (front-stop strict (Some m) (drop used bytes) (stopped (verdict strict (Some m) (drop used bytes)) none)).1
+
+pub run_finishes : {m : ℕ} {bytes : List ℕ} {used : ℕ} → IsBytes bytes → length bytes ≤ used → Running m bytes used → IsCanonicalRun m bytes used
+run_finishes {m = m} {bytes = bytes} {used = used} fits all r =
+    let none : drop used bytes ≡ [] = drop_all used bytes all in
+    run_ends m bytes used fits r (ap (place strict (Some m)) none ∙ place-none strict (Some m) ∙ sym none)
+
+-- ---- one frame
+
+pub judged_refused : (level : Level) (raw : Raw) (error : ParserError) (stream : StreamError) → stream ≡ payload_fault error → IsPayloadError error → error ≢ parses.NoMemory → RefusesWhole error (whole raw) → JudgesAt level raw (Err stream)
+judged_refused level raw error stream is inside some h =
+    let u = unput level [] [] 0 raw error stream is inside some h refl in
+    (u.0, u.1, u.2)
+
+pub judged_untidy : (raw : Raw) (found : FrameJudgement) → IsJudged raw found → found.tidy ≡ false → JudgesAt tidy raw (Err errors.NotTidy)
+judged_untidy raw found j not = (not_tidy, is_untidy raw j.frame j.is (sym j.tidy ∙ not), refl)
+
+pub judged_plain : (raw : Raw) (found : FrameJudgement) → IsJudged raw found → JudgesAt plain raw (Ok found.canonical)
+judged_plain raw found j = (j.frame, j.is, refl, j.canonical)
+
+pub judged_tidy : (raw : Raw) (found : FrameJudgement) → IsJudged raw found → found.tidy ≡ true → JudgesAt tidy raw (Ok found.canonical)
+judged_tidy raw found j so = (j.frame, j.is, sym j.tidy ∙ so, j.canonical)
+
+module _ (level : Level) (m : ℕ) (bytes : List ℕ) (raw : Raw) (layout : FrameLayout) (lies : Lies m bytes layout) (is : raw ≡ laid_out layout bytes) where
+  pub rewrite_refused : (old new : List ℕ) (error : StreamError) → JudgesAt level raw (Err error) → Rewrites level m bytes old new (Err error)
+  rewrite_refused old new error j = ap error_at (fault_verdict level m bytes raw layout.frame_len j.0 (lies_as m bytes raw layout lies is) j.1) ∙ ap (λ e. Some e) (sym j.2)
+
+  pub rewrite_kept : (old new : List ℕ) (canonical : Bool) → IsBytes bytes → JudgesAt level raw (Ok canonical) → canonical ≡ true → Rewrites level m bytes old new (Ok (rewrites.Kept layout.frame_len))
+  rewrite_kept old new canonical fits j so =
+      let found = lies_as m bytes raw layout lies is in
+      let canonical = verdict-whole strict (Some m) bytes raw layout.frame_len j.0 found (sym j.3 ∙ so) j.1 in
+      (j.0, verdict-whole level (Some m) bytes raw layout.frame_len j.0 found j.2 j.1, strict_bytes m bytes j.0 layout.frame_len fits canonical)
+
+  pub rewrite_no_room : (old new : List ℕ) (canonical : Bool) → IsBytes bytes → JudgesAt level raw (Ok canonical) → canonical ≡ false → length old < layout.frame_len → Rewrites level m bytes old new (Ok rewrites.NoRoom)
+  rewrite_no_room old new canonical fits j not short =
+      let found = lies_as m bytes raw layout lies is in
+      let taken = verdict-whole level (Some m) bytes raw layout.frame_len j.0 found j.2 j.1 in
+      record {
+        frame = j.0;
+        used = layout.frame_len;
+        found = taken;
+        changed = other_bytes level m bytes j.0 layout.frame_len fits taken (not_strict m bytes raw layout.frame_len j.0 found j.1 (sym j.3 ∙ not));
+        longer = short;
+      }
+
+  pub rewrite_room : (room : ℕ) → layout.frame_len ≤ room → 0 + frame_length raw ≤ room
+  rewrite_room room h = omega (arith, h, frame_fits m bytes raw layout.frame_len (lies_as m bytes raw layout lies is))
+
+  pub rewrite_spare : (old new : List ℕ) (count : ℕ) (canonical : Bool) → JudgesAt level raw (Ok canonical) → layout.frame_len ≤ length old → PutsFrame plain old new 0 raw (Ok count) → count ≤ 0 + frame_length raw → Rewrites level m bytes old new (Ok (rewrites.Spare layout.frame_len count))
+  unfolding written
+  rewrite_spare old new count canonical j room puts within =
+      let found = lies_as m bytes raw layout lies is in
+      let put = puts.3 in
+      let fits = frame_fits m bytes raw layout.frame_len found in
+      let size : length new ≡ length old = puts-length old new 0 count (canon puts.0) (omega (arith, put.behind, within, fits, room)) put in (
+        puts.0,
+        verdict-whole level (Some m) bytes raw layout.frame_len puts.0 found j.2 puts.1,
+        omega (arith, within, fits, room, size),
+        ap (take count) put.put ∙ take_at (canon puts.0) (drop (0 + length (canon puts.0)) old) count (omega (arith, put.behind)),
+        omega (arith, within, fits),
+      )
+
+  pub rewrite_never : (old new : List ℕ) (error : StreamError) (canonical : Bool) → JudgesAt level raw (Ok canonical) → PutsFrame plain old new 0 raw (Err error) → Rewrites level m bytes old new (Err error)
+  rewrite_never old new error canonical j puts = absurd (let e : judged_frame true (whole raw) 0 ≡ fault puts.0 = puts.1.judged_bad 0 in fault_is_none (judged_frame true (whole raw) 0) puts.0 e j.0 0 (ap (λ r. judged_frame true r 0) j.1))
+
+-- ---- the buffer
+
+pub moved_front : (buf new : List ℕ) (from count to : ℕ) → from + count ≤ length buf → new ≡ copy_within buf from (from + count) to → Puts buf new to (take count (drop from buf)) (to + count)
+unfolding written
+moved_front buf new from count to inside is =
+    let size : length (take count (drop from buf)) ≡ count = length-take-le count (drop from buf) (omega (arith, length-drop from buf)) in
+    record {
+      put = is ∙ ap (paste buf to (drop from buf)) {x = from + count - from} {y = count} (omega arith) ∙ append_assoc (take to buf) (take count (drop from buf)) (drop (to + count) buf) ∙ ap (λ n. take to buf ++ (take count (drop from buf) ++ drop (to + n) buf)) (sym size);
+      behind = omega (arith, size);
+    }
+
+pub moved_nowhere : (buf : List ℕ) (from count to : ℕ) → from + count ≤ length buf → from ≡ to → Puts buf buf to (take count (drop from buf)) (to + count)
+unfolding written
+moved_nowhere buf from count to inside same =
+    let size : length (take count (drop from buf)) ≡ count = length-take-le count (drop from buf) (omega (arith, length-drop from buf)) in
+    let rest : take count (drop from buf) ++ drop (from + count) buf ≡ drop from buf = ap (λ (xs : List ℕ). take count (drop from buf) ++ xs) (sym (drop-drop count from buf)) ∙ take-append-drop count (drop from buf) in
+    let all : take from buf ++ (take count (drop from buf) ++ drop (from + count) buf) ≡ buf = ap (λ (xs : List ℕ). take from buf ++ xs) rest ∙ take-append-drop from buf in
+    record {
+      put = sym all ∙ ap (λ k. take k buf ++ (take count (drop from buf) ++ drop (k + count) buf)) same ∙ ap (λ n. take to buf ++ (take count (drop from buf) ++ drop (to + n) buf)) (sym size);
+      behind = omega (arith, size);
+    }
+
+-- what was not used is as it was
+pub going_rest : {level : Level} {m : ℕ} {bytes now : List ℕ} {used done : ℕ} → Going level m bytes bytes now used done → drop used now ≡ drop used bytes
+unfolding written
+going_rest {bytes = bytes} {now = now} {used = used} {done = done} g =
+    let text = canon_frames g.frames in
+    ap (drop used) (g.put.put ∙ ap (λ n. text ++ drop n bytes) {x = 0 + length text} {y = length text} (omega arith)) ∙ drop-append-drop (length text) bytes text used (omega (arith, g.put.behind, g.shorter)) refl
+
+pub going_length : {level : Level} {m : ℕ} {bytes now : List ℕ} {used done : ℕ} → Going level m bytes bytes now used done → length now ≡ length bytes
+going_length {bytes = bytes} {now = now} {done = done} g = puts-length bytes now 0 done (canon_frames g.frames) (omega (arith, g.put.behind, g.shorter, g.within)) g.put
+
+-- a frame that was found in the bytes that are there
+found_in : (level : Level) (m : ℕ) (bytes now : List ℕ) (used more : ℕ) (frame : Frame) → drop used now ≡ drop used bytes → verdict level (Some m) (drop used now) ≡ took frame more → verdict level (Some m) (drop used bytes) ≡ took frame more
+found_in level m bytes now used more frame same e = ap (verdict level (Some m)) (sym same) ∙ e
+
+pub rewritten_falls : (level : Level) (m : ℕ) (now : List ℕ) (used more : ℕ) (frame : Frame) → verdict level (Some m) (drop used now) ≡ took frame more → (8 ≤ more) × (used + more ≤ length now)
+rewritten_falls level m now used more frame e =
+    let at = verdict-got_within level (Some m) (drop used now) frame more e in
+    (at.0, omega (arith, at.0, at.1, length-drop used now))
+
+pub spare_fits : (level : Level) (m : ℕ) (now old spare : List ℕ) (used done more count : ℕ) → Rewrites level m (drop used now) old spare (Ok (rewrites.Spare more count)) → done ≤ used → done + length (take count spare) ≤ length now
+spare_fits level m now old spare used done more count r h = omega (arith, h, r.4, length-take-le count spare r.2, (rewritten_falls level m now used more r.0 r.1).1)
+
+module _ {level : Level} {m : ℕ} {bytes now new : List ℕ} {used done more end : ℕ} (old spare : List ℕ) where
+  pub going_kept : Going level m bytes bytes now used done → Rewrites level m (drop used now) old spare (Ok (rewrites.Kept more)) → Puts now new done (take more (drop used now)) end → Going level m bytes bytes new (used + more) end
+  going_kept g r put =
+      let at = rewritten_falls level m now used more r.0 r.1 in
+      going_on (omega arith) g (record {
+        frame = r.0;
+        found = found_in level m bytes now used more r.0 (going_rest g) r.1;
+        put = subst (λ (xs : List ℕ). Puts now new done xs end) r.2 put;
+        no_longer = omega (arith, put.behind, length-take-le more (drop used now) (omega (arith, at.0, at.1, length-drop used now)));
+      })
+
+  pub going_spare : (count : ℕ) → Going level m bytes bytes now used done → Rewrites level m (drop used now) old spare (Ok (rewrites.Spare more count)) → Puts now new done (take count spare) end → Going level m bytes bytes new (used + more) end
+  going_spare count g r put = going_on (omega arith) g (record {
+    frame = r.0;
+    found = found_in level m bytes now used more r.0 (going_rest g) r.1;
+    put = subst (λ (xs : List ℕ). Puts now new done xs end) r.3 put;
+    no_longer = omega (arith, put.behind, length-take-le count spare r.2, r.4);
+  })
+
+pub going_lacks : {level : Level} {m : ℕ} {bytes now : List ℕ} {used done : ℕ} (room : ℕ) → Going level m bytes bytes now used done → LacksRoom level m (drop used now) room → StopsBefore level m room bytes now (came used done 40)
+going_lacks {level = level} {m = m} room g lacks = record {
+  frames = g.frames;
+  sequence = g.sequence;
+  after = g.after;
+  put = g.put;
+  no_longer = g.shorter;
+  next = subst (λ (xs : List ℕ). LacksRoom level m xs room) (going_rest g) lacks;
+  unused = refl;
+}
+
+-- no error of a stream has this status
+pub no_small_stream : (error : StreamError) → stream_error_status error ≢ 40
+no_small_stream errors.NoMemory e = absurd (omega (arith, e))
+no_small_stream errors.ReadFault e = absurd (omega (arith, e))
+no_small_stream errors.WriteFault e = absurd (omega (arith, e))
+no_small_stream errors.UnknownFrameType e = absurd (omega (arith, e))
+no_small_stream errors.BadProtocolHeader e = absurd (omega (arith, e))
+no_small_stream errors.TooLarge e = absurd (omega (arith, e))
+no_small_stream errors.BadFrameEnd e = absurd (omega (arith, e))
+no_small_stream errors.UnknownClass e = absurd (omega (arith, e))
+no_small_stream errors.UnknownMethod e = absurd (omega (arith, e))
+no_small_stream errors.ShortPayload e = absurd (omega (arith, e))
+no_small_stream errors.TrailingBytes e = absurd (omega (arith, e))
+no_small_stream errors.NotUtf8 e = absurd (omega (arith, e))
+no_small_stream errors.UnknownTag e = absurd (omega (arith, e))
+no_small_stream errors.TooDeep e = absurd (omega (arith, e))
+no_small_stream errors.CutShort e = absurd (omega (arith, e))
+no_small_stream errors.TurnsSpent e = absurd (omega (arith, e))
+no_small_stream errors.NotTidy e = absurd (omega (arith, e))
+
+limit_by : (level : Level) (m : ℕ) (bytes : List ℕ) (frame : Frame) (n : ℕ) (j : Judged Raw) → outer (Some m) bytes ≡ j → judged level j ≡ took frame n → n ≤ m + 8
+limit_by level m bytes frame n (took raw k) found e =
+    let size : k ≡ n = (judged_frame-is (is_at level raw) (whole raw) k frame n e).2 in
+    omega (arith, (outer-in_bounds (Some m) bytes raw k found).limit m refl, size)
+limit_by level m bytes frame n past found e = absurd cc
+limit_by level m bytes frame n (fault bad) found e = absurd cc
+
+verdict_limit : (level : Level) (m : ℕ) (bytes : List ℕ) (frame : Frame) (n : ℕ) → verdict level (Some m) bytes ≡ took frame n → n ≤ m + 8
+unfolding verdict
+verdict_limit level m bytes frame n e = limit_by level m bytes frame n (outer (Some m) bytes) refl e
+
+-- a spare buffer with room for a frame of the largest size lacks none
+pub enough_room : (level : Level) (m room : ℕ) (bytes : List ℕ) → m + 8 ≤ room → LacksRoom level m bytes room → ⊥
+enough_room level m room bytes h lacks = omega (arith, h, lacks.longer, verdict_limit level m bytes lacks.frame lacks.used lacks.found)

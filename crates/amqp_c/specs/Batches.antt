@@ -1,0 +1,96 @@
+-- What is reported of the frames in front of some bytes, with their heads and nodes.
+use Rattle.std.specs.Prelude.{◌≡◌, ◌<◌, ◌≤◌, ℕ, ◌+◌, ◌^◌, Bool, List, length, take, drop, Option, Some, None}
+use Rattle.amqp_types.specs.Judging.{Judged, took, past, fault, too_large}
+use Rattle.amqp_types.specs.Levels.{plain}
+use Rattle.amqp_types.specs.declared.errors.ParserError.{ParserError}
+use Rattle.amqp_types.specs.declared.errors.ParserError.TheVariants as parser_errors
+use Rattle.amqp_wire.specs.Frames.{Frame}
+use Rattle.amqp_wire.specs.Verdicts.{verdict}
+use Rattle.amqp_stream.specs.declared.errors.StreamError.{StreamError}
+use Rattle.amqp_stream.specs.declared.errors.StreamError.TheVariants as errors
+use Rattle.amqp_stream.specs.Errors.{stream_error_status}
+use Rattle.amqp_fields.specs.declared.frames.FramesEnd.{FramesEnd}
+use Rattle.amqp_fields.specs.declared.frames.FramesEnd.TheVariants as ends
+use Rattle.amqp_fields.specs.declared.frames.FramesRead.{FramesRead}
+use Rattle.amqp_fields.specs.declared.head.Head.{Head}
+use Rattle.amqp_fields.specs.declared.node.Node.{Node}
+use Rattle.amqp_fields.specs.Frames.{in_reach, least_length}
+use Rattle.amqp_fields.specs.Heads.{SayFrames}
+use Rattle.amqp_fields.specs.Meaning.{AreNodesOf}
+use Rattle.amqp_c.specs.declared.frames.FrameBatch.{FrameBatch}
+use Rattle.amqp_c.specs.Scans.{fault_status}
+use Rattle.amqp_c.specs.Statuses.{bad_argument, buffer_too_small, incomplete}
+
+-- no frame is given, for this reason
+abbrev pub no_batch : ℕ → FrameBatch
+no_batch status = record { used = 0; needed = 0; heads = 0; nodes = 0; status = status; unused = 0 }
+
+-- what comes after the frames, by its status, and how much is needed
+abbrev pub IsFollowedBy : FrameBatch → ℕ → ℕ → Type 0
+IsFollowedBy batch status needed = (batch.status ≡ status) × (batch.needed ≡ needed)
+
+-- The next frame has so many nodes as are needed. Where the list of heads has room for it, that of nodes has not.
+pub record HasNoRoom (deep : Bool) (bytes : List ℕ) (frame : Frame) (head_room node_room : ℕ) (batch : FrameBatch) : Type 0 where
+  pub nodes : List Node
+  pub nodes_are : AreNodesOf deep bytes frame nodes
+  pub follows : IsFollowedBy batch buffer_too_small (length nodes)
+  pub no_room : batch.heads < head_room → node_room < batch.nodes + length nodes
+
+-- what comes after the frames, by the verdict on what is left
+abbrev pub Follows : Bool → List ℕ → List Head → List Node → FrameBatch → Judged Frame → Type 0
+Follows deep bytes heads nodes batch (took frame size) = HasNoRoom deep (in_reach bytes) frame (length heads) (length nodes) batch
+Follows deep bytes heads nodes batch past = (batch.used ≡ length bytes → IsFollowedBy batch 0 0) × (batch.used < length bytes → IsFollowedBy batch incomplete (least_length (drop batch.used (in_reach bytes))))
+Follows deep bytes heads nodes batch (fault bad) = IsFollowedBy batch (fault_status bad) 0
+
+-- so many heads and nodes in front of their lists say the frames in front of the bytes
+pub record GivesFrames (m : ℕ) (deep : Bool) (bytes : List ℕ) (heads : List Head) (nodes : List Node) (batch : FrameBatch) : Type 0 where
+  pub within : batch.used ≤ length bytes
+  pub heads_fit : batch.heads ≤ length heads
+  pub nodes_fit : batch.nodes ≤ length nodes
+  pub frames : SayFrames m deep (in_reach bytes) 0 0 (take batch.heads heads) (take batch.nodes nodes) batch.used
+  pub follows : Follows deep bytes heads nodes batch (verdict plain (Some m) (drop batch.used (in_reach bytes)))
+  pub unused : batch.unused ≡ 0
+
+-- the same with what is asked for; a number that asks for nothing comes first
+abbrev pub GivesAsked : ℕ → Option Bool → List ℕ → List Head → List Node → FrameBatch → Type 0
+GivesAsked m (Some deep) bytes heads nodes batch = GivesFrames m deep bytes heads nodes batch
+GivesAsked m None bytes heads nodes batch = batch ≡ no_batch bad_argument
+
+-- ---- as it is reported
+
+-- the error of a stream for a fault of a frame
+abbrev pub frame_error : ParserError → StreamError
+frame_error parser_errors.Incomplete = errors.CutShort
+frame_error parser_errors.UnknownFrameType = errors.UnknownFrameType
+frame_error parser_errors.BadProtocolHeader = errors.BadProtocolHeader
+frame_error parser_errors.BadFrameEnd = errors.BadFrameEnd
+frame_error parser_errors.UnknownClass = errors.UnknownClass
+frame_error parser_errors.UnknownMethod = errors.UnknownMethod
+frame_error parser_errors.ShortPayload = errors.ShortPayload
+frame_error parser_errors.TrailingBytes = errors.TrailingBytes
+frame_error parser_errors.NotUtf8 = errors.NotUtf8
+frame_error parser_errors.UnknownTag = errors.UnknownTag
+frame_error parser_errors.TooDeep = errors.TooDeep
+frame_error parser_errors.NoMemory = errors.NoMemory
+
+-- the status of what comes after the frames
+abbrev pub end_status : FramesEnd → ℕ
+end_status ends.Done = 0
+end_status (ends.Incomplete needed) = incomplete
+end_status ends.TooLarge = fault_status too_large
+end_status (ends.Fault error) = stream_error_status (frame_error error)
+end_status (ends.Full needed) = buffer_too_small
+
+-- how much is needed
+abbrev pub end_needed : FramesEnd → ℕ
+end_needed (ends.Incomplete needed) = needed
+end_needed (ends.Full needed) = needed
+end_needed end = 0
+
+-- what is reported of frames that were read
+abbrev pub batch_of : FramesRead → FrameBatch
+batch_of read = record { used = read.used; needed = end_needed read.end; heads = read.heads; nodes = read.nodes; status = end_status read.end; unused = 0 }
+
+-- both counts fit four bytes
+abbrev pub AreFew : FramesRead → Type 0
+AreFew read = (read.heads < 2 ^ 32) × (read.nodes < 2 ^ 32)

@@ -1,0 +1,150 @@
+//! Frames, and contents that stand alone, as heads and nodes mean them.
+
+ghost use Rattle.std.specs.Prelude.{◌≡◌};
+ghost use Rattle.amqp_types.specs.Tags.{tag_at};
+ghost use Rattle.amqp_fields.specs.MadeFrames.{made_frames};
+ghost use Rattle.amqp_fields.specs.Nodes.{cut};
+ghost use Rattle.amqp_c.specs.Making.{Reports, content_made, entries_made, not_written, refusal_status, report_of, values_made};
+
+use crate::frames::frame_error;
+use crate::statuses::{BAD_ARGUMENT, BUFFER_TOO_SMALL, TOO_LONG};
+use amqp_fields::{
+    Head, Node, WriteError, WriteRefusal, write_entries, write_frames, write_values,
+};
+use amqp_stream::StreamError;
+use amqp_types::FieldTag;
+
+/// How many bytes were written, or why none. In C it has 24 bytes and no padding.
+#[repr(C)]
+#[derive(Clone, Copy, Debug)]
+pub struct WriteReport {
+    /// How many bytes were written, or at status 40, how many the buffer needs; else 0.
+    pub length: u64,
+
+    /// At other statuses than 0 and 40 which head is refused; else 0.
+    pub head: u32,
+
+    /// At other statuses than 0 and 40 which one of all nodes is refused, and 0 where the head itself is; else 0. Where a field
+    /// misses, the place behind the last node.
+    pub node: u32,
+
+    /// 0 where all is written, 40 where the buffer is too short, or why nothing is.
+    pub status: u32,
+
+    /// Kept for later; 0.
+    pub unused: u32,
+}
+
+/// A place in a list as 4 bytes hold it, or the greatest number that they hold.
+fn cut(n: usize) -> u32
+    ensures { result ≡ cut n }
+{
+    if n < u32::MAX as usize {
+        n as u32
+    } else {
+        u32::MAX
+    }
+}
+
+/// The status of a refusal.
+fn refusal_status(why: WriteRefusal) -> u8
+    ensures { result ≡ refusal_status why }
+{
+    match why {
+        WriteRefusal::BadArgument => BAD_ARGUMENT,
+        WriteRefusal::Payload(error) => frame_error(error).status(),
+        WriteRefusal::TooLong => TOO_LONG,
+        WriteRefusal::TooLarge => StreamError::TooLarge.status(),
+    }
+}
+
+/// What is reported where nothing was written.
+fn not_written(error: WriteError) -> WriteReport
+    ensures { result ≡ not_written error }
+{
+    match error {
+        WriteError::Refused { head, node, why } => WriteReport {
+            length: 0,
+            head: cut(head),
+            node: cut(node),
+            status: refusal_status(why) as u32,
+            unused: 0,
+        },
+        WriteError::TooSmall { needed } => WriteReport {
+            length: needed,
+            head: 0,
+            node: 0,
+            status: BUFFER_TOO_SMALL as u32,
+            unused: 0,
+        },
+    }
+}
+
+/// What is reported.
+fn report(written: Result<usize, WriteError>) -> WriteReport
+    ensures { result ≡ report_of written }
+{
+    match written {
+        Ok(count) => WriteReport {
+            length: count as u64,
+            head: 0,
+            node: 0,
+            status: 0,
+            unused: 0,
+        },
+        Err(error) => not_written(error),
+    }
+}
+
+/// Writes the frames that heads and nodes mean at the front of a buffer, one after another. The spans of the nodes, and of bodies,
+/// lie in the pool; a payload has at most `max_payload` bytes. Nothing is written but at status 0.
+#[tactic(auto, using(crate::proofs::Reported::made_reported))]
+#[unsafe(no_mangle)]
+pub extern "C" fn feksroum_write(
+    heads: &[Head],
+    nodes: &[Node],
+    pool: &[u8],
+    max_payload: u32,
+    out: &mut [u8],
+) -> WriteReport
+    ensures written { Reports (made_frames pool.now nodes.now max_payload 0 heads.now) out.old out.new result }
+{
+    report(write_frames(heads, nodes, pool, max_payload, out))
+}
+
+/// The entries of a table.
+#[tactic(auto, using(crate::proofs::Reported::made_reported))]
+fn put_entries(nodes: &[Node], pool: &[u8], out: &mut [u8]) -> WriteReport
+    ensures written { Reports (entries_made pool.now nodes.now) out.old out.new result }
+{
+    report(write_entries(nodes, pool, out))
+}
+
+/// The values of an array.
+#[tactic(auto, using(crate::proofs::Reported::made_reported))]
+fn put_values(nodes: &[Node], pool: &[u8], out: &mut [u8]) -> WriteReport
+    ensures written { Reports (values_made pool.now nodes.now) out.old out.new result }
+{
+    report(write_values(nodes, pool, out))
+}
+
+/// Writes what fills a table (`kind` is `F`) or an array (`A`) alone, without its length: the nodes are its entries or values.
+#[unsafe(no_mangle)]
+pub extern "C" fn feksroum_write_content(
+    kind: u8,
+    nodes: &[Node],
+    pool: &[u8],
+    out: &mut [u8],
+) -> WriteReport
+    ensures written { Reports (content_made (tag_at kind) pool.now nodes.now) out.old out.new result }
+{
+    match FieldTag::from_byte(kind) {
+        Some(FieldTag::FieldTable) => put_entries(nodes, pool, out),
+        Some(FieldTag::FieldArray) => put_values(nodes, pool, out),
+        _ => not_written(WriteError::Refused {
+            head: 0,
+            node: 0,
+            why: WriteRefusal::BadArgument,
+        }),
+    }
+}

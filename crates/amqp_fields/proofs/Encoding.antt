@@ -1,0 +1,81 @@
+-- What is written encodes what heads and nodes mean.
+use Rattle.std.proofs.Common.{◌≡◌, ℕ, ◌+◌, ◌<◌, ◌^◌, List, length, take, drop, Some, Result, Ok, Err, sym, ap, subst, ◌∙◌, arith}
+use Rattle.std.specs.Prelude.{IfOk}
+use Rattle.std.proofs.lemmas.List.{drop_at, take_at}
+use Rattle.amqp_types.specs.Levels.{plain}
+use Rattle.amqp_types.specs.Judging.{IsBytes}
+use Rattle.amqp_types.specs.Constants.{inner_depth}
+use Rattle.amqp_types.specs.Values.{Entry, FieldValue}
+use Rattle.amqp_wire.specs.Frames.{Frame}
+use Rattle.amqp_types.specs.ValueSpelling.{SpellsEach, SpellsEntry, SpellsValue}
+use Rattle.amqp_types.specs.Writing.{written}
+use Rattle.amqp_wire.specs.Spelling.{SpellsFrames}
+use Rattle.amqp_fields.specs.declared.head.Head.{Head}
+use Rattle.amqp_fields.specs.declared.node.Node.{Node}
+use Rattle.amqp_fields.specs.declared.refusals.WriteError.{WriteError}
+use Rattle.amqp_fields.specs.declared.refusals.WriteError.TheVariants as failures
+use Rattle.amqp_fields.specs.Made.{made_each, made_entry, made_value}
+use Rattle.amqp_fields.specs.MadeFrames.{made_frames}
+use Rattle.amqp_fields.specs.Making.{EncodesEntries, EncodesFrames, EncodesOrIsLong, EncodesValues, IsEncoded, RefusesLength, SpellsEntries, SpellsValues, Suits, TellEntries, TellValues, Writes, made_entries, made_values}
+use Rattle.amqp_fields.specs.Meaning.{AreNodes}
+use Rattle.amqp_fields.specs.Meant.{TellFrames, TellsEntry, TellsValue}
+use Rattle.amqp_fields.proofs.FramesTold.{at_ok, frames_told}
+use Rattle.amqp_fields.proofs.Suited.{each_fits, entry_fits, value_fits}
+use Rattle.amqp_fields.proofs.SuitedFrames.{at_suits, frames_fit}
+use Rattle.amqp_fields.proofs.ValuesTold.{Told, each_told, entry_told, value_told}
+
+front : (old bytes : List ℕ) (count : ℕ) → count ≡ length bytes → take count (written old 0 bytes) ≡ bytes
+unfolding written
+front old bytes count is = take_at bytes (drop (0 + length bytes) old) count (sym is)
+
+behind : (old bytes : List ℕ) (count : ℕ) → count ≡ length bytes → drop count (written old 0 bytes) ≡ drop count old
+unfolding written
+behind old bytes count is = let whole : 0 + length bytes ≡ count = omega (arith, is) in drop_at bytes (drop (0 + length bytes) old) count (sym is) ∙ ap (λ n. drop n old) whole
+
+encoded : {A : Type 0} (Means : A → Type 0) (Spells : List ℕ → A → Type 0) (made : Result (List ℕ) WriteError) (old new : List ℕ) (result : Result ℕ WriteError) → ((bytes : List ℕ) → made ≡ Ok bytes → Told Means (λ x. Spells bytes x)) → Writes made old new result → IfOk result (IsEncoded Means Spells old new)
+encoded Means Spells made old new (Ok count) told h =
+    let one = told h.bytes h.made_is in
+    let bytes : take count new ≡ h.bytes = ap (take count) h.written_is ∙ front old h.bytes count h.count_is in
+    record { thing = one.thing; means = one.means; within = h.within; spelled = subst (λ bs. Spells bs one.thing) (sym bytes) one.spelled; behind = ap (drop count) h.written_is ∙ behind old h.bytes count h.count_is }
+encoded Means Spells made old new (Err error) told h = tt
+
+pub frames_encoded : (pool : List ℕ) (nodes : List Node) (heads : List Head) (m : ℕ) (old new : List ℕ) (result : Result ℕ WriteError) → IsBytes pool → m < 2 ^ 32 → Writes (made_frames pool nodes m 0 heads) old new result → IfOk result (EncodesFrames pool nodes heads m old new)
+frames_encoded pool nodes heads m old new result fits few h = encoded (TellFrames pool nodes heads) (SpellsFrames plain (Some m)) (made_frames pool nodes m 0 heads) old new result (λ bytes is. frames_told pool fits nodes m few 0 heads bytes is) h
+
+pub entries_encoded : (pool : List ℕ) (nodes : List Node) (old new : List ℕ) (result : Result ℕ WriteError) → IsBytes pool → Writes (made_entries pool nodes) old new result → IfOk result (EncodesEntries pool nodes old new)
+entries_encoded pool nodes old new result fits h =
+    encoded (λ entries. AreNodes (TellsEntry (TellsValue inner_depth pool) pool) entries nodes) (SpellsEach (SpellsEntry (SpellsValue plain inner_depth))) (made_entries pool nodes) old new result
+    (λ bytes is. each_told (made_entry pool (made_value pool inner_depth)) (TellsEntry (TellsValue inner_depth pool) pool) (SpellsEntry (SpellsValue plain inner_depth)) (entry_told pool fits inner_depth (made_value pool inner_depth) (value_told pool fits inner_depth)) (length nodes) nodes bytes (at_ok 0 (made_each (made_entry pool (made_value pool inner_depth)) (length nodes) 0 nodes) bytes is)) h
+
+pub values_encoded : (pool : List ℕ) (nodes : List Node) (old new : List ℕ) (result : Result ℕ WriteError) → IsBytes pool → Writes (made_values pool nodes) old new result → IfOk result (EncodesValues pool nodes old new)
+values_encoded pool nodes old new result fits h =
+    encoded (λ values. AreNodes (TellsValue inner_depth pool) values nodes) (SpellsEach (SpellsValue plain inner_depth)) (made_values pool nodes) old new result
+    (λ bytes is. each_told (made_value pool inner_depth) (TellsValue inner_depth pool) (SpellsValue plain inner_depth) (value_told pool fits inner_depth) (length nodes) nodes bytes (at_ok 0 (made_each (made_value pool inner_depth) (length nodes) 0 nodes) bytes is)) h
+
+-- ---- what is meant is written
+
+complete_by : {A : Type 0} (Spells : List ℕ → A → Type 0) (thing : A) (made : Result (List ℕ) WriteError) (old new : List ℕ) (result : Result ℕ WriteError) → Suits RefusesLength made (λ bytes. Spells bytes thing) → Writes made old new result → EncodesOrIsLong Spells thing new result
+complete_by Spells thing made old new (Ok count) suits h =
+    let bytes : take count new ≡ h.bytes = ap (take count) h.written_is ∙ front old h.bytes count h.count_is in
+    let spelled = subst (λ m. Suits RefusesLength m (λ bytes. Spells bytes thing)) h.made_is suits in
+    subst (λ bs. Spells bs thing) (sym bytes) spelled
+complete_by Spells thing made old new (Err (failures.Refused head node why)) suits h = subst (λ m. Suits RefusesLength m (λ bytes. Spells bytes thing)) h.0 suits
+complete_by Spells thing made old new (Err (failures.TooSmall needed)) suits h = tt
+
+pub frames_complete : (pool : List ℕ) (nodes : List Node) (heads : List Head) (m : ℕ) (old new : List ℕ) (result : Result ℕ WriteError) → IsBytes pool → m < 2 ^ 32 → Writes (made_frames pool nodes m 0 heads) old new result
+    → (frames : List Frame) → TellFrames pool nodes heads frames → EncodesOrIsLong (SpellsFrames plain (Some m)) frames new result
+frames_complete pool nodes heads m old new result fits few h frames meant = complete_by (SpellsFrames plain (Some m)) frames (made_frames pool nodes m 0 heads) old new result (frames_fit pool fits nodes m few 0 heads frames meant) h
+
+pub entries_complete : (pool : List ℕ) (nodes : List Node) (old new : List ℕ) (result : Result ℕ WriteError) → IsBytes pool → Writes (made_entries pool nodes) old new result → (entries : List Entry) → TellEntries pool nodes entries → EncodesOrIsLong SpellsEntries entries new result
+entries_complete pool nodes old new result fits h entries meant =
+    let make = made_entry pool (made_value pool inner_depth) in
+    complete_by SpellsEntries entries (made_entries pool nodes) old new result
+    (at_suits pool fits 0 (made_each make (length nodes) 0 nodes) (λ bytes. SpellsEntries bytes entries)
+    (each_fits make (TellsEntry (TellsValue inner_depth pool) pool) (SpellsEntry (SpellsValue plain inner_depth)) (entry_fits pool fits inner_depth (made_value pool inner_depth) (value_fits pool fits inner_depth)) (length nodes) entries nodes meant)) h
+
+pub values_complete : (pool : List ℕ) (nodes : List Node) (old new : List ℕ) (result : Result ℕ WriteError) → IsBytes pool → Writes (made_values pool nodes) old new result → (values : List FieldValue) → TellValues pool nodes values → EncodesOrIsLong SpellsValues values new result
+values_complete pool nodes old new result fits h values meant =
+    let make = made_value pool inner_depth in
+    complete_by SpellsValues values (made_values pool nodes) old new result
+    (at_suits pool fits 0 (made_each make (length nodes) 0 nodes) (λ bytes. SpellsValues bytes values)
+    (each_fits make (TellsValue inner_depth pool) (SpellsValue plain inner_depth) (value_fits pool fits inner_depth) (length nodes) values nodes meant)) h

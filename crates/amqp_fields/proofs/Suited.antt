@@ -1,0 +1,300 @@
+-- What is meant is made, unless a length is too great: parts, and values.
+use Rattle.std.proofs.Common.{◌≡◌, ℕ, zero, suc, ◌+◌, ◌-◌, ◌<◌, ◌^◌, ◌%◌, inl, inr, ℤ, Bool, true, false, List, [], ◌∷◌, ◌++◌, length, take, drop, Some, None, Result, Ok, Err, refl, sym, ap, subst, ◌∙◌, arith, nat_lt, nat_le, if◌then◌else◌}
+use Rattle.std.proofs.lemmas.Bool.Decides.{nat_tests}
+use Rattle.std.proofs.lemmas.Bool.{cases_lt}
+use Rattle.std.proofs.lemmas.Int.{of_z-to_z, to_z_pos}
+use Rattle.std.proofs.lemmas.Str.{is_utf8-from_IsUtf8}
+use Rattle.std.proofs.Math.Facts.{to_z-neg}
+use Rattle.std.specs.Int.{w8, w16, w32, w64, cast_signed, cast_unsigned}
+use Rattle.std.specs.Str.{IsUtf8, is_utf8}
+use Rattle.amqp_types.specs.Levels.{plain}
+use Rattle.amqp_types.specs.Judging.{Fault, IsBytes}
+use Rattle.amqp_types.specs.Numbers.{NumberWidth, bytes1, bytes2, bytes4, bytes8, number_bytes, number_limit, width_of, SpellsNumber}
+use Rattle.amqp_types.specs.Signed.{SpellsSigned}
+use Rattle.amqp_types.specs.Flags.{bit_of}
+use Rattle.amqp_types.specs.Strings.{short_string_bytes, with_length, is_too_long, SpellsLongString, SpellsShortString}
+use Rattle.amqp_types.specs.Settling.{settled}
+use Rattle.amqp_types.specs.Tags.{tag_at, tag_byte, tag_of}
+use Rattle.amqp_types.specs.Values.{FieldValue, Entry, SignedKind, UnsignedKind, BytesKind, short_short_int, short_int, long_int, long_long_int, short_short_uint, short_uint, long_uint, float, double, timestamp, long_string, byte_array, boolean_value, signed_value, unsigned_value, decimal_value, bytes_value, array_value, table_value, void_value, items, pairs}
+use Rattle.amqp_types.specs.ValueBytes.{signed_width, unsigned_width}
+use Rattle.amqp_types.specs.ValueJudging.{filled, judge_entry, judge_value}
+use Rattle.amqp_types.specs.ValueSpelling.{SpellsArray, SpellsBehind, SpellsEach, SpellsEntry, SpellsTable, SpellsTagged, SpellsValue}
+use Rattle.amqp_types.specs.declared.tag.FieldTag.{FieldTag}
+use Rattle.amqp_types.specs.declared.tag.FieldTag.TheVariants as tag
+use Rattle.amqp_types.specs.declared.errors.ParserError.TheVariants as errors
+use Rattle.amqp_laws.proofs.Settling.{settles}
+use Rattle.amqp_laws.proofs.Tags.{tag_read}
+use Rattle.amqp_fields.specs.declared.node.Node.{Node}
+use Rattle.amqp_fields.specs.declared.refusals.Refusal.{Refusal}
+use Rattle.amqp_fields.specs.declared.refusals.WriteRefusal.TheVariants as whys
+use Rattle.amqp_fields.specs.Nodes.{StandsFirst}
+use Rattle.amqp_fields.specs.Made.{Made, Maker, Nested, after, closed, faulty, is_signed, made_alone, made_array, made_behind, made_each, made_entry, made_given, made_if, made_items, made_leaf, made_long, made_nested, made_number, made_signed, made_span, made_table, made_text, made_truth, made_value, nested_array, nested_table, own_index, refuse, span_in}
+use Rattle.amqp_fields.specs.Making.{IsLength, Suits}
+use Rattle.amqp_fields.specs.Meaning.{AreNodes, IsSpan}
+use Rattle.amqp_fields.specs.Meant.{Holds, HoldsTable, IsSigned, Tells, TellsAt, TellsEntry, TellsValue}
+use Rattle.amqp_fields.proofs.EachMade.{each_next, each_none}
+use Rattle.amqp_fields.proofs.ValuesMade.{value_parts}
+use Rattle.amqp_fields.proofs.ValuesTold.{array_encoded, span_fits, table_encoded}
+
+-- ---- parts
+
+-- nothing but a length is refused
+pub record Fits (made : Made) (P : List ℕ → Type 0) : Type 0 where
+  pub suits : Suits (λ (bad : Refusal). IsLength bad.why) made P
+
+pub ok_fits : {P : List ℕ → Type 0} (bytes : List ℕ) → P bytes → Fits (Ok bytes) P
+ok_fits bytes p = record { suits = p }
+
+after_suits : (a b : Made) (P Q R : List ℕ → Type 0) → ((x y : List ℕ) → P x → Q y → R (x ++ y)) → Suits (λ (bad : Refusal). IsLength bad.why) a P → Suits (λ (bad : Refusal). IsLength bad.why) b Q → Suits (λ (bad : Refusal). IsLength bad.why) (after a b) R
+after_suits (Ok x) (Ok y) P Q R both p q = both x y p q
+after_suits (Ok x) (Err bad) P Q R both p q = q
+after_suits (Err bad) b P Q R both p q = p
+
+pub after_fits : (a b : Made) {P Q R : List ℕ → Type 0} → ((x y : List ℕ) → P x → Q y → R (x ++ y)) → Fits a P → Fits b Q → Fits (after a b) R
+after_fits a b {P} {Q} {R} both p q = record { suits = after_suits a b P Q R both p.suits q.suits }
+
+suits_into : (made : Made) (P Q : List ℕ → Type 0) → ((x : List ℕ) → P x → Q x) → Suits (λ (bad : Refusal). IsLength bad.why) made P → Suits (λ (bad : Refusal). IsLength bad.why) made Q
+suits_into (Ok x) P Q into p = into x p
+suits_into (Err bad) P Q into p = p
+
+pub fits_into : (made : Made) {P Q : List ℕ → Type 0} → ((x : List ℕ) → P x → Q x) → Fits made P → Fits made Q
+fits_into made {P} {Q} into p = record { suits = suits_into made P Q into p.suits }
+
+pub as_fits : {P : List ℕ → Type 0} (made other : Made) → made ≡ other → Fits other P → Fits made P
+as_fits {P} made other is h = subst (λ m. Fits m P) (sym is) h
+
+pub if_fits : {P : List ℕ → Type 0} (test : Bool) (node : ℕ) (bytes : List ℕ) → test ≡ true → P bytes → Fits (made_if test node bytes) P
+if_fits {P} test node bytes is p = subst (λ t. Fits (made_if t node bytes) P) (sym is) (ok_fits bytes p)
+
+pub alone_fits : {P : List ℕ → Type 0} (made : Made) (index : ℕ) (inside : List Node) → inside ≡ [] → Fits made P → Fits (made_alone made index inside) P
+alone_fits {P} made index inside none h = subst (λ ns. Fits (made_alone made index ns) P) (sym none) h
+
+mod_small : (width : NumberWidth) (n : ℕ) → n < number_limit width → n % number_limit width ≡ n
+mod_small bytes1 n few = omega (arith, few)
+mod_small bytes2 n few = omega (arith, few)
+mod_small bytes4 n few = omega (arith, few)
+mod_small bytes8 n few = omega (arith, few)
+
+pub number_fits : (width : NumberWidth) (node number n : ℕ) → number ≡ n → n < number_limit width → Fits (made_number width node number) (λ bytes. SpellsNumber width bytes n)
+number_fits width node number n is few =
+    let less : number < number_limit width = subst (λ k. k < number_limit width) (sym is) few in
+    if_fits {P = λ bytes. SpellsNumber width bytes n} (nat_lt number (number_limit width)) node (number_bytes width (number % number_limit width)) (grind (arith, nat_tests, less)) (record { fits = few; bytes_are = ap (number_bytes width) (mod_small width number less ∙ is) })
+
+long_by : (node : ℕ) (content : List ℕ) (test : Bool) → is_too_long content ≡ test → Fits (if test then refuse node whys.TooLong else Ok (with_length content)) (λ bytes. SpellsLongString bytes content)
+long_by node content true is = record { suits = tt }
+long_by node content false is = ok_fits (with_length content) (record { fits = grind (arith, nat_tests, is); bytes_are = refl })
+
+pub long_fits : (node : ℕ) (content : List ℕ) → Fits (made_long node content) (λ bytes. SpellsLongString bytes content)
+long_fits node content = long_by node content (is_too_long content) refl
+
+pub text_fits : (node : ℕ) (text : List ℕ) → length text < 256 → IsUtf8 text → Fits (made_text node text) (λ bytes. SpellsShortString bytes text)
+text_fits node text short valid =
+    let few : nat_lt 255 (length text) ≡ false = grind (arith, nat_tests, short) in
+    let P : Bool → Type 0 = λ test. Fits (if test then refuse node whys.TooLong else (if is_utf8 text then Ok (short_string_bytes text) else faulty node errors.NotUtf8)) (λ bytes. SpellsShortString bytes text) in
+    let Q : Bool → Type 0 = λ test. Fits (if test then Ok (short_string_bytes text) else faulty node errors.NotUtf8) (λ bytes. SpellsShortString bytes text) in
+    subst P (sym few) (subst Q (sym (is_utf8-from_IsUtf8 text valid)) (ok_fits (short_string_bytes text) (record { fits = short; utf8 = valid; bytes_are = refl })))
+
+pub span_fits_in : {P : List ℕ → Type 0} (make : List ℕ → Made) (node : ℕ) (pool content : List ℕ) (start count : ℕ) → IsSpan pool start count content → Fits (make content) P → Fits (made_span make node (span_in pool start count)) P
+span_fits_in {P} make node pool content start count h made =
+    let within : nat_le (start + count) (length pool) ≡ true = grind (arith, nat_tests, h.within) in
+    let Q : Bool → Type 0 = λ test. Fits (made_span make node (if test then Some (take count (drop start pool)) else None)) P in
+    subst Q (sym within) (subst (λ bs. Fits (make bs) P) (sym h.bytes_are) made)
+
+given_fits : {A : Type 0} (node : ℕ) (content : List ℕ) (read : Result (List A) Fault) (things : List A) → read ≡ Ok things → Fits (made_given node content read) (λ bytes. SpellsLongString bytes content)
+given_fits node content read things is = subst (λ r. Fits (made_given node content r) (λ bytes. SpellsLongString bytes content)) (sym is) (long_fits node content)
+
+closed_fits : {P Q : List ℕ → Type 0} (node : ℕ) (made : Made) → ((content bytes : List ℕ) → P content → SpellsLongString bytes content → Q bytes) → Fits made P → Fits (closed node made) Q
+closed_fits node (Ok content) into p = fits_into (made_long node content) (λ bytes long. into content bytes p.suits long) (long_fits node content)
+closed_fits node (Err bad) into p = record { suits = p.suits }
+
+-- ---- things one after another
+
+pub each_fits : {A : Type 0} (make : Maker) (Means : Node → List Node → A → Type 0) (Spells : List ℕ → A → Type 0) → ((end : ℕ) (node : Node) (inside : List Node) (x : A) → Means node inside x → Fits (make end node inside) (λ bytes. Spells bytes x))
+    → (end : ℕ) (xs : List A) (nodes : List Node) → AreNodes Means xs nodes → Fits (made_each make end 0 nodes) (λ bytes. SpellsEach Spells bytes xs)
+each_fits make Means Spells one end [] nodes h = as_fits (made_each make end 0 nodes) (Ok []) (ap (made_each make end 0) h ∙ each_none make end) (ok_fits [] refl)
+each_fits make Means Spells one end (x ∷ xs) nodes h =
+    let first : StandsFirst nodes h.node h.inside h.others = record { nodes_are = h.nodes_are; inside_is = h.inside_is } in
+    as_fits (made_each make end 0 nodes) (after (make (end - length h.others) h.node h.inside) (made_each make end 0 h.others)) (each_next make end first)
+    (after_fits (make (end - length h.others) h.node h.inside) (made_each make end 0 h.others) (λ a b p q. (a, b, refl, p, q)) (one (end - length h.others) h.node h.inside x h.means) (each_fits make Means Spells one end xs h.others h.rest))
+
+-- ---- numbers
+
+octet_bits : (bits number : ℕ) → bits < 2 ^ 8 → number ≡ cast_unsigned w64 (cast_signed w8 bits) → (is_signed bytes1 number ≡ true) × (number % 2 ^ 8 ≡ bits)
+octet_bits bits number few is = elim (cases_lt bits (2 ^ 7)) [
+  | inl low ↦ (let same : number ≡ bits = is ∙ ap (cast_unsigned w64) (to_z_pos w8 bits low) in (grind (arith, nat_tests, same, low), omega (arith, same, few)))
+  | inr high ↦ (
+      let k = 2 ^ 8 - 1 - bits in
+      let below : k < 2 ^ 7 = omega (arith, high, few) in
+      let back : bits ≡ 2 ^ 8 - suc k = omega (arith, few) in
+      let same : number ≡ 2 ^ 64 - suc k = is ∙ ap (λ m. cast_unsigned w64 (cast_signed w8 m)) back ∙ ap (cast_unsigned w64) (to_z-neg w8 k below) in
+      (grind (arith, nat_tests, same, high, few), omega (arith, same, few)))
+]
+
+short_bits : (bits number : ℕ) → bits < 2 ^ 16 → number ≡ cast_unsigned w64 (cast_signed w16 bits) → (is_signed bytes2 number ≡ true) × (number % 2 ^ 16 ≡ bits)
+short_bits bits number few is = elim (cases_lt bits (2 ^ 15)) [
+  | inl low ↦ (let same : number ≡ bits = is ∙ ap (cast_unsigned w64) (to_z_pos w16 bits low) in (grind (arith, nat_tests, same, low), omega (arith, same, few)))
+  | inr high ↦ (
+      let k = 2 ^ 16 - 1 - bits in
+      let below : k < 2 ^ 15 = omega (arith, high, few) in
+      let back : bits ≡ 2 ^ 16 - suc k = omega (arith, few) in
+      let same : number ≡ 2 ^ 64 - suc k = is ∙ ap (λ m. cast_unsigned w64 (cast_signed w16 m)) back ∙ ap (cast_unsigned w64) (to_z-neg w16 k below) in
+      (grind (arith, nat_tests, same, high, few), omega (arith, same, few)))
+]
+
+long_bits : (bits number : ℕ) → bits < 2 ^ 32 → number ≡ cast_unsigned w64 (cast_signed w32 bits) → (is_signed bytes4 number ≡ true) × (number % 2 ^ 32 ≡ bits)
+long_bits bits number few is = elim (cases_lt bits (2 ^ 31)) [
+  | inl low ↦ (let same : number ≡ bits = is ∙ ap (cast_unsigned w64) (to_z_pos w32 bits low) in (grind (arith, nat_tests, same, low), omega (arith, same, few)))
+  | inr high ↦ (
+      let k = 2 ^ 32 - 1 - bits in
+      let below : k < 2 ^ 31 = omega (arith, high, few) in
+      let back : bits ≡ 2 ^ 32 - suc k = omega (arith, few) in
+      let same : number ≡ 2 ^ 64 - suc k = is ∙ ap (λ m. cast_unsigned w64 (cast_signed w32 m)) back ∙ ap (cast_unsigned w64) (to_z-neg w32 k below) in
+      (grind (arith, nat_tests, same, high, few), omega (arith, same, few)))
+]
+
+-- ---- after a tag
+
+module _ (pool : List ℕ) (nested : Nested) (depth : ℕ) (Array : Node → List Node → List FieldValue → Type 0) (Table : Node → List Node → List Entry → Type 0) (Spells : List ℕ → FieldValue → Type 0)
+    (array_fits : (end : ℕ) (node : Node) (inside : List Node) (vs : List FieldValue) → Array node inside vs → Fits (nested_array pool nested end node inside) (λ bytes. (0 < depth) × SpellsArray Spells bytes vs))
+    (table_fits : (end : ℕ) (node : Node) (inside : List Node) (es : List Entry) → Table node inside es → Fits (nested_table pool nested end node inside) (λ bytes. (0 < depth) × SpellsTable plain Spells bytes es))
+    (end : ℕ) (node : Node) (inside : List Node)
+  where
+    abbrev Behind : FieldTag → FieldValue → Type 0
+    Behind t v = Fits (made_behind pool nested t end node inside) (λ bytes. SpellsBehind plain depth Spells bytes v)
+
+    truth_fits : (b : Bool) → node.number ≡ bit_of b → inside ≡ [] → Behind tag.Boolean (boolean_value b)
+    unfolding made_behind made_leaf
+    truth_fits true is none =
+        let low : node.number % 2 ^ 8 ≡ 1 = omega (arith, is) in
+        alone_fits (made_truth (own_index end inside) node.number) (own_index end inside) inside none
+        (if_fits (nat_lt node.number 2) (own_index end inside) (number_bytes bytes1 (node.number % 2 ^ 8)) (grind (arith, nat_tests, is)) (1, λ e. absurd (omega (arith, e)), ap (number_bytes bytes1) low))
+    truth_fits false is none =
+        let low : node.number % 2 ^ 8 ≡ 0 = omega (arith, is) in
+        alone_fits (made_truth (own_index end inside) node.number) (own_index end inside) inside none
+        (if_fits (nat_lt node.number 2) (own_index end inside) (number_bytes bytes1 (node.number % 2 ^ 8)) (grind (arith, nat_tests, is)) (ap (number_bytes bytes1) low))
+
+    -- of the three that are shorter than 8 bytes
+    signed_made : (width : NumberWidth) (n : ℤ) (bits : ℕ) → bits < number_limit width → n ≡ cast_signed (width_of width) bits → inside ≡ [] → (is_signed width node.number ≡ true) × (node.number % number_limit width ≡ bits)
+        → Fits (made_alone (made_signed width (own_index end inside) node.number) (own_index end inside) inside) (λ bytes. SpellsSigned width bytes n)
+    signed_made width n bits few means none both =
+        alone_fits (made_signed width (own_index end inside) node.number) (own_index end inside) inside none
+        (if_fits (is_signed width node.number) (own_index end inside) (number_bytes width (node.number % number_limit width)) both.0 (record { bits = bits; spelled = record { fits = few; bytes_are = ap (number_bytes width) both.1 }; means = means }))
+
+    as_bits : (width : NumberWidth) (n : ℤ) (h : IsSigned width node.number n) → node.number ≡ cast_unsigned w64 (cast_signed (width_of width) h.bits)
+    as_bits width n h = h.number_is ∙ ap (cast_unsigned w64) h.means
+
+    signed_fits : (kind : SignedKind) (n : ℤ) → IsSigned (signed_width kind) node.number n → inside ≡ [] → Behind (tag_of (signed_value kind n)) (signed_value kind n)
+    unfolding made_behind made_leaf
+    signed_fits short_short_int n h none = signed_made bytes1 n h.bits h.fits h.means none (octet_bits h.bits node.number h.fits (as_bits bytes1 n h))
+    signed_fits short_int n h none = signed_made bytes2 n h.bits h.fits h.means none (short_bits h.bits node.number h.fits (as_bits bytes2 n h))
+    signed_fits long_int n h none = signed_made bytes4 n h.bits h.fits h.means none (long_bits h.bits node.number h.fits (as_bits bytes4 n h))
+    signed_fits long_long_int n h none =
+        let same : node.number ≡ h.bits = as_bits bytes8 n h ∙ of_z-to_z w64 h.bits h.fits in
+        alone_fits (made_number bytes8 (own_index end inside) node.number) (own_index end inside) inside none
+        (fits_into (made_number bytes8 (own_index end inside) node.number) (λ bytes spelled. record { bits = h.bits; spelled = spelled; means = h.means }) (number_fits bytes8 (own_index end inside) node.number h.bits same h.fits))
+
+    unsigned_made : (width : NumberWidth) (n : ℕ) → node.number ≡ n → n < number_limit width → inside ≡ [] → Fits (made_alone (made_number width (own_index end inside) node.number) (own_index end inside) inside) (λ bytes. SpellsNumber width bytes n)
+    unsigned_made width n is few none = alone_fits (made_number width (own_index end inside) node.number) (own_index end inside) inside none (number_fits width (own_index end inside) node.number n is few)
+
+    unsigned_fits : (kind : UnsignedKind) (n : ℕ) → n < number_limit (unsigned_width kind) → node.number ≡ n → inside ≡ [] → Behind (tag_of (unsigned_value kind n)) (unsigned_value kind n)
+    unfolding made_behind made_leaf
+    unsigned_fits short_short_uint n few is none = unsigned_made bytes1 n is few none
+    unsigned_fits short_uint n few is none = unsigned_made bytes2 n is few none
+    unsigned_fits long_uint n few is none = unsigned_made bytes4 n is few none
+    unsigned_fits float n few is none = unsigned_made bytes4 n is few none
+    unsigned_fits double n few is none = unsigned_made bytes8 n is few none
+    unsigned_fits timestamp n few is none = unsigned_made bytes8 n is few none
+
+    bytes_made : (content : List ℕ) → IsSpan pool node.start node.length content → inside ≡ [] → Fits (made_alone (made_span (made_long (own_index end inside)) (own_index end inside) (span_in pool node.start node.length)) (own_index end inside) inside) (λ bytes. SpellsLongString bytes content)
+    bytes_made content span none =
+        alone_fits (made_span (made_long (own_index end inside)) (own_index end inside) (span_in pool node.start node.length)) (own_index end inside) inside none
+        (span_fits_in (made_long (own_index end inside)) (own_index end inside) pool content node.start node.length span (long_fits (own_index end inside) content))
+
+    bytes_fits : (kind : BytesKind) (content : List ℕ) → IsSpan pool node.start node.length content → inside ≡ [] → Behind (tag_of (bytes_value kind content)) (bytes_value kind content)
+    unfolding made_behind made_leaf
+    bytes_fits long_string content span none = bytes_made content span none
+    bytes_fits byte_array content span none = bytes_made content span none
+
+    behind_fits : (v : FieldValue) → Tells (Array node inside) (Table node inside) pool node inside v → Behind (tag_of v) v
+    unfolding made_behind made_leaf Tells
+    behind_fits (boolean_value b) h = truth_fits b h.0 h.1
+    behind_fits (signed_value kind n) h = signed_fits kind n h.0 h.1
+    behind_fits (unsigned_value kind n) h = unsigned_fits kind n h.0 h.1 h.2
+    behind_fits (decimal_value scale n) h =
+        let index = own_index end inside in
+        alone_fits (after (made_number bytes1 index node.scale) (made_number bytes4 index node.number)) index inside h.4
+        (after_fits (made_number bytes1 index node.scale) (made_number bytes4 index node.number)
+        (λ a b p q. record { front = a; behind = b; one = scale; two = n; bytes_are = refl; first_is = p; second_is = q; joined = refl })
+        (number_fits bytes1 index node.scale scale h.2 h.0) (number_fits bytes4 index node.number n h.3 h.1))
+    behind_fits (bytes_value kind content) h = bytes_fits kind content h.0 h.1
+    behind_fits (array_value vs) h = array_fits end node inside (items vs) h
+    behind_fits (table_value es) h = table_fits end node inside (pairs es) h
+    behind_fits void_value h = alone_fits (Ok []) (own_index end inside) inside h (ok_fits [] refl)
+
+-- a tag and its value
+value_by : (pool : List ℕ) (depth_left end : ℕ) (node : Node) (inside : List Node) (v : FieldValue) (Spelled : List ℕ → FieldValue → Type 0) → node.kind ≡ tag_byte (tag_of v) → Fits (made_behind pool (made_nested pool depth_left) (tag_of v) end node inside) (λ bytes. Spelled bytes v)
+    → Fits (made_value pool depth_left end node inside) (λ bytes. SpellsTagged plain Spelled bytes v)
+value_by pool depth_left end node inside v Spelled kind h =
+    let read : tag_at node.kind ≡ Some (tag_of v) = tag_read node.kind (tag_of v) (inl kind) in
+    as_fits (made_value pool depth_left end node inside) (after (Ok (node.kind ∷ [])) (made_behind pool (made_nested pool depth_left) (tag_of v) end node inside)) (value_parts pool depth_left end node inside (tag_of v) read (sym kind))
+    (after_fits (Ok (node.kind ∷ [])) (made_behind pool (made_nested pool depth_left) (tag_of v) end node inside) {P = λ bytes. bytes ≡ node.kind ∷ []} {Q = λ bytes. Spelled bytes v}
+    (λ a b p q. record { byte = node.kind; behind = b; bytes_are = ap (λ bs. bs ++ b) p; tag_is = inl kind; value_is = q }) (ok_fits (node.kind ∷ []) refl) h)
+
+-- ---- tables and arrays
+
+module _ (pool : List ℕ) (fits : IsBytes pool) (depth_left : ℕ) (value : Maker)
+    (one : (end : ℕ) (node : Node) (inside : List Node) (v : FieldValue) → TellsValue depth_left pool node inside v → Fits (value end node inside) (λ bytes. SpellsValue plain depth_left bytes v))
+  where
+    pub entry_fits : (end : ℕ) (node : Node) (inside : List Node) (e : Entry) → TellsEntry (TellsValue depth_left pool) pool node inside e → Fits (made_entry pool value end node inside) (λ bytes. SpellsEntry (SpellsValue plain depth_left) bytes e)
+    unfolding made_entry
+    entry_fits end node inside e h =
+        let index = own_index end inside in
+        after_fits (made_span (made_text index) index (span_in pool node.key_start node.key_length)) (value end node inside)
+        (λ a b p q. record { front = a; behind = b; one = e.0; two = e.1; bytes_are = refl; first_is = p; second_is = q; joined = refl })
+        (span_fits_in (made_text index) index pool e.0 node.key_start node.key_length h.key (text_fits index e.0 h.short h.utf8)) (one end node inside e.1 h.value)
+
+    pub array_fits_at : (end : ℕ) (node : Node) (inside : List Node) (vs : List FieldValue) → Holds (judge_value depth_left) (λ values nodes. AreNodes (TellsValue depth_left pool) values nodes) pool node inside vs → Fits (made_array pool depth_left value end node inside) (λ bytes. SpellsArray (SpellsValue plain depth_left) bytes vs)
+    unfolding made_items
+    array_fits_at end node [] vs h =
+        let index = own_index end [] in
+        let content_fits = span_fits pool h.content node.start node.length fits h.span in
+        span_fits_in (λ content. made_given index content (filled (judge_value depth_left) 0 content)) index pool h.content node.start node.length h.span
+        (fits_into (made_given index h.content (filled (judge_value depth_left) 0 h.content)) (λ bytes long. array_encoded h.content bytes content_fits long depth_left vs h.fills) (given_fits index h.content (filled (judge_value depth_left) 0 h.content) vs h.fills))
+    array_fits_at end node (first ∷ others) vs h =
+        closed_fits (own_index end (first ∷ others)) (made_each value end 0 (first ∷ others)) (λ content bytes each long. record { inner = content; framed = long; each = each })
+        (each_fits value (TellsValue depth_left pool) (SpellsValue plain depth_left) one end vs (first ∷ others) h)
+
+    table_by : (bytes : List ℕ) (table entries : List Entry) → table ≡ settled entries → SpellsTable plain (SpellsValue plain depth_left) bytes (settled entries) → SpellsTable plain (SpellsValue plain depth_left) bytes table
+    table_by bytes table entries is h = subst (λ es. SpellsTable plain (SpellsValue plain depth_left) bytes es) (sym is) h
+
+    holds_table : (end : ℕ) (node : Node) (inside : List Node) (entries : List Entry) → Holds (judge_entry (judge_value depth_left)) (λ entries nodes. AreNodes (TellsEntry (TellsValue depth_left pool) pool) entries nodes) pool node inside entries
+        → Fits (made_table pool depth_left value end node inside) (λ bytes. SpellsTable plain (SpellsValue plain depth_left) bytes (settled entries))
+    unfolding made_items
+    holds_table end node [] entries h =
+        let index = own_index end [] in
+        let content_fits = span_fits pool h.content node.start node.length fits h.span in
+        span_fits_in (λ content. made_given index content (filled (judge_entry (judge_value depth_left)) 0 content)) index pool h.content node.start node.length h.span
+        (fits_into (made_given index h.content (filled (judge_entry (judge_value depth_left)) 0 h.content)) (λ bytes long. table_encoded h.content bytes content_fits long depth_left entries h.fills) (given_fits index h.content (filled (judge_entry (judge_value depth_left)) 0 h.content) entries h.fills))
+    holds_table end node (first ∷ others) entries h =
+        closed_fits (own_index end (first ∷ others)) (made_each (made_entry pool value) end 0 (first ∷ others)) (λ content bytes each long. record { inner = content; entries = entries; framed = long; each = each; counts = settles entries; once = tt })
+        (each_fits (made_entry pool value) (TellsEntry (TellsValue depth_left pool) pool) (SpellsEntry (SpellsValue plain depth_left)) entry_fits end entries (first ∷ others) h)
+
+    pub table_fits_at : (end : ℕ) (node : Node) (inside : List Node) (table : List Entry) → HoldsTable (Holds (judge_entry (judge_value depth_left)) (λ entries nodes. AreNodes (TellsEntry (TellsValue depth_left pool) pool) entries nodes) pool node inside) table
+        → Fits (made_table pool depth_left value end node inside) (λ bytes. SpellsTable plain (SpellsValue plain depth_left) bytes table)
+    table_fits_at end node inside table h = fits_into (made_table pool depth_left value end node inside) (λ bytes spelled. table_by bytes table h.entries h.settles spelled) (holds_table end node inside h.entries h.holds)
+
+-- ---- values
+
+module _ (pool : List ℕ) (fits : IsBytes pool) where
+  pub value_fits : (depth_left end : ℕ) (node : Node) (inside : List Node) (v : FieldValue) → TellsValue depth_left pool node inside v → Fits (made_value pool depth_left end node inside) (λ bytes. SpellsValue plain depth_left bytes v)
+  unfolding TellsAt SpellsValue made_nested made_value
+  value_fits zero end node inside v h =
+      value_by pool 0 end node inside v (SpellsBehind plain 0 (λ _ _. ⊥)) h.0
+      (behind_fits pool None 0 (λ node inside values. ⊥) (λ node inside table. ⊥) (λ _ _. ⊥) (λ end node inside vs no. absurd no) (λ end node inside es no. absurd no) end node inside v h.1)
+  value_fits (suc depth_left) end node inside v h =
+      value_by pool (suc depth_left) end node inside v (SpellsBehind plain (suc depth_left) (SpellsValue plain depth_left)) h.0
+      (behind_fits pool (Some (depth_left, made_value pool depth_left)) (suc depth_left) (Holds (judge_value depth_left) (λ values nodes. AreNodes (TellsValue depth_left pool) values nodes) pool)
+      (λ node inside table. HoldsTable (Holds (judge_entry (judge_value depth_left)) (λ entries nodes. AreNodes (TellsEntry (TellsValue depth_left pool) pool) entries nodes) pool node inside) table) (SpellsValue plain depth_left)
+      (λ end node inside vs a. fits_into (made_array pool depth_left (made_value pool depth_left) end node inside) (λ bytes spelled. (omega arith, spelled)) (array_fits_at pool fits depth_left (made_value pool depth_left) (value_fits depth_left) end node inside vs a))
+      (λ end node inside es a. fits_into (made_table pool depth_left (made_value pool depth_left) end node inside) (λ bytes spelled. (omega arith, spelled)) (table_fits_at pool fits depth_left (made_value pool depth_left) (value_fits depth_left) end node inside es a))
+      end node inside v h.1)

@@ -1,0 +1,334 @@
+-- Frames that are meant are made, unless a length is too great.
+use Rattle.std.proofs.Common.{◌≡◌, ℕ, suc, ◌+◌, ◌<◌, ◌≤◌, ◌^◌, ◌%◌, ◌==◌, ◌&&◌, Bool, true, false, List, [], ◌∷◌, ◌++◌, length, map, take, drop, Option, Some, None, unwrap_or, Result, Ok, Err, refl, sym, ap, ap₂, subst, ◌∙◌, append_assoc, arith, nat_lt, nat_le, if◌then◌else◌}
+use Rattle.std.specs.Prelude.{is_some}
+use Rattle.std.proofs.lemmas.Bool.Decides.{nat_tests}
+use Rattle.amqp_types.specs.Levels.{plain}
+use Rattle.amqp_types.specs.Judging.{IsBytes}
+use Rattle.amqp_types.specs.Numbers.{bytes1, bytes2, number_bytes}
+use Rattle.amqp_types.specs.Flags.{flag_at}
+use Rattle.amqp_types.specs.Constants.{protocol_byte, method_byte, header_byte, body_byte, heartbeat_byte, protocol_mark}
+use Rattle.amqp_types.specs.Slots.{Item, number_item, number_form, Slot, kept_slot}
+use Rattle.amqp_types.specs.Rows.{slots_at}
+use Rattle.amqp_types.specs.Methods.{Method}
+use Rattle.amqp_types.specs.MethodSpelling.{SpellsPayload}
+use Rattle.amqp_types.specs.Properties.{Property, later_properties, properties}
+use Rattle.amqp_types.specs.PropertyBytes.{mask_of}
+use Rattle.amqp_types.specs.PropertySpelling.{SpellsOptional, SpellsProperties, SpellsSet}
+use Rattle.amqp_types.specs.ContentHeaders.{ContentHeader, SpellsContentHeader, header_of_parts}
+use Rattle.amqp_types.specs.SlotSpelling.{SpellsSlots}
+use Rattle.amqp_laws.proofs.Masks.{IsMaskOf, flags_mask, flags_mask_is, mask_of-flags, set_flags}
+use Rattle.amqp_laws.proofs.MethodLaws.{in_table}
+use Rattle.amqp_wire.specs.Frames.{Frame, Proto, Meth, Head, Body, Beat, BadBeat}
+use Rattle.amqp_wire.specs.Spelling.{IsFramed, IsWithin, Spells, SpellsFrames, framed, proto}
+use Rattle.amqp_wire.proofs.Sizes.{framed_length}
+use Rattle.amqp_fields.specs.declared.head.Head as given
+use Rattle.amqp_fields.specs.declared.node.Node.{Node}
+use Rattle.amqp_fields.specs.declared.refusals.WriteError.{WriteError}
+use Rattle.amqp_fields.specs.declared.refusals.WriteRefusal.TheVariants as whys
+use Rattle.amqp_fields.specs.Listed.{next_place, version_slots}
+use Rattle.amqp_fields.specs.Made.{Made, after, made_span, misfit, refuse, span_in}
+use Rattle.amqp_fields.specs.MadeFields.{group_size, is_next, made_field, made_none, made_properties, made_set, made_slots, set_at}
+use Rattle.amqp_fields.specs.MadeFrames.{at_head, has_no_ids, header_front, is_held, made_around, made_beat, made_body, made_frame, made_frames, made_header, made_known, made_method, made_own, made_payload, made_typed, made_version, nodes_in}
+use Rattle.amqp_fields.specs.Making.{RefusesLength, Suits}
+use Rattle.amqp_fields.specs.Meaning.{AreNodes, IsSpan, fields_from, fields_of, kinds_in, set_fields}
+use Rattle.amqp_fields.specs.Meant.{HasNoIds, IsMethod, TellFrames, TellsField, TellsFields, TellsFrame, TellsTyped}
+use Rattle.amqp_fields.proofs.FramesTold.{front_spelled}
+use Rattle.amqp_fields.proofs.PayloadsFound.{few_fields, few_spare, fourteen}
+use Rattle.amqp_fields.proofs.Spans.{byte_below}
+use Rattle.amqp_fields.proofs.Suited.{Fits, after_fits, as_fits, fits_into, ok_fits, span_fits_in}
+use Rattle.amqp_fields.proofs.SuitedFields.{IsOne, field_fits, slots_fit}
+
+-- ---- properties
+
+abbrev pub AreOne : List Property → Type 0
+AreOne [] = Unit {0}
+AreOne (p ∷ ps) = IsOne p.form × AreOne ps
+
+pub all_one : AreOne properties
+unfolding properties later_properties
+all_one = (tt, (tt, (tt, (tt, (tt, (tt, (tt, (tt, (tt, (tt, (tt, (tt, (tt, (tt, tt))))))))))))))
+
+module _ (pool : List ℕ) (fits : IsBytes pool) where
+  -- the nodes of properties from a place on are not at a place before it
+  later_place : (before place : ℕ) (ps : List Property) (options : List (Option Item)) (nodes : List Node) → before < place → AreNodes (TellsField pool) (set_fields place ps options) nodes → is_next before nodes ≡ false
+  later_place before place [] options nodes less h = ap (is_next before) h
+  later_place before place (p ∷ ps) [] nodes less h = ap (is_next before) h
+  later_place before place (p ∷ ps) (None ∷ options) nodes less h = later_place before (place + 1) ps options nodes (omega (arith, less)) h
+  later_place before place (p ∷ ps) (Some item ∷ options) nodes less h =
+      let other : (h.node.place == before) ≡ false = grind (arith, nat_tests, h.means.place_is, less) in
+      ap (is_next before) h.nodes_are ∙ other
+
+  record SetFits (end place : ℕ) (ps : List Property) (options : List (Option Item)) (nodes : List Node) : Type 0 where
+    chosen : map is_some (set_at place ps nodes) ≡ map is_some options
+    made : (mask : ℕ) → set_flags mask ps ≡ map is_some options → Fits (made_set pool end place ps nodes) (λ bytes. SpellsSet plain mask ps bytes options)
+
+  none_fits : (end : ℕ) (nodes : List Node) {P : List ℕ → Type 0} → nodes ≡ [] → P [] → Fits (made_none end nodes) P
+  none_fits end nodes {P} none p = subst (λ ns. Fits (made_none end ns) P) (sym none) (ok_fits [] p)
+
+  past_eq : (end place : ℕ) (p : Property) (ps : List Property) (nodes : List Node) → place + 1 < 256 → is_next place nodes ≡ false → (set_at place (p ∷ ps) nodes ≡ None ∷ set_at (place + 1) ps nodes) × (made_set pool end place (p ∷ ps) nodes ≡ made_set pool end (place + 1) ps nodes)
+  unfolding made_set set_at
+  past_eq end place p ps nodes room off =
+      let next : next_place place 1 ≡ place + 1 = byte_below (place + 1) room in (
+        ap (λ test. if test then Some (number_item 0) ∷ set_at (next_place place 1) ps (drop (group_size nodes) nodes) else None ∷ set_at (next_place place 1) ps nodes) off ∙ ap (λ k. None ∷ set_at k ps nodes) next,
+        ap (λ test. if test then after (made_field pool end place p.form nodes) (made_set pool end (next_place place 1) ps (drop (group_size nodes) nodes)) else made_set pool end (next_place place 1) ps nodes) off ∙ ap (λ k. made_set pool end k ps nodes) next,
+      )
+
+  here_eq : (end place : ℕ) (p : Property) (ps : List Property) (nodes left : List Node) → place + 1 < 256 → is_next place nodes ≡ true → left ≡ drop (group_size nodes) nodes
+      → (set_at place (p ∷ ps) nodes ≡ Some (number_item 0) ∷ set_at (place + 1) ps left) × (made_set pool end place (p ∷ ps) nodes ≡ after (made_field pool end place p.form nodes) (made_set pool end (place + 1) ps left))
+  unfolding made_set set_at
+  here_eq end place p ps nodes left room on is =
+      let next : next_place place 1 ≡ place + 1 = byte_below (place + 1) room in (
+        ap (λ test. if test then Some (number_item 0) ∷ set_at (next_place place 1) ps (drop (group_size nodes) nodes) else None ∷ set_at (next_place place 1) ps nodes) on ∙ ap₂ (λ k ns. Some (number_item 0) ∷ set_at k ps ns) next (sym is),
+        ap (λ test. if test then after (made_field pool end place p.form nodes) (made_set pool end (next_place place 1) ps (drop (group_size nodes) nodes)) else made_set pool end (next_place place 1) ps nodes) on
+            ∙ ap₂ (λ k ns. after (made_field pool end place p.form nodes) (made_set pool end k ps ns)) next (sym is),
+      )
+
+  set_fit : (end place : ℕ) (ps : List Property) (options : List (Option Item)) (nodes : List Node) → place + length ps < 256 → AreOne ps → length options ≡ length ps → AreNodes (TellsField pool) (set_fields place ps options) nodes → SetFits end place ps options nodes
+  unfolding made_set set_at
+  set_fit end place [] [] nodes room one number h = record { chosen = refl; made = λ mask flags. none_fits end nodes h (refl, refl) }
+  set_fit end place [] (option ∷ options) nodes room one number h = absurd (omega (arith, number))
+  set_fit end place (p ∷ ps) [] nodes room one number h = absurd (omega (arith, number))
+  set_fit end place (p ∷ ps) (None ∷ options) nodes room one number h =
+      let off = later_place place (place + 1) ps options nodes (omega arith) h in
+      let past = past_eq end place p ps nodes (omega (arith, room)) off in
+      let more = set_fit end (place + 1) ps options nodes (omega (arith, room)) one.1 (omega (arith, number)) h in
+      record {
+        chosen = ap (map is_some) past.0 ∙ ap (λ bs. false ∷ bs) more.chosen;
+        made = λ mask flags.
+            let bit : flag_at mask p.bit ≡ false = cc in
+            let others : set_flags mask ps ≡ map is_some options = cc in
+            fits_into (made_set pool end place (p ∷ ps) nodes)
+            (λ bytes spelled. record { front = []; behind = bytes; one = None; two = options; bytes_are = refl; first_is = subst (λ present. SpellsOptional plain present p.form [] None) (sym bit) (refl, refl); second_is = spelled; joined = refl })
+            (as_fits (made_set pool end place (p ∷ ps) nodes) (made_set pool end (place + 1) ps nodes) past.1 (more.made mask others));
+      }
+  set_fit end place (p ∷ ps) (Some item ∷ options) nodes room one number h =
+      let found = field_fits pool fits end place p.form item nodes (λ others. AreNodes (TellsField pool) (set_fields (place + 1) ps options) others) one.0 h in
+      let first : (h.node.place == place) ≡ true = grind (arith, nat_tests, h.means.place_is) in
+      let on : is_next place nodes ≡ true = ap (is_next place) h.nodes_are ∙ first in
+      let here = here_eq end place p ps nodes h.others (omega (arith, room)) on found.1 in
+      let more = set_fit end (place + 1) ps options h.others (omega (arith, room)) one.1 (omega (arith, number)) h.rest in
+      record {
+        chosen = ap (map is_some) here.0 ∙ ap (λ bs. true ∷ bs) more.chosen;
+        made = λ mask flags.
+            let bit : flag_at mask p.bit ≡ true = cc in
+            let others : set_flags mask ps ≡ map is_some options = cc in
+            as_fits (made_set pool end place (p ∷ ps) nodes) (after (made_field pool end place p.form nodes) (made_set pool end (place + 1) ps h.others)) here.1
+            (after_fits (made_field pool end place p.form nodes) (made_set pool end (place + 1) ps h.others)
+            (λ a b spelled rest. record {
+              front = a;
+              behind = b;
+              one = Some item;
+              two = options;
+              bytes_are = refl;
+              first_is = subst (λ present. SpellsOptional plain present p.form a (Some item)) (sym bit) (record { thing = item ∷ []; spelled = spelled; made = refl });
+              second_is = rest;
+              joined = refl;
+            }) found.0 (more.made mask others));
+      }
+
+  map_length : (options : List (Option Item)) → length (map is_some options) ≡ length options
+  map_length [] = refl
+  map_length (option ∷ options) = ap suc (map_length options)
+
+  properties_fit : (end : ℕ) (options : List (Option Item)) (nodes : List Node) → length options ≡ length properties → AreNodes (TellsField pool) (set_fields 0 properties options) nodes → Fits (made_properties pool end nodes) (λ bytes. SpellsProperties plain bytes options)
+  unfolding made_properties
+  properties_fit end options nodes number h =
+      let set = set_fit end 0 properties options nodes (omega (arith, fourteen)) all_one number h in
+      let mask = mask_of properties (set_at 0 properties nodes) in
+      let count : length (map is_some options) ≡ 14 = map_length options ∙ number ∙ fourteen in
+      let is : IsMaskOf mask (map is_some options) = subst (λ m. IsMaskOf m (map is_some options)) (sym (mask_of-flags properties (set_at 0 properties nodes) ∙ ap (flags_mask properties) set.chosen)) (flags_mask_is (map is_some options) count) in
+      after_fits (Ok (number_bytes bytes2 mask)) (made_set pool end 0 properties nodes) {P = λ bytes. bytes ≡ number_bytes bytes2 mask}
+      (λ a b p q. record { mask = mask; behind = b; fits = is.fits; bytes_are = ap (λ bs. bs ++ b) p; set = q; unused = tt }) (ok_fits (number_bytes bytes2 mask) refl) (set.made mask is.set)
+
+  -- ---- payloads
+
+  own_fits : (make : List Node → Made) (nodes : List Node) (head : given.Head) {P : List ℕ → Type 0} → head.first + head.nodes ≤ length nodes → Fits (make (take head.nodes (drop head.first nodes))) P → Fits (made_own make (nodes_in nodes head)) P
+  own_fits make nodes head {P} within h =
+      let le : nat_le (head.first + head.nodes) (length nodes) ≡ true = grind (arith, nat_tests, within) in
+      subst (λ test. Fits (made_own make (if test then Some (take head.nodes (drop head.first nodes)) else None)) P) (sym le) h
+
+  test_fits : (test : Bool) (made other : Made) {P : List ℕ → Type 0} → test ≡ true → Fits made P → Fits (if test then made else other) P
+  test_fits test made other {P} is h = subst (λ t. Fits (if t then made else other) P) (sym is) h
+
+  free_ids : (head : given.Head) → HasNoIds head → has_no_ids head ≡ true
+  free_ids head h = grind (arith, nat_tests, h.0, h.1, h.2)
+
+  method_fits : (nodes : List Node) (head : given.Head) (channel : ℕ) (m : Method) → head.class_id ≡ m.class → head.method_id ≡ m.id → head.body_size ≡ 0 → IsMethod m → TellsFields pool nodes head.first head.nodes (Meth channel m) → Fits (made_method pool nodes head) (λ bytes. SpellsPayload plain bytes m)
+  unfolding made_method fields_of
+  method_fits nodes head channel m class id free is h =
+      let slots = is.slots in
+      let own = take head.nodes (drop head.first nodes) in
+      let ids = number_bytes bytes2 head.class_id ++ number_bytes bytes2 head.method_id in
+      let known : slots_at head.class_id head.method_id ≡ Some slots = ap₂ (λ a b. slots_at a b) class id ∙ is.known in
+      let table = in_table m.class m.id slots is.known in
+      let kinds : kinds_in (unwrap_or (slots_at m.class m.id) []) ≡ kinds_in slots = ap (λ o. kinds_in (unwrap_or o [])) is.known in
+      let means = subst (λ ks. AreNodes (TellsField pool) (fields_from 0 ks m.items) own) kinds h.fields in
+      let few = few_fields m.class m.id slots is.known in
+      let slots_made = slots_fit pool fits (head.first + head.nodes) 0 slots m.items own (omega (arith, few)) (few_spare m.class m.id slots is.known) table.least is.number means in
+      let free_is : (head.body_size == 0) ≡ true = grind (arith, nat_tests, free) in
+      let make : List Node → Made = λ own. after (Ok ids) (made_slots pool (head.first + head.nodes) 0 slots own) in
+      as_fits (made_known pool nodes head (slots_at head.class_id head.method_id)) (made_known pool nodes head (Some slots)) (ap (made_known pool nodes head) known)
+      (test_fits (head.body_size == 0) (made_own make (nodes_in nodes head)) (misfit 0) free_is
+      (own_fits make nodes head h.within
+      (after_fits (Ok ids) (made_slots pool (head.first + head.nodes) 0 slots own) {P = λ bytes. bytes ≡ ids}
+      (λ a b p q. record {
+        slots = slots;
+        class_bytes = number_bytes bytes2 m.class;
+        id_bytes = number_bytes bytes2 m.id;
+        slot_bytes = b;
+        known = is.known;
+        bytes_are = ap (λ bs. bs ++ b) (p ∙ ap₂ (λ x y. number_bytes bytes2 x ++ number_bytes bytes2 y) class id) ∙ append_assoc (number_bytes bytes2 m.class) (number_bytes bytes2 m.id) b;
+        class_is = record { fits = table.class_fits; bytes_are = refl };
+        id_is = record { fits = table.id_fits; bytes_are = refl };
+        slots_are = q;
+      }) (ok_fits ids refl) slots_made)))
+
+  header_fits : (nodes : List Node) (head : given.Head) (channel : ℕ) (header : ContentHeader) → head.class_id < 2 ^ 16 → head.body_size < 2 ^ 64 → head.class_id ≡ header.class_id → head.method_id ≡ 0 → head.body_size ≡ header.body_size → length header.options ≡ length properties
+      → TellsFields pool nodes head.first head.nodes (Head channel header) → Fits (made_header pool nodes head) (λ bytes. SpellsContentHeader plain bytes header)
+  unfolding made_header fields_of
+  header_fits nodes head channel header class_fits size_fits class free size number h =
+      let own = take head.nodes (drop head.first nodes) in
+      let free_is : (head.method_id == 0) ≡ true = grind (arith, nat_tests, free) in
+      let make : List Node → Made = λ own. after (Ok (header_front head)) (made_properties pool (head.first + head.nodes) own) in
+      let same : header_of_parts (number_item head.class_id ∷ number_item head.body_size ∷ []) header.options ≡ header = ap₂ (λ a b. header_of_parts (number_item a ∷ number_item b ∷ []) header.options) class size in
+      test_fits (head.method_id == 0) (made_own make (nodes_in nodes head)) (misfit 0) free_is
+      (own_fits make nodes head h.within
+      (after_fits (Ok (header_front head)) (made_properties pool (head.first + head.nodes) own) {P = λ bytes. bytes ≡ header_front head}
+      (λ a b p q. record {
+        front = header_front head;
+        behind = b;
+        one = number_item head.class_id ∷ number_item head.body_size ∷ [];
+        two = header.options;
+        bytes_are = ap (λ bs. bs ++ b) p;
+        first_is = front_spelled pool fits head.class_id head.body_size class_fits size_fits;
+        second_is = q;
+        joined = sym same;
+      }) (ok_fits (header_front head) refl) (properties_fit (head.first + head.nodes) header.options own number h.fields)))
+
+  body_fits : (head : given.Head) (content : List ℕ) → HasNoIds head → head.nodes ≡ 0 → IsSpan pool head.start head.length content → Fits (made_body pool head) (λ bytes. bytes ≡ content)
+  unfolding made_body
+  body_fits head content free none span =
+      let is : (has_no_ids head && (head.nodes == 0)) ≡ true = grind (arith, nat_tests, free_ids head free, none) in
+      test_fits (has_no_ids head && (head.nodes == 0)) (made_span (λ content. Ok content) 0 (span_in pool head.start head.length)) (misfit 0) is (span_fits_in (λ content. Ok content) 0 pool content head.start head.length span (ok_fits content refl))
+
+  beat_fits : (head : given.Head) → HasNoIds head → head.nodes ≡ 0 → Fits (made_beat head) (λ bytes. Unit {0})
+  unfolding made_beat
+  beat_fits head free none =
+      let is : (has_no_ids head && (head.nodes == 0)) ≡ true = grind (arith, nat_tests, free_ids head free, none) in
+      test_fits (has_no_ids head && (head.nodes == 0)) (Ok []) (misfit 0) is (ok_fits [] tt)
+
+  -- ---- protocol headers
+
+  small_octet : (n : ℕ) → n < 2 ^ 8 → number_bytes bytes1 n ≡ n ∷ []
+  small_octet n few = ap (λ k. k ∷ []) {x = n % 256} {y = n} (omega (arith, few))
+
+  octet_bytes : (slots : List Slot) (bytes : List ℕ) (n : ℕ) (others : List Item) → SpellsSlots plain (kept_slot (number_form bytes1) ∷ slots) bytes (number_item n ∷ others) → (rest : List ℕ) × (bytes ≡ n ∷ rest) × SpellsSlots plain slots rest others
+  octet_bytes slots bytes n others h =
+      let items : number_item n ∷ others ≡ number_item h.first_is.thing ∷ h.two = h.joined ∙ ap (λ xs. xs ++ h.two) h.first_is.made in
+      let same : n ≡ h.first_is.thing = cc in
+      let left : others ≡ h.two = cc in
+      let front : h.front ≡ n ∷ [] = h.first_is.spelled.bytes_are ∙ small_octet h.first_is.thing h.first_is.spelled.fits ∙ ap (λ k. k ∷ []) (sym same) in
+      (h.behind, h.bytes_are ∙ ap (λ bs. bs ++ h.behind) front, subst (λ xs. SpellsSlots plain slots h.behind xs) (sym left) h.second_is)
+
+  version_bytes : (major minor revision : ℕ) (bytes : List ℕ) → SpellsSlots plain version_slots bytes (number_item major ∷ number_item minor ∷ number_item revision ∷ []) → bytes ≡ major ∷ minor ∷ revision ∷ []
+  version_bytes major minor revision bytes h =
+      let one = octet_bytes (kept_slot (number_form bytes1) ∷ kept_slot (number_form bytes1) ∷ []) bytes major (number_item minor ∷ number_item revision ∷ []) h in
+      let two = octet_bytes (kept_slot (number_form bytes1) ∷ []) one.0 minor (number_item revision ∷ []) one.2 in
+      let three = octet_bytes [] two.0 revision [] two.2 in
+      one.1 ∙ ap (λ bs. major ∷ bs) (two.1 ∙ ap (λ bs. minor ∷ bs) (three.1 ∙ ap (λ bs. revision ∷ bs) three.2.0))
+
+  version_fits : (nodes : List Node) (head : given.Head) (major minor revision : ℕ) → head.channel ≡ 0 → HasNoIds head → TellsFields pool nodes head.first head.nodes (Proto major minor revision) → Fits (made_version pool nodes head) (λ bytes. bytes ≡ proto major minor revision)
+  unfolding made_version fields_of
+  version_fits nodes head major minor revision none free h =
+      let own = take head.nodes (drop head.first nodes) in
+      let is : (has_no_ids head && (head.channel == 0)) ≡ true = grind (arith, nat_tests, free_ids head free, none) in
+      let make : List Node → Made = λ own. after (Ok (protocol_byte ∷ protocol_mark)) (made_slots pool (head.first + head.nodes) 0 version_slots own) in
+      let items : List Item = number_item major ∷ number_item minor ∷ number_item revision ∷ [] in
+      let slots_made = slots_fit pool fits (head.first + head.nodes) 0 version_slots items own (omega arith) (omega arith) refl refl h.fields in
+      test_fits (has_no_ids head && (head.channel == 0)) (made_own make (nodes_in nodes head)) (misfit 0) is
+      (own_fits make nodes head h.within
+      (after_fits (Ok (protocol_byte ∷ protocol_mark)) (made_slots pool (head.first + head.nodes) 0 version_slots own) {P = λ bytes. bytes ≡ protocol_byte ∷ protocol_mark} {Q = λ bytes. SpellsSlots plain version_slots bytes items}
+      (λ a b p q. ap₂ (λ x y. x ++ y) p (version_bytes major minor revision b q)) (ok_fits (protocol_byte ∷ protocol_mark) refl) slots_made))
+
+  -- ---- frames
+
+  -- a payload is framed where it is within the limit
+  around_by : (m : ℕ) (head : given.Head) (payload : List ℕ) (test : Bool) {Q : List ℕ → Type 0} → nat_lt m (length payload) ≡ test → m < 2 ^ 32 → head.channel < 2 ^ 16 → ((bytes : List ℕ) → IsFramed bytes head.frame_type head.channel payload → Q bytes)
+      → Fits (if test then refuse 0 whys.TooLarge else Ok (framed head.frame_type head.channel payload)) (λ bytes. Q bytes × IsWithin (Some m) bytes)
+  around_by m head payload true is few channel into = record { suits = tt }
+  around_by m head payload false is few channel into =
+      let within : length payload ≤ m = grind (arith, nat_tests, is) in
+      let bytes = framed head.frame_type head.channel payload in
+      ok_fits bytes (into bytes (record { channel_fits = channel; length_fits = omega (arith, within, few); bytes_are = refl }), omega (arith, framed_length head.frame_type head.channel payload, within))
+
+  around_fits : (m : ℕ) (head : given.Head) (made : Made) {P Q : List ℕ → Type 0} → m < 2 ^ 32 → head.channel < 2 ^ 16 → ((payload bytes : List ℕ) → P payload → IsFramed bytes head.frame_type head.channel payload → Q bytes) → Fits made P → Fits (made_around m head made) (λ bytes. Q bytes × IsWithin (Some m) bytes)
+  around_fits m head (Ok payload) few channel into h = around_by m head payload (nat_lt m (length payload)) refl few channel (λ bytes is. into payload bytes h.suits is)
+  around_fits m head (Err bad) few channel into h = record { suits = h.suits }
+
+  -- by its type
+  by_type : List Node → ℕ → given.Head → ℕ → Made
+  by_type nodes m head t =
+      if t == protocol_byte then made_version pool nodes head
+      else made_around m head (if t == method_byte then made_method pool nodes head else (if t == header_byte then made_header pool nodes head else (if t == body_byte then made_body pool head else (if t == heartbeat_byte then made_beat head else misfit 0))))
+
+  typed_is : (nodes : List Node) (m : ℕ) (head : given.Head) → made_typed pool nodes m head ≡ by_type nodes m head head.frame_type
+  unfolding made_typed made_payload by_type
+  typed_is nodes m head = refl
+
+  framed_as : (head : given.Head) (type channel : ℕ) (bytes payload : List ℕ) → head.frame_type ≡ type → head.channel ≡ channel → IsFramed bytes head.frame_type head.channel payload → IsFramed bytes type channel payload
+  framed_as head type channel bytes payload t c h = subst (λ x. IsFramed bytes x channel payload) t (subst (λ y. IsFramed bytes head.frame_type y payload) c h)
+
+  record Held (head : given.Head) : Type 0 where
+    channel : head.channel < 2 ^ 16
+    class : head.class_id < 2 ^ 16
+    size : head.body_size < 2 ^ 64
+
+  head_held : (head : given.Head) → is_held head ≡ true → Held head
+  head_held head h = record { channel = grind (arith, nat_tests, h); class = grind (arith, nat_tests, h); size = grind (arith, nat_tests, h) }
+
+  typed_fits : (nodes : List Node) (m : ℕ) (head : given.Head) (frame : Frame) → m < 2 ^ 32 → Held head → TellsTyped pool nodes head frame → Fits (made_typed pool nodes m head) (λ bytes. Spells plain bytes frame × IsWithin (Some m) bytes)
+  unfolding by_type
+  typed_fits nodes m head (Proto major minor revision) few held h =
+      as_fits (made_typed pool nodes m head) (made_version pool nodes head) (typed_is nodes m head ∙ ap (by_type nodes m head) h.0)
+      (fits_into (made_version pool nodes head) (λ bytes is. (is, omega (arith, ap length is))) (version_fits nodes head major minor revision h.1 h.2 h.3))
+  typed_fits nodes m head (Meth channel meth) few held h =
+      as_fits (made_typed pool nodes m head) (made_around m head (made_method pool nodes head)) (typed_is nodes m head ∙ ap (by_type nodes m head) h.0)
+      (around_fits m head (made_method pool nodes head) few held.channel (λ payload bytes spelled is. record { payload = payload; is_framed = framed_as head method_byte channel bytes payload h.0 h.1 is; spelled = spelled })
+      (method_fits nodes head channel meth h.2 h.3 h.4 h.5 h.6))
+  typed_fits nodes m head (Head channel header) few held h =
+      as_fits (made_typed pool nodes m head) (made_around m head (made_header pool nodes head)) (typed_is nodes m head ∙ ap (by_type nodes m head) h.0)
+      (around_fits m head (made_header pool nodes head) few held.channel (λ payload bytes spelled is. record { payload = payload; is_framed = framed_as head header_byte channel bytes payload h.0 h.1 is; spelled = spelled })
+      (header_fits nodes head channel header held.class held.size h.2 h.3 h.4 h.5 h.6))
+  typed_fits nodes m head (Body channel content) few held h =
+      as_fits (made_typed pool nodes m head) (made_around m head (made_body pool head)) (typed_is nodes m head ∙ ap (by_type nodes m head) h.0)
+      (around_fits m head (made_body pool head) few held.channel (λ payload bytes same is. subst (λ bs. IsFramed bytes body_byte channel bs) same (framed_as head body_byte channel bytes payload h.0 h.1 is)) (body_fits head content h.2 h.3 h.4))
+  typed_fits nodes m head Beat few held h =
+      as_fits (made_typed pool nodes m head) (made_around m head (made_beat head)) (typed_is nodes m head ∙ ap (by_type nodes m head) h.0)
+      (around_fits m head (made_beat head) few held.channel (λ payload bytes any is. record { payload = payload; is_framed = framed_as head heartbeat_byte 0 bytes payload h.0 h.1 is; at_level = tt }) (beat_fits head h.2 h.3))
+  typed_fits nodes m head (BadBeat channel) few held h =
+      as_fits (made_typed pool nodes m head) (made_around m head (made_beat head)) (typed_is nodes m head ∙ ap (by_type nodes m head) h.0)
+      (around_fits m head (made_beat head) few held.channel (λ payload bytes any is. (h.2, record { payload = payload; is_framed = framed_as head heartbeat_byte channel bytes payload h.0 h.1 is; at_level = tt })) (beat_fits head h.3 h.4))
+
+  pub frame_fits : (nodes : List Node) (m : ℕ) (head : given.Head) (frame : Frame) → m < 2 ^ 32 → TellsFrame pool nodes head frame → Fits (made_frame pool nodes m head) (λ bytes. Spells plain bytes frame × IsWithin (Some m) bytes)
+  unfolding made_frame
+  frame_fits nodes m head frame few h = test_fits (is_held head) (made_typed pool nodes m head) (misfit 0) h.0 (typed_fits nodes m head frame few (head_held head h.0) h.1)
+
+  -- ---- sequences
+
+  pub at_suits : (k : ℕ) (made : Made) (P : List ℕ → Type 0) → Fits made P → Suits RefusesLength (at_head k made) P
+  at_suits k (Ok bytes) P h = h.suits
+  at_suits k (Err bad) P h = h.suits
+
+  then_suits : (a b : Result (List ℕ) WriteError) (P Q R : List ℕ → Type 0) → ((x y : List ℕ) → P x → Q y → R (x ++ y)) → Suits RefusesLength a P → Suits RefusesLength b Q → Suits RefusesLength (after a b) R
+  then_suits (Ok x) (Ok y) P Q R both p q = both x y p q
+  then_suits (Ok x) (Err bad) P Q R both p q = q
+  then_suits (Err bad) b P Q R both p q = p
+
+  pub frames_fit : (nodes : List Node) (m : ℕ) → m < 2 ^ 32 → (k : ℕ) (heads : List given.Head) (frames : List Frame) → TellFrames pool nodes heads frames → Suits RefusesLength (made_frames pool nodes m k heads) (λ bytes. SpellsFrames plain (Some m) bytes frames)
+  unfolding made_frames
+  frames_fit nodes m few k [] [] h = refl
+  frames_fit nodes m few k [] (frame ∷ frames) h = absurd h
+  frames_fit nodes m few k (head ∷ heads) [] h = absurd h
+  frames_fit nodes m few k (head ∷ heads) (frame ∷ frames) h =
+      then_suits (at_head k (made_frame pool nodes m head)) (made_frames pool nodes m (k + 1) heads) (λ bytes. Spells plain bytes frame × IsWithin (Some m) bytes) (λ bytes. SpellsFrames plain (Some m) bytes frames) (λ bytes. SpellsFrames plain (Some m) bytes (frame ∷ frames))
+      (λ a b p q. (a, b, refl, p.0, p.1, q)) (at_suits k (made_frame pool nodes m head) (λ bytes. Spells plain bytes frame × IsWithin (Some m) bytes) (frame_fits nodes m head frame few h.0)) (frames_fit nodes m few (k + 1) heads frames h.1)

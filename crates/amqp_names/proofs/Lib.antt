@@ -1,0 +1,2 @@
+-- The proofs of amqp_names.
+pub mod Found

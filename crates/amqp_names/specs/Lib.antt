@@ -1,0 +1,5 @@
+-- The definitions of amqp_names.
+pub mod Naming
+pub mod Names
+pub mod Tables
+pub mod Laws

@@ -1,0 +1,10 @@
+-- `Selector::decide`: what it ensures.
+use Rattle.amqp_wire.specs.Frames.{raw_of}
+use Rattle.amqp_select.proofs.Selected.{keeps_frame, drops_frame}
+use Rattle.amqp_select.proofs.selecting.Selector.decide.Goals as goal
+
+pub returns-in-Ok : goal.returns-in-Ok
+returns-in-Ok c = keeps_frame c.args.self.now (raw_of c.args.raw) c.keeps-keeps.result c.in-Ok.ensures c.keeps-keeps.ensures c.if-keeps.true
+
+pub returns-in-Ok-2 : goal.returns-in-Ok-2
+returns-in-Ok-2 c = drops_frame c.args.self.now (raw_of c.args.raw) c.keeps-keeps.result c.in-Ok-2.ensures c.keeps-keeps.ensures c.if-keeps.false

@@ -1,9 +1,0 @@
--- `FrameReader::consume`: clause `held`.
-use Rattle.std.proofs.Common.{ap, drop, ◌∙◌}
-use Rattle.amqp_stream.proofs.Spans.{part-drop}
-use Rattle.amqp_stream.proofs.reader.FrameReader.consume.Goals as goal
-
-pub returns-clause-held : goal.returns-clause-held
-returns-clause-held c =
-    let span = c.self.inside.span in
-    part-drop c.self.inside.buf.items span.start span.end c.args.layout.frame_len ∙ ap (λ r. drop c.args.layout.frame_len r.held) c.self.view_is
