@@ -310,7 +310,8 @@ typedef struct feksroum_written {
 
 /* Writes the frames that heads and nodes mean at the front of `out`, one after another. All spans lie in the pool: those of nodes, and of
  * bodies. Reserved fields are written at their constants, entries of tables in the order of their nodes. So what is written is canonical
- * where the keys of each table ascend and none stands twice; else feksroum_canonicalize or feksroum_canonicalize_in_place makes it so. What
+ * where the keys of each table ascend, none stands twice, and content that is given as bytes is canonical; else feksroum_canonicalize or
+ * feksroum_canonicalize_in_place makes it so. What
  * feksroum_frames gave at FEKSROUM_DEEP can be passed as it is, with the bytes that were read as the pool. `out` must overlap no other.
  *
  * Of a head these members count, and the others that its type does not have are 0:
@@ -378,6 +379,34 @@ typedef struct feksroum_turn {
  * 41 where the numbers that are kept are none of a channel. */
 feksroum_turn feksroum_step(feksroum_channel channel, uint8_t type, uint16_t class_id, uint16_t method_id, uint64_t size,
                             uint64_t max_body) FEKSROUM_RESULT;
+
+/* How a body is cut. 16 bytes, no padding. */
+typedef struct feksroum_cut {
+    uint64_t pieces; /* how many body frames are to be written now */
+    uint32_t left; /* how many bytes are to be held after them: the last of those held and of the new ones; below size */
+    uint32_t status; /* 0; 41 where size is 0, or `held` is not below it, or `ends` is not 0 or 1: then all else is 0 */
+} feksroum_cut;
+
+/* The payload of one of these frames: first these bytes of those held, then these of the new ones. 16 bytes, no padding. */
+typedef struct feksroum_piece {
+    uint32_t held_start, held_length; /* all bytes held stand in the first piece, and none in a later one */
+    uint32_t start, length;
+} feksroum_piece;
+
+/* How the bodies of a message are cut anew, into body frames of `size` bytes, the last of a message shorter. Beside the state that
+ * feksroum_step takes, the caller holds fewer than `size` bytes of each message, at first none. For each body that is part 3 of
+ * feksroum_step: `held` is how many bytes of its message are held, `length` is how many the body has, and `ends` is 1 where it finishes
+ * the message, and else 0. The bytes held and then those of the body are cut from the front: into pieces of `size` bytes, and
+ * where the message ends into one more of what is left, if anything is. So an empty body may give no frame, or what was held. After the
+ * frames are written, the last `left` bytes of both together are held in the place of those before; at the end of a message none.
+ *
+ * The frames that are written for all bodies of a message are those of its whole body, in whatever bodies it came. Its method and
+ * content header are written as they are; each body is written at feksroum_body_head, its pieces and the byte 206. */
+feksroum_cut feksroum_recut(uint32_t size, uint32_t held, uint32_t length, uint8_t ends) FEKSROUM_RESULT;
+
+/* The payload of frame `k` of these, counted from 0, by the same numbers. Both spans lie within what they are spans of. Zeros where there is no such
+ * frame: k is not below `pieces`, or the status was 41. */
+feksroum_piece feksroum_piece_at(uint32_t size, uint32_t held, uint32_t length, uint8_t ends, uint64_t k) FEKSROUM_RESULT;
 
 /* A rule: keeps or drops the frames for which each part that is there holds. 14 bytes, no padding. */
 typedef struct feksroum_frame_rule {

@@ -1,10 +1,12 @@
 /* Runs cases through one of the drivers, and writes what came out:
  *
- *     cases whole|filter|proxy|lines|place|write CASES RESULTS
+ *     cases whole|filter|proxy|rules|lines|place|write CASES RESULTS
  *
  * `write` reads the frames as heads and nodes, as many at once as fit lists of the sizes of pieces, writes them anew, and canonicalizes
  * what was written. `place` does it within the bytes themselves, with a spare buffer that is too short at first. `lines` goes from frame
  * to frame, reads the fields of each and of all at once, writes its line, and reads that back: all have to write the same.
+ *
+ * `rules` filters the cases of contents.py through the proxy by the rules of their choices.
  *
  * CASES has, one after another: the level (1 byte), a length (4 bytes, the lowest first) and as many bytes, a count (2 bytes)
  * and as many sizes of pieces (2 bytes each) in which they are read; what is left after these is read at once. RESULTS has
@@ -98,10 +100,10 @@ static int run_filter(test_case *test) {
     return filter_run(&ends, MAX_PAYLOAD, test->level);
 }
 
-static int run_proxy(test_case *test) {
+static int run_through(test_case *test, uint8_t level, proxy_messages *messages) {
     static proxy_connection connection;
     static proxy_scratch scratch;
-    proxy_open(&connection, test->level);
+    proxy_open(&connection, level, messages);
     for (;;) {
         uint8_t *room;
         const uint8_t *pending;
@@ -116,6 +118,36 @@ static int run_proxy(test_case *test) {
             proxy_sent(&connection, &scratch, (size_t)write_case(test, pending, count));
         }
     }
+}
+
+static int run_proxy(test_case *test) {
+    return run_through(test, test->level, NULL);
+}
+
+/* The rules of the choices in contents.py. */
+static const char *const choices[][3] = {
+    {"keep"},
+    {"drop,class=60,method=40", "keep"},
+    {"keep,kind=method"},
+    {"keep,channel=1-5"},
+    {"drop,kind=beat", "drop,channel=2-700,class=60,method=60", "keep"},
+    {"drop,class=60,method=50", "keep,channel=0-400"},
+};
+
+static int run_rules(test_case *test) {
+    static proxy_messages messages;
+    feksroum_frame_rule rules[3];
+    size_t count = 0;
+    for (const char *word; count < 3 && (word = choices[test->level][count]); count++) {
+        rules[count] = feksroum_rule((const uint8_t *)word, strlen(word));
+        if (rules[count].status != FEKSROUM_OK) {
+            stop("a word that is no rule");
+        }
+    }
+    memset(&messages, 0, sizeof messages);
+    messages.rules = rules;
+    messages.rule_count = count;
+    return run_through(test, FEKSROUM_PLAIN, &messages);
 }
 
 /* A line and its bytes have to be taken whole. */
@@ -263,8 +295,8 @@ static int run_write(test_case *test) {
 static const struct {
     const char *name;
     int (*run)(test_case *);
-} drivers[] = {{"whole", run_whole}, {"filter", run_filter}, {"proxy", run_proxy}, {"lines", run_lines}, {"place", run_place},
-               {"write", run_write}};
+} drivers[] = {{"whole", run_whole}, {"filter", run_filter}, {"proxy", run_proxy}, {"rules", run_rules}, {"lines", run_lines},
+               {"place", run_place}, {"write", run_write}};
 
 static int (*driver(const char *name))(test_case *) {
     for (size_t k = 0; k < sizeof drivers / sizeof *drivers; k++) {
@@ -272,7 +304,7 @@ static int (*driver(const char *name))(test_case *) {
             return drivers[k].run;
         }
     }
-    stop("whole, filter, proxy, lines, place or write");
+    stop("whole, filter, proxy, rules, lines, place or write");
     return NULL;
 }
 
@@ -287,7 +319,7 @@ static void put_result(FILE *file, const test_case *test, int status) {
 
 int main(int argc, char **argv) {
     if (argc != 4) {
-        stop("cases whole|filter|proxy|lines|place|write CASES RESULTS");
+        stop("cases whole|filter|proxy|rules|lines|place|write CASES RESULTS");
     }
     int (*run)(test_case *) = driver(argv[1]);
     FILE *cases = fopen(argv[2], "rb");

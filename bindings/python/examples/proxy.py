@@ -1,10 +1,9 @@
 #!/usr/bin/env python3
 """Stands between clients and a broker, and passes on the canonical bytes of what each side sends.
 
-    proxy.py [--broker HOST:PORT] [--listen PORT] [--keep RULE..] [--recut N] [--program PATH]
+    proxy.py [--broker HOST:PORT] [--listen PORT] [--keep RULE..] [--recut N]
 
-With --keep, whole messages are kept or dropped by rules; with --recut, bodies are cut into frames of N bytes. The library has no
-calls for these two, so the program `feksroum` stands in each direction then, as `filter RULE..` and `recut N`.
+With --keep, whole messages are kept or dropped by rules; with --recut, bodies are cut into frames of N bytes.
 
 A peer that reads slowly is waited for. A side whose bytes are at fault is told so by connection.close, as is the other, and
 both are closed; what came before the fault is passed on.
@@ -13,77 +12,41 @@ both are closed; what came before the fault is passed on.
 import argparse
 import asyncio
 import contextlib
-import os
 
 import feksroum
 from feksroum import Connection
 
 CHUNK = 65536
-#: The names of the program's statuses.
-NAMES = {error.status: error.__name__ for error in feksroum.Error.__subclasses__()}
-NAMES.update({24: "BadContent", 25: "OpenContent"})
 
 
 class Way:
-    """One direction of a connection."""
+    """One direction of a connection. Each stage is fed with what the one before it wrote, which is whole frames alone: so between
+    two writes another frame may be written."""
 
     def __init__(self, name, reader, writer, stages):
         self.name, self._reader, self.writer = name, reader, writer
         self._stages = stages
-        self._canonicalizer = feksroum.Canonicalizer()
-        self.has_begun = False
+        self.has_begun = self.has_ended = False
 
     async def run(self):
         """Passes on what comes until it ends, and returns the fault that ended it, or None."""
-        fault = await (self._through_programs() if self._stages else self._canonical(self._reader))
-        if fault is None and self.writer.can_write_eof():
-            self.writer.write_eof()
-        return fault
-
-    async def _canonical(self, reader):
-        """The canonical bytes of whole frames alone, so that between two writes another frame may be written."""
-        while self._canonicalizer.error is None:
-            data = await reader.read(CHUNK)
-            if not data:
-                break
-            written = self._canonicalizer.feed(data)
-            self.has_begun = self.has_begun or bool(written)
-            self.writer.write(written)
+        while data := await self._reader.read(CHUNK):
+            for stage in self._stages:
+                data = stage.feed(data)
+            self.has_begun = self.has_begun or bool(data)
+            self.writer.write(data)
             await self.writer.drain()
+            if any(stage.error for stage in self._stages):
+                break
         try:
-            self._canonicalizer.close()
+            for stage in self._stages:
+                stage.close()
         except feksroum.Error as error:
             return str(error)
+        if self.writer.can_write_eof():
+            self.writer.write_eof()
+            self.has_ended = True
         return None
-
-    async def _through_programs(self):
-        """The same through programs, each of which reads what the one before it wrote."""
-        processes, source = [], asyncio.subprocess.PIPE
-        for place, words in enumerate(self._stages):
-            is_last = place + 1 == len(self._stages)
-            reading, sink = (None, asyncio.subprocess.PIPE) if is_last else os.pipe()
-            processes.append(await asyncio.create_subprocess_exec(*words, stdin=source, stdout=sink))
-            for end in (source, sink):
-                if end != asyncio.subprocess.PIPE:
-                    os.close(end)
-            source = reading
-        feeding = asyncio.ensure_future(self._feed(processes[0].stdin))
-        try:
-            fault = await self._canonical(processes[-1].stdout)
-            statuses = [await process.wait() for process in processes]
-        finally:
-            feeding.cancel()
-            for process in processes:
-                with contextlib.suppress(ProcessLookupError):
-                    process.kill()
-        return next((NAMES.get(status, f"status {status} of the program") for status in statuses if status), fault)
-
-    async def _feed(self, stdin):
-        with contextlib.suppress(BrokenPipeError, ConnectionResetError):
-            while data := await self._reader.read(CHUNK):
-                stdin.write(data)
-                await stdin.drain()
-        stdin.close()
 
 
 async def close(writer, reason):
@@ -98,9 +61,9 @@ async def close(writer, reason):
 class Proxy:
     """Connections to one broker, and what stands in each of them."""
 
-    def __init__(self, host, port, stages):
+    def __init__(self, host, port, makers):
         self._broker = host, port
-        self._stages = stages
+        self._makers = makers
 
     async def serve(self, client_reader, client_writer):
         """One connection, until both sides have ended or one is at fault."""
@@ -111,7 +74,7 @@ class Proxy:
             client_writer.close()
             return
         ends = ("client", client_reader, broker_writer), ("broker", broker_reader, client_writer)
-        ways = [Way(*end, self._stages) for end in ends]
+        ways = [Way(*end, [make() for make in self._makers]) for end in ends]
         running = {asyncio.ensure_future(way.run()): way for way in ways}
         reason, waiting = "", set(running)
         while waiting and not reason:
@@ -124,7 +87,19 @@ class Proxy:
         for task in waiting:
             task.cancel()
         for way in ways:
-            await close(way.writer, reason if way.has_begun else "")
+            await close(way.writer, reason if way.has_begun and not way.has_ended else "")
+
+
+def makers_of(words):
+    """What makes the stages that each direction goes through. Raises ValueError for words that are no rules, and no size."""
+    makers = []
+    if words.keep:
+        rules = feksroum.Rules(*words.keep)
+        makers.append(lambda: feksroum.Filter(rules))
+    if words.recut is not None:
+        feksroum.Recutter(words.recut)
+        makers.append(lambda: feksroum.Recutter(words.recut))
+    return makers or [feksroum.Canonicalizer]
 
 
 async def main():
@@ -133,12 +108,13 @@ async def main():
     parser.add_argument("--listen", type=int, default=5673, metavar="PORT")
     parser.add_argument("--keep", nargs="+", default=[], metavar="RULE", help="as `drop,class=60,method=40 keep`")
     parser.add_argument("--recut", type=int, metavar="N")
-    parser.add_argument("--program", default="feksroum", metavar="PATH")
     words = parser.parse_args()
-    stages = [[words.program, "filter", *words.keep]] if words.keep else []
-    stages += [[words.program, "recut", str(words.recut)]] if words.recut else []
+    try:
+        makers = makers_of(words)
+    except ValueError as error:
+        parser.error(str(error))
     host, port = words.broker.rsplit(":", 1)
-    server = await asyncio.start_server(Proxy(host, int(port), stages).serve, "localhost", words.listen)
+    server = await asyncio.start_server(Proxy(host, int(port), makers).serve, "localhost", words.listen)
     print("listening on port", server.sockets[0].getsockname()[1], flush=True)
     await server.serve_forever()
 

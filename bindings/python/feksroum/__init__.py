@@ -9,21 +9,34 @@
     Properties(priority=1)
     b'hi'
 
+Whole messages are put together by `messages` and `Assembler`, kept or dropped by rules by `filter` and `Filter`, and cut anew by `recut`
+and `Recutter`:
+
+    >>> [message] = feksroum.messages(feksroum.filter(data, feksroum.Rules("drop,kind=beat", "keep")))
+    >>> message.opening.routing_key, message.body
+    ('orders', b'hi')
+
 What is called is proved; `feksroum.h` says what each function promises. All of it may be used by any number of threads.
 `feksroum.values` says which kind is written for each value of a table.
 """
 
+from ._assembler import MAX_BODY, Assembler, Message, MessageReader, messages
 from ._buffers import MAX_PAYLOAD
 from ._canonical import Canonicalizer, Level, canonicalize
 from ._encode import FRAME_MAX, Body, Heartbeat, ProtocolHeader, encode
 from ._errors import (
+    AssemblerFull,
+    BadContent,
     BadFrameEnd,
     BadProtocolHeader,
     BadText,
+    ContentError,
+    ContentFault,
     CutShort,
     Error,
     NotTidy,
     NotUtf8,
+    OpenContent,
     ShortPayload,
     TooDeep,
     TooLarge,
@@ -35,17 +48,23 @@ from ._errors import (
     UnknownStatus,
     UnknownTag,
 )
+from ._filter import Filter
+from ._filter import filter as filter
 from ._frames import Frame, FrameReader, FrameType, check, frames
+from ._recut import Recutter, recut
+from ._rules import BadRule, Rules
 from ._tables import read_table, write_table
 from ._text import dump, undump
 from .methods import Access, Basic, Channel, Confirm, Connection, Exchange, Method, Properties, Queue, Tx
 
+# `filter` is left out, so that `from feksroum import *` does not hide the one of Python.
 __all__ = [
-    "Access", "BadFrameEnd", "BadProtocolHeader", "BadText", "Basic", "Body", "Canonicalizer", "Channel", "Confirm",
-    "Connection", "CutShort", "Error", "Exchange", "FRAME_MAX", "Frame", "FrameReader", "FrameType", "Heartbeat", "Level",
-    "MAX_PAYLOAD", "Method", "NotTidy", "NotUtf8", "Properties", "ProtocolHeader", "Queue", "ShortPayload", "TooDeep",
-    "TooLarge", "TooLong", "TrailingBytes", "Tx", "UnknownClass", "UnknownFrameType", "UnknownMethod", "UnknownStatus",
-    "UnknownTag", "canonicalize", "check", "dump", "encode", "frames",
-    "read_table", "undump", "write_table",
+    "Access", "Assembler", "AssemblerFull", "BadContent", "BadFrameEnd", "BadProtocolHeader", "BadRule", "BadText", "Basic",
+    "Body", "Canonicalizer", "Channel", "Confirm", "Connection", "ContentError", "ContentFault", "CutShort", "Error",
+    "Exchange", "FRAME_MAX", "Filter", "Frame", "FrameReader", "FrameType", "Heartbeat", "Level", "MAX_BODY", "MAX_PAYLOAD",
+    "Message", "MessageReader", "Method", "NotTidy", "NotUtf8", "OpenContent", "Properties", "ProtocolHeader", "Queue", "Recutter", "Rules",
+    "ShortPayload", "TooDeep", "TooLarge", "TooLong", "TrailingBytes", "Tx", "UnknownClass", "UnknownFrameType",
+    "UnknownMethod", "UnknownStatus", "UnknownTag", "canonicalize", "check", "dump", "encode", "frames", "messages",
+    "read_table", "recut", "undump", "write_table",
 ]
 __version__ = "0.1.0"

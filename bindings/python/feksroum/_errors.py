@@ -1,6 +1,7 @@
 """An exception for each status that a call of the library returns."""
 
-from typing import Dict, Optional, Type, Union
+import enum
+from typing import Any, Dict, Optional, Type, Union
 
 
 class Error(Exception):
@@ -116,6 +117,75 @@ class TooLong(Error):
     """A short string or key of more than 255 bytes, which cannot be written."""
 
     status = 42
+
+
+class ContentFault(enum.IntEnum):
+    """Why a frame may not come next on its channel. `str` gives the name that docs/FORMAT.md has."""
+
+    UNEXPECTED_METHOD = 1
+    UNEXPECTED_HEADER = 2
+    UNEXPECTED_BODY = 3
+    WRONG_CLASS = 4
+    BODY_TOO_LARGE = 5
+    BODY_OVERRUN = 6
+    FAULTED = 7
+
+    def __str__(self) -> str:
+        return "".join(part.capitalize() for part in self.name.split("_"))
+
+
+_FAULTS = {
+    ContentFault.UNEXPECTED_METHOD: "a method inside a message",
+    ContentFault.UNEXPECTED_HEADER: "a content header outside of a message, or a second one",
+    ContentFault.UNEXPECTED_BODY: "a body outside of a message, or before the content header",
+    ContentFault.WRONG_CLASS: "a content header of a class other than 60",
+    ContentFault.BODY_TOO_LARGE: "a content header that announces more bytes than are allowed",
+    ContentFault.BODY_OVERRUN: "a body that goes beyond the announced size",
+    ContentFault.FAULTED: "a frame after one that was not in turn",
+}
+
+
+class ContentError(Error):
+    """Frames that are no sequence of messages, or that are not taken."""
+
+
+class BadContent(ContentError):
+    """A frame that may not come next on its channel."""
+
+    status = 24
+
+    def __init__(self, used: int = 0, channel: int = 0, fault: int = ContentFault.FAULTED) -> None:
+        super().__init__(used, channel, fault)
+        #: The channel of the frame.
+        self.channel = channel
+        #: Why it may not come.
+        self.fault = ContentFault(fault)
+
+    def _what(self) -> str:
+        return f"{_FAULTS[self.fault]} ({self.fault}), on channel {self.channel}."
+
+
+class OpenContent(ContentError):
+    """The end came between two frames, inside a message."""
+
+    status = 25
+
+    def __init__(self, used: int = 0, messages: int = 0) -> None:
+        super().__init__(used, messages)
+        #: How many messages are open.
+        self.messages = messages
+
+    def _what(self) -> str:
+        return f"{super()._what()[:-1]}: {self.messages} open." if self.messages != 1 else super()._what()
+
+
+class AssemblerFull(ContentError):
+    """A frame that was not taken, since open messages would have more bytes than are allowed together."""
+
+    def __init__(self, used: int = 0, frame: Any = None) -> None:
+        super().__init__(used, frame)
+        #: The frame. It may be pushed again, once others are complete or forgotten.
+        self.frame = frame
 
 
 class UnknownStatus(Error):

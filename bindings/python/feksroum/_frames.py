@@ -22,10 +22,17 @@ class FrameType(enum.IntEnum):
 
 
 _TYPES = {int(type): type for type in FrameType}
-_CANONICAL, _TIDY = 1, 2
+CANONICAL, _TIDY = 1, 2
 #: How many bytes come before a payload, and after it.
-_AROUND = {FrameType.PROTOCOL_HEADER: (5, 0)}
+_AROUND = {int(FrameType.PROTOCOL_HEADER): (5, 0)}
 _AROUND_OTHERS = (7, 1)
+
+
+def span_of(head: Tuple[int, ...], base: int) -> Tuple[int, int]:
+    """Where the bytes of a frame begin and end, whose head counts from `base`."""
+    before, after = _AROUND.get(head[8], _AROUND_OTHERS)
+    start = base + head[1]
+    return start - before, start + head[2] + after
 
 
 class Frame:
@@ -41,7 +48,7 @@ class Frame:
     properties: Optional[Properties]
 
     def __init__(self, head: Tuple[int, ...], source: bytes, base: int) -> None:
-        """From a head whose spans count from `base` in the source."""
+        """From a head, as `feksroum.h` has its numbers, whose spans count from `base` in the source."""
         self.type = _TYPES[head[8]]
         self.channel = head[5]
         self.method = None
@@ -68,7 +75,7 @@ class Frame:
     @property
     def canonical(self) -> bool:
         """Whether its bytes are the canonical ones."""
-        return self._head[9] & _CANONICAL != 0
+        return self._head[9] & CANONICAL != 0
 
     @property
     def tidy(self) -> bool:
@@ -83,8 +90,8 @@ class Frame:
     @property
     def bytes(self) -> memoryview:
         """All bytes of the frame, as they came."""
-        before, after = _AROUND.get(self.type, _AROUND_OTHERS)
-        return memoryview(self._source)[self._start - before : self._start + self._head[2] + after]
+        start, end = span_of(self._head, self._start - self._head[1])
+        return memoryview(self._source)[start:end]
 
     @property
     def version(self) -> Optional[Tuple[int, int, int]]:
@@ -111,15 +118,16 @@ FIRST_WINDOW, LAST_WINDOW = 4096, 262144
 HEADS, NODES = 2048, 16384
 #: Room for so many of each at first.
 FEW = 64
-_DEEP = 1
+SHALLOW, DEEP = 0, 1
 _METHOD, _HEADER = int(FrameType.METHOD), int(FrameType.HEADER)
 
 
-class _Reader:
+class BatchReader:
     """Reads frames by batches, into lists that it keeps."""
 
-    def __init__(self, max_payload: int) -> None:
+    def __init__(self, max_payload: int, detail: int = DEEP) -> None:
         self.limit = limit_of(max_payload)
+        self._detail = detail
         self._heads = Room(FEW * HEAD.size)
         self._nodes = Room(FEW * NODE.size)
 
@@ -128,19 +136,27 @@ class _Reader:
         kept, address = address_of(data)
         heads, nodes = self._heads, self._nodes
         return library_for(size).feksroum_frames(
-            address + at, size, self.limit, _DEEP, heads.address, len(heads) // HEAD.size, nodes.address, len(nodes) // NODE.size
+            address + at, size, self.limit, self._detail, heads.address, len(heads) // HEAD.size, nodes.address, len(nodes) // NODE.size
         )
 
-    def batch(self, data: bytes, at: int, size: int) -> Tuple[Iterator[Frame], Any]:
-        """Some whole frames in front of a window of so many bytes, made as they are asked for, and how far they go. One at least,
-        where one is in front."""
-        size = min(size, len(data) - at)
+    def _fill(self, data: bytes, at: int, size: int) -> Any:
+        """Fills the lists from a window of so many bytes, with one frame at least where one is in front, and says how far they go."""
         self._heads.grow(min(size // SHORTEST + 1, HEADS) * HEAD.size)
         self._nodes.grow(min(size, NODES) * NODE.size)
         end = self._call(data, at, size)
         if end.status == BUFFER_TOO_SMALL and end.heads == 0:
             self._nodes.grow(end.needed * NODE.size)
             end = self._call(data, at, size)
+        return end
+
+    def heads(self, data: bytes, at: int, size: int) -> Tuple[bytes, Any]:
+        """The heads of some whole frames in front of a window, whose spans count from `at`, and how far they go."""
+        end = self._fill(data, at, min(size, len(data) - at))
+        return self._heads.copy(end.heads * HEAD.size), end
+
+    def batch(self, data: bytes, at: int, size: int) -> Tuple[Iterator[Frame], Any]:
+        """Some whole frames in front of a window, made as they are asked for, and how far they go."""
+        end = self._fill(data, at, min(size, len(data) - at))
         heads, nodes = self._heads.copy(end.heads * HEAD.size), self._nodes.copy(end.nodes * NODE.size)
         return _listed(data, at, data[at : at + end.used] if end.nodes else b"", heads, nodes), end
 
@@ -164,7 +180,7 @@ def frames(data: Any, max_payload: int = MAX_PAYLOAD) -> Iterator[Frame]:
     A frame keeps the `bytes` that it was read from; of anything else it keeps a copy of some, and nothing of what was passed is
     held: a bytearray may be changed once the last frame came, or the exception.
     """
-    return _frames(data, _Reader(max_payload))
+    return _frames(data, BatchReader(max_payload))
 
 
 def _part(data: Any, at: int, size: int) -> Tuple[bytes, int, bool]:
@@ -175,7 +191,7 @@ def _part(data: Any, at: int, size: int) -> Tuple[bytes, int, bool]:
         return view[at : at + size].tobytes(), 0, at + size >= view.nbytes
 
 
-def _frames(data: Any, reader: _Reader) -> Iterator[Frame]:
+def _frames(data: Any, reader: BatchReader) -> Iterator[Frame]:
     at, usual, size = 0, FIRST_WINDOW, FIRST_WINDOW
     while True:
         part, start, is_last = _part(data, at, size)
@@ -189,10 +205,10 @@ def _frames(data: Any, reader: _Reader) -> Iterator[Frame]:
                 return
             usual = size = min(2 * usual, LAST_WINDOW)
         else:
-            raise _fault(end, at)
+            raise fault_of(end, at)
 
 
-def _fault(end: Any, at: int) -> Exception:
+def fault_of(end: Any, at: int) -> Exception:
     """The exception for what ended some frames."""
     if end.status == CutShort.status:
         return CutShort(at, end.needed)
@@ -203,7 +219,7 @@ class FrameReader:
     """Reads the frames of a stream that comes in pieces. Two threads that feed it at once are let in one after the other."""
 
     def __init__(self, max_payload: int = MAX_PAYLOAD) -> None:
-        self._reader = _Reader(max_payload)
+        self._reader = BatchReader(max_payload)
         self._lock = threading.Lock()
         self._held = bytearray()
         #: How many bytes the next frame has, where its length is known; else 0.
@@ -233,7 +249,7 @@ class FrameReader:
         is_cut = end.status == CutShort.status
         self._needed = end.needed if is_cut and end.needed > SHORTEST else 0
         if end.status not in (0, CutShort.status, BUFFER_TOO_SMALL):
-            self.error = _fault(end, self._used)
+            self.error = fault_of(end, self._used)
         return not is_cut or len(self._held) >= SHORTEST
 
     def close(self) -> None:

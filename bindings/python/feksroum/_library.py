@@ -71,6 +71,33 @@ class Mark(Structure):
     _fields_ = [("numbers", c_uint64 * 2)]
 
 
+class ChannelState(Structure):
+    _fields_ = [("size", c_uint64), ("seen", c_uint64), ("state", c_uint32), ("unused", c_uint32)]
+
+
+class Turn(Structure):
+    _fields_ = [
+        ("after", ChannelState), ("before", c_uint64), ("up_to", c_uint64), ("size", c_uint64), ("part", c_uint8),
+        ("finished", c_bool), ("fault", c_uint8), ("status", c_uint8), ("unused", c_uint32),
+    ]
+
+
+class FrameRule(Structure):
+    _fields_ = [
+        ("first_channel", c_uint16), ("last_channel", c_uint16), ("class_id", c_uint16), ("method_id", c_uint16),
+        ("keep", c_uint8), ("has_channels", c_uint8), ("type", c_uint8), ("has_class", c_uint8), ("has_method", c_uint8),
+        ("status", c_uint8),
+    ]
+
+
+class Cut(Structure):
+    _fields_ = [("pieces", c_uint64), ("left", c_uint32), ("status", c_uint32)]
+
+
+class Piece(Structure):
+    _fields_ = [("held_start", c_uint32), ("held_length", c_uint32), ("start", c_uint32), ("length", c_uint32)]
+
+
 #: A head: body_size; start, length, first, nodes; channel, class_id, method_id; type, form.
 HEAD = struct.Struct("=Q4I3HBB")
 #: A node: number; start, length, key_start, inside, items; key_length, kind, place, scale.
@@ -92,6 +119,11 @@ FUNCTIONS: List[Tuple[str, Any, List[Any]]] = [
     ("feksroum_canonicalize", Progress, [*BYTES_IN, *BYTES_IN, *BYTES_IN, c_uint32, c_uint8]),
     ("feksroum_dump", Line, [*BYTES_IN, *BYTES_IN, c_uint32]),
     ("feksroum_undump", Line, [*BYTES_IN, *BYTES_IN, c_uint32]),
+    ("feksroum_step", Turn, [ChannelState, c_uint8, c_uint16, c_uint16, c_uint64, c_uint64]),
+    ("feksroum_rule", FrameRule, [*BYTES_IN]),
+    ("feksroum_decide", c_uint8, [*BYTES_IN, c_uint8, c_uint16, c_uint16, c_uint16]),
+    ("feksroum_recut", Cut, [c_uint32, c_uint32, c_uint32, c_uint8]),
+    ("feksroum_piece_at", Piece, [c_uint32, c_uint32, c_uint32, c_uint8, c_uint64]),
     ("feksroum_name", c_size_t, [c_uint8, *NAME_OUT]),
     ("feksroum_method_at", MethodRow, [c_uint8]),
     ("feksroum_shape", c_size_t, [c_uint16, c_uint16, *NAME_OUT]),

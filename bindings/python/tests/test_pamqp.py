@@ -162,6 +162,44 @@ class Contents(unittest.TestCase):
             self.assertEqual(feksroum.encode(channel, made), frame.marshal(theirs, channel))
 
 
+class Messages(unittest.TestCase):
+    def test_theirs(self):
+        """Messages whose frames pamqp writes, interleaved on some channels, are assembled as they were."""
+        pick, sent, queues = random.Random(4), [], []
+        for channel in range(1, 30):
+            octets = pick.randbytes(pick.choice((0, 1, 500)))
+            opening = pick.choice((
+                commands.Basic.Publish(routing_key="k"), commands.Basic.Return(312, "NO_ROUTE", "", "k"),
+                commands.Basic.Deliver("tag", 7, False, "", "k"), commands.Basic.GetOk(7, False, "", "k", 3)))
+            properties = commands.Basic.Properties(content_type="text/plain", headers={"k": channel})
+            sent.append((channel, type(opening).__name__, octets))
+            parts = [octets[at : at + 100] for at in range(0, len(octets), 100)]
+            frames = [opening, header.ContentHeader(0, len(octets), properties), *map(body.ContentBody, parts)]
+            queues.append([frame.marshal(one, channel) for one in frames][::-1])
+        data = b""
+        while queues:
+            queue = pick.choice(queues)
+            data += queue.pop()
+            queues = [one for one in queues if one]
+        found = list(feksroum.messages(data))
+        for message in found:
+            self.assertEqual(message.properties, Properties("text/plain", headers={"k": message.channel}))
+        read = sorted((message.channel, type(message.opening).__name__, message.body) for message in found)
+        self.assertEqual(read, sent)
+
+    def test_ours(self):
+        """What a message is encoded as is read by pamqp."""
+        message = feksroum.Message(3, Basic.Deliver("tag", 7, routing_key="k"), Properties(message_id="m"), b"0123456789" * 1000)
+        data, names, octets = message.encode(frame_max=4096), [], b""
+        while data:
+            used, channel, read = frame.unmarshal(data)
+            names.append((channel, type(read).__name__))
+            octets += getattr(read, "value", b"")
+            data = data[used:]
+        self.assertEqual(names, [(3, "Deliver"), (3, "ContentHeader"), *[(3, "ContentBody")] * 3])
+        self.assertEqual(octets, message.body)
+
+
 class Values(unittest.TestCase):
     def test_each_kind(self):
         """One value of each kind, as bytes of pamqp, and as pamqp reads it."""

@@ -19,8 +19,6 @@ sys.path.insert(0, PROGRAMS)
 from client import Client  # noqa: E402
 
 ENVIRONMENT = dict(os.environ, PYTHONPATH=os.path.join(HERE, ".."), PYTHONDONTWRITEBYTECODE="1")
-#: The program that filters and recuts, where it is built.
-FEKSROUM = os.environ.get("FEKSROUM_PROGRAM")
 
 
 class Listening:
@@ -141,10 +139,9 @@ class Programs(unittest.TestCase):
                 self.assertLess(sent, 40_000_000)
                 self.assertLess(resident(proxy.process.pid), 60_000_000)
 
-    @unittest.skipUnless(FEKSROUM, "FEKSROUM_PROGRAM names no program")
-    def test_proxy_with_programs(self):
+    def test_proxy_with_rules_and_pieces(self):
         with Listening("server.py", "--port", "0") as server:
-            words = "--broker", f"localhost:{server.port}", "--listen", "0", "--program", FEKSROUM
+            words = "--broker", f"localhost:{server.port}", "--listen", "0"
             for more in (["--recut", "1000"], ["--keep", "keep"], ["--keep", "keep", "--recut", "7"]):
                 with Listening("proxy.py", *words, *more) as proxy:
                     self.check(proxy.port, "x" * 5000)
@@ -153,8 +150,14 @@ class Programs(unittest.TestCase):
                 self.check_get(proxy.port, Basic.GetEmpty)
             with Listening("proxy.py", *words, "--recut", "7") as proxy, connection(proxy.port) as made:
                 made.sendall(feksroum.encode(0, feksroum.ProtocolHeader()) + feksroum.encode(1, feksroum.Body(b"x")))
-                self.assertIn("client: BadContent", proxy.line())
+                self.assertIn("client: BadContent at byte 8: a body outside of a message", proxy.line())
 
+    def test_proxy_refuses_other_words(self):
+        for more, why in ((["--keep", "keep", "keep,all"], "'keep,all' is no rule"), (["--recut", "0"], "the size of a piece")):
+            words = [sys.executable, os.path.join(PROGRAMS, "proxy.py"), *more]
+            done = subprocess.run(words, env=ENVIRONMENT, capture_output=True, text=True, timeout=30)
+            self.assertEqual(done.returncode, 2)
+            self.assertIn(f"proxy.py: error: {why}", done.stderr)
 
     def check_get(self, port, answer):
         """A message is published, and what is asked for then is answered so."""

@@ -1,7 +1,8 @@
 """What mypy --strict has to accept in a program that uses the module. .ci/python calls mypy with it, and runs it."""
 
 import datetime
-from typing import Dict, List, Optional
+import io
+from typing import Dict, Iterable, Iterator, List, Optional
 
 import feksroum
 from feksroum import Basic, Connection, Properties, Queue
@@ -37,8 +38,45 @@ def sent() -> bytes:
     ])
 
 
+def keys(pieces: Iterable[bytes]) -> List[str]:
+    """The routing keys of the messages that rules keep, in a stream that comes in pieces."""
+    rules = feksroum.Rules("drop,channel=2,class=60,method=40", "keep")
+    kept: Iterator[bytes] = feksroum.Filter(rules).over(pieces)
+    found: List[str] = []
+    for message in feksroum.messages(kept, max_body=1000, max_open=5000):
+        opening = message.opening
+        if isinstance(opening, Basic.Publish):
+            key: str = opening.routing_key
+            body: bytes = message.body
+            found.append(f"{key} {len(body)}")
+    return found
+
+
+def assembled(frames: Iterable[feksroum.Frame]) -> int:
+    """How many messages some frames are."""
+    assembler, count = feksroum.Assembler(), 0
+    for frame in frames:
+        try:
+            pushed = assembler.push(frame)
+        except feksroum.BadContent as error:
+            fault: feksroum.ContentFault = error.fault
+            print(fault, error.channel)
+            assembler.forget(error.channel)
+            continue
+        if isinstance(pushed, feksroum.Message):
+            count += 1
+        elif pushed is not None:
+            print(pushed.method)
+    return count
+
+
 if __name__ == "__main__":
     assert tags(sent()) == [7]
     reader = feksroum.FrameReader()
     frames: List[feksroum.Frame] = reader.feed(feksroum.canonicalize(sent()))
     assert len(frames) == 4
+    sample = b"".join(feksroum.Message(channel, Basic.Publish(routing_key="k"), Properties(), b"hi").encode() for channel in (1, 2))
+    assert keys([sample[:9], sample[9:]]) == ["k 2"]
+    assert assembled(feksroum.frames(sample)) == 2
+    assert list(feksroum.messages(feksroum.recut(io.BytesIO(sample), 1))) == list(feksroum.messages(sample))
+    assert feksroum.filter(sample, feksroum.Rules("keep")) == sample

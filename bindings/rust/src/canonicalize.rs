@@ -4,11 +4,9 @@ use crate::canonicalizer::Canonicalizer;
 use crate::error::{Error, StreamError};
 use crate::library;
 use crate::scratch::Scratch;
+use crate::stream;
 use crate::sys;
-use std::io::{ErrorKind, Read, Write};
-
-/// How many bytes are read at once.
-const PIECE: usize = 65_536;
+use std::io::{Read, Write};
 
 /// How closely frames have to keep to their canonical bytes.
 #[derive(Clone, Copy, Debug, Default, PartialEq, Eq, Hash)]
@@ -79,22 +77,8 @@ pub fn canonicalize_slice(bytes: &[u8], out: &mut [u8], scratch: &mut Scratch, m
 ///
 /// The first fault of the bytes, or of a read or a write. The canonical bytes of all frames before a fault of the bytes are
 /// written.
-pub fn canonicalize<R: Read, W: Write>(mut reader: R, mut writer: W, max_payload: u32, level: Level) -> Result<(), StreamError> {
-    let mut stream = Canonicalizer::new(max_payload, level);
-    let mut piece = vec![0; PIECE];
-    let mut out = Vec::new();
-    loop {
-        let read = match reader.read(&mut piece) {
-            Ok(0) => return Ok(stream.finish()?),
-            Ok(read) => read,
-            Err(error) if error.kind() == ErrorKind::Interrupted => continue,
-            Err(error) => return Err(StreamError::Read(error)),
-        };
-        let fed = stream.feed(piece.get(..read).unwrap_or_default(), &mut out);
-        writer.write_all(&out).map_err(StreamError::Write)?;
-        out.clear();
-        fed?;
-    }
+pub fn canonicalize<R: Read, W: Write>(reader: R, writer: W, max_payload: u32, level: Level) -> Result<(), StreamError> {
+    stream::run(Canonicalizer::new(max_payload, level), reader, writer)
 }
 
 #[cfg(test)]

@@ -1,9 +1,10 @@
 //! Canonical bytes of a stream that comes in pieces.
 
-use crate::canonicalize::{canonicalize_slice, Level};
+use crate::canonicalize::Level;
 use crate::error::Error;
-use crate::library;
-use crate::scratch::Scratch;
+use crate::held::Held;
+use crate::stream::Stream;
+use crate::writer::Writer;
 
 /// Canonicalizes a stream that is pushed to it in pieces of any size, as an event loop does that reads by itself.
 ///
@@ -25,13 +26,8 @@ use crate::scratch::Scratch;
 /// ```
 #[derive(Debug)]
 pub struct Canonicalizer {
-    /// The part of a frame.
-    held: Vec<u8>,
-    /// How many bytes that frame has at least, as far as is known; more than are held.
-    needed: usize,
-    scratch: Scratch,
-    max_payload: u32,
-    level: Level,
+    held: Held,
+    writer: Writer,
     end: Result<(), Error>,
 }
 
@@ -39,7 +35,7 @@ impl Canonicalizer {
     /// A stream at its beginning, with payloads of at most so many bytes. It takes no memory yet.
     #[must_use]
     pub fn new(max_payload: u32, level: Level) -> Canonicalizer {
-        Canonicalizer { held: Vec::new(), needed: 0, scratch: Scratch::none(), max_payload, level, end: Ok(()) }
+        Canonicalizer { held: Held::new(max_payload), writer: Writer::new(max_payload, level), end: Ok(()) }
     }
 
     /// Appends to `out` the canonical bytes of the frames that this piece completes.
@@ -49,14 +45,15 @@ impl Canonicalizer {
     /// The fault of what follows these frames. Nothing is written after it, and each further call returns it again.
     pub fn feed(&mut self, piece: &[u8], out: &mut Vec<u8>) -> Result<(), Error> {
         self.end?;
-        self.end = self.take(piece, out);
+        let Canonicalizer { held, writer, .. } = self;
+        self.end = held.feed(piece, |bytes| writer.frames(bytes, out));
         self.end
     }
 
     /// The part of a frame that is held until the rest of it comes.
     #[must_use]
     pub fn held(&self) -> &[u8] {
-        &self.held
+        self.held.bytes()
     }
 
     /// Ends the stream.
@@ -66,72 +63,16 @@ impl Canonicalizer {
     /// The fault that was met; that of the bytes which are held, and [`Error::CutShort`] where they begin a frame.
     pub fn finish(self) -> Result<(), Error> {
         self.end?;
-        if self.held.is_empty() {
-            return Ok(());
-        }
-        Error::of_status(library::next(&self.held, self.max_payload).status)?;
-        Err(Error::CutShort)
+        self.held.finish()
+    }
+}
+
+impl Stream for Canonicalizer {
+    fn feed(&mut self, piece: &[u8], out: &mut Vec<u8>) -> Result<(), Error> {
+        Canonicalizer::feed(self, piece, out)
     }
 
-    fn take(&mut self, mut piece: &[u8], out: &mut Vec<u8>) -> Result<(), Error> {
-        while !self.held.is_empty() {
-            let missing = self.needed.saturating_sub(self.held.len());
-            let (front, rest) = piece.split_at(missing.min(piece.len()));
-            self.hold(front)?;
-            piece = rest;
-            if front.len() < missing {
-                return Ok(());
-            }
-            self.complete(out)?;
-        }
-        let used = self.pass(piece, out)?;
-        let rest = piece.get(used..).unwrap_or_default();
-        self.hold(rest)?;
-        self.scan(rest)
-    }
-
-    fn hold(&mut self, bytes: &[u8]) -> Result<(), Error> {
-        self.held.try_reserve(bytes.len()).map_err(|_| Error::NoMemory)?;
-        self.held.extend_from_slice(bytes);
-        Ok(())
-    }
-
-    /// As many bytes are held as the frame was known to need: writes it, or finds out how many more it needs.
-    fn complete(&mut self, out: &mut Vec<u8>) -> Result<(), Error> {
-        let mut held = std::mem::take(&mut self.held);
-        let used = self.pass(&held, out)?;
-        let scanned = self.scan(held.get(used..).unwrap_or_default());
-        held.drain(..used);
-        self.held = held;
-        scanned
-    }
-
-    /// Finds out how many bytes the frame needs that these begin.
-    fn scan(&mut self, bytes: &[u8]) -> Result<(), Error> {
-        if bytes.is_empty() {
-            return Ok(());
-        }
-        let found = library::next(bytes, self.max_payload);
-        self.needed = usize::try_from(found.needed).map_err(|_| Error::NoMemory)?;
-        if self.needed > bytes.len() {
-            Ok(())
-        } else {
-            Err(Error::Incompatible(found.status.into()))
-        }
-    }
-
-    /// Writes the canonical bytes of the whole frames in front, and returns how many bytes these have.
-    fn pass(&mut self, bytes: &[u8], out: &mut Vec<u8>) -> Result<usize, Error> {
-        let longest = usize::try_from(self.max_payload).unwrap_or(usize::MAX);
-        self.scratch.grow(longest.min(bytes.len()))?;
-        let start = out.len();
-        out.try_reserve(bytes.len()).map_err(|_| Error::NoMemory)?;
-        out.resize(start + bytes.len(), 0);
-        let progress = canonicalize_slice(bytes, &mut out[start..], &mut self.scratch, self.max_payload, self.level);
-        out.truncate(start + progress.written);
-        match progress.end {
-            Ok(()) | Err(Error::CutShort) => Ok(progress.used),
-            Err(error) => Err(error),
-        }
+    fn finish(self) -> Result<(), Error> {
+        Canonicalizer::finish(self)
     }
 }

@@ -1,10 +1,11 @@
 //! Why bytes are no frames, why lines are those of none, why streams end early, and why something is not written.
 
+use crate::turns::ContentFault;
 use std::error;
 use std::fmt;
 use std::io;
 
-/// Why no whole frame is in front of some bytes, or no line of one in front of some text.
+/// Why no whole frame is in front of some bytes, or no line of one in front of some text; or why frames are no messages.
 #[derive(Clone, Copy, Debug, PartialEq, Eq, Hash)]
 #[non_exhaustive]
 pub enum Error {
@@ -36,15 +37,29 @@ pub enum Error {
     CutShort,
     /// A frame that can be read and is not tidy, where only tidy frames are taken.
     NotTidy,
+    /// A frame that may not come next on its channel.
+    BadContent {
+        /// The channel.
+        channel: u16,
+        /// Why it may not come.
+        fault: ContentFault,
+    },
+    /// The end came between two frames, inside a message.
+    OpenContent {
+        /// How many messages are open.
+        messages: usize,
+    },
     /// A line that is the line of no frame.
     BadText,
+    /// A frame was not taken, since open messages would have more bytes than an [`Assembler`](crate::Assembler) may hold.
+    AssemblerFull,
     /// The library answered with this status, which the call that was made does not have in this version of the crate: another
     /// version of the library is linked.
     Incompatible(u32),
 }
 
 impl Error {
-    /// Each error that the library names, in the order of the statuses.
+    /// Each error that the library's calls return by a status of their own, in the order of these.
     pub const ALL: &'static [Error] = &[
         Error::NoMemory,
         Error::UnknownFrameType,
@@ -63,7 +78,8 @@ impl Error {
         Error::BadText,
     ];
 
-    /// The status of the C functions for it, which is the exit status of the program; 255 for a status above.
+    /// The status of the C functions for it, which is the exit status of the program; 255 for a status above, and for
+    /// [`AssemblerFull`](Error::AssemblerFull), for which there is none.
     ///
     /// ```
     /// assert_eq!(feksroum::Error::CutShort.status(), 21);
@@ -85,7 +101,10 @@ impl Error {
             Error::TooDeep => 20,
             Error::CutShort => 21,
             Error::NotTidy => 23,
+            Error::BadContent { .. } => 24,
+            Error::OpenContent { .. } => 25,
             Error::BadText => 26,
+            Error::AssemblerFull => u8::MAX,
             Error::Incompatible(status) => u8::try_from(status).unwrap_or(u8::MAX),
         }
     }
@@ -108,7 +127,10 @@ impl Error {
             Error::TooDeep => "TooDeep",
             Error::CutShort => "CutShort",
             Error::NotTidy => "NotTidy",
+            Error::BadContent { .. } => "BadContent",
+            Error::OpenContent { .. } => "OpenContent",
             Error::BadText => "BadText",
+            Error::AssemblerFull => "AssemblerFull",
             Error::Incompatible(_) => "Incompatible",
         }
     }
@@ -142,7 +164,11 @@ impl fmt::Display for Error {
             Error::TooDeep => "tables or arrays are nested more than 64 deep",
             Error::CutShort => "the bytes end inside a frame or a line",
             Error::NotTidy => "a frame is not tidy",
+            Error::BadContent { channel, fault } => return write!(f, "{fault} ({}), on channel {channel}", fault.name()),
+            Error::OpenContent { messages: 1 } => "the end came inside a message",
+            Error::OpenContent { messages } => return write!(f, "the end came inside a message: {messages} are open"),
             Error::BadText => "a line is that of no frame",
+            Error::AssemblerFull => "open messages would have more bytes than may be held",
             Error::Incompatible(status) => return write!(f, "the library answered with status {status}: is it of another version?"),
         })
     }
@@ -150,10 +176,10 @@ impl fmt::Display for Error {
 
 impl error::Error for Error {}
 
-/// Why a stream was not canonicalized to its end.
+/// Why a stream was not read and written to its end.
 #[derive(Debug)]
 pub enum StreamError {
-    /// What was read is no sequence of frames, or memory ran out.
+    /// What was read is no sequence of frames, or of messages, or memory ran out.
     Frame(Error),
     /// A read failed.
     Read(io::Error),

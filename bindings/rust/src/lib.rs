@@ -25,6 +25,9 @@
 //! |---|---|
 //! | frames in a slice | [`Frames`], and [`Frame::decode`] for their fields |
 //! | keeping a frame | [`OwnedFrame`] |
+//! | whole messages | [`Assembler`] for frames, [`messages`] from a reader, [`MessageReader`] for pieces |
+//! | keeping or dropping messages by rules | [`Rules`]; [`filter`] from a reader to a writer, [`Filter`] for pieces |
+//! | bodies cut anew | [`recut`] from a reader to a writer, [`Recutter`] for pieces |
 //! | frames to be sent | [`Encode`]; [`Content`] for what follows a method that carries content |
 //! | tables | [`Table`], [`TableBuf`], [`Value`] |
 //! | canonical bytes | [`canonicalize`] from a reader to a writer, [`Canonicalizer`] for pieces, [`canonicalize_slice`] |
@@ -38,6 +41,7 @@
 #![forbid(unsafe_op_in_unsafe_fn)]
 
 mod array;
+mod assembler;
 mod canonicalize;
 mod canonicalizer;
 mod content;
@@ -45,42 +49,62 @@ mod draft;
 mod encode;
 mod error;
 mod field;
+mod filter;
 mod frame;
+mod held;
 mod library;
+mod message;
+mod message_stream;
+mod messages;
 pub mod method;
 mod owned;
 mod payload;
 mod properties;
 mod reader;
+mod recut;
 mod reply_code;
+mod rules;
 mod scratch;
+mod stream;
 #[allow(unsafe_code)]
 mod sys;
 mod table;
 mod text;
+mod turns;
 mod value;
 mod walk;
+mod writer;
 
 pub use array::{Array, ArrayBuf, Values};
+pub use assembler::{Assembler, Messages, Pushed};
 pub use canonicalize::{canonicalize, canonicalize_slice, Level, Progress};
 pub use canonicalizer::Canonicalizer;
 pub use content::{body_head, Content, FRAME_END};
 pub use encode::{Encode, EncodeError};
 pub use error::{Error, StreamError};
 pub use field::Field;
+pub use filter::{filter, Filter};
 pub use frame::{check, Frame, FrameType, Frames, Summary};
+pub use message::{Message, Opening};
+pub use messages::{messages, MessageReader, ReadMessages};
 pub use method::Method;
 pub use owned::OwnedFrame;
 pub use payload::{ContentHeader, Payload, ProtocolHeader};
 pub use properties::Properties;
+pub use recut::{recut, Recutter};
 pub use reply_code::ReplyCode;
+pub use rules::{Rules, RulesError};
 pub use scratch::Scratch;
 pub use table::{Entries, Table, TableBuf};
 pub use text::{dump, undump, Converted};
+pub use turns::ContentFault;
 pub use value::{Decimal, Value};
 
 /// The longest payload that the program accepts, in bytes.
 pub const MAX_PAYLOAD: u32 = 131_072;
+
+/// How many bytes the body of a message may have, where nothing else is agreed on: RabbitMQ's own bound.
+pub const MAX_BODY: u64 = 134_217_728;
 
 /// The longest payload, in bytes, of frames of at most so many: those of a connection on which this `frame_max` was agreed. 0
 /// is no limit.

@@ -5,7 +5,7 @@
 #![allow(unsafe_code)]
 
 use crate::error::Error;
-use crate::sys::{self, Convert, Fields, Frame, Head, Line, Mark, Node, Payload, Progress, Written};
+use crate::sys::{self, Channel, Convert, Cut, Fields, Frame, FrameRule, Head, Line, Mark, Node, Payload, Piece, Progress, Turn, Written};
 use std::alloc::{alloc_zeroed, Layout};
 use std::ptr::slice_from_raw_parts_mut;
 
@@ -85,6 +85,36 @@ pub fn canonicalize(bytes: &[u8], out: &mut [u8], marks: &mut [Mark], max_payloa
 pub fn convert(convert: Convert, bytes: &[u8], out: &mut [u8], max_payload: u32) -> Line {
     // SAFETY: pointers and lengths are those of the slices, which do not overlap.
     unsafe { convert(bytes.as_ptr(), bytes.len(), out.as_mut_ptr(), out.len(), max_payload) }
+}
+
+/// What a frame is to its channel, by its numbers.
+pub fn step(channel: Channel, frame_type: u8, class_id: u16, method_id: u16, size: u64, max_body: u64) -> Turn {
+    // SAFETY: the call takes numbers alone.
+    unsafe { sys::feksroum_step(channel, frame_type, class_id, method_id, size, max_body) }
+}
+
+/// The rule that a word is.
+pub fn rule(word: &[u8]) -> FrameRule {
+    // SAFETY: pointer and length are those of `word`.
+    unsafe { sys::feksroum_rule(word.as_ptr(), word.len()) }
+}
+
+/// Whether rules keep a frame, by its numbers.
+pub fn decide(rules: &[FrameRule], frame_type: u8, channel: u16, class_id: u16, method_id: u16) -> u8 {
+    // SAFETY: pointer and length are those of `rules`.
+    unsafe { sys::feksroum_decide(rules.as_ptr(), rules.len(), frame_type, channel, class_id, method_id) }
+}
+
+/// How a body of so many bytes is cut, where so many are held.
+pub fn recut(size: u32, held: u32, length: u32, ends: bool) -> Cut {
+    // SAFETY: the call takes numbers alone.
+    unsafe { sys::feksroum_recut(size, held, length, ends.into()) }
+}
+
+/// One of its pieces.
+pub fn piece_at(size: u32, held: u32, length: u32, ends: bool, k: u64) -> Piece {
+    // SAFETY: the call takes numbers alone.
+    unsafe { sys::feksroum_piece_at(size, held, length, ends.into(), k) }
 }
 
 /// Writes what comes before a body, where it fits, and returns how many bytes that has.

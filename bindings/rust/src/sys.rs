@@ -103,6 +103,65 @@ pub struct Line {
     pub unused: u32,
 }
 
+/// What is kept of a channel between two of its frames.
+#[repr(C)]
+#[derive(Clone, Copy, Debug, Default, PartialEq, Eq)]
+pub struct Channel {
+    pub size: u64,
+    pub seen: u64,
+    pub state: u32,
+    pub unused: u32,
+}
+
+/// What a frame is to its channel.
+#[repr(C)]
+#[derive(Clone, Copy, Debug, Default)]
+pub struct Turn {
+    pub after: Channel,
+    pub before: u64,
+    pub up_to: u64,
+    pub size: u64,
+    pub part: u8,
+    pub finished: bool,
+    pub fault: u8,
+    pub status: u8,
+    pub unused: u32,
+}
+
+#[repr(C)]
+#[derive(Clone, Copy, Debug, Default, PartialEq, Eq, Hash)]
+pub struct FrameRule {
+    pub first_channel: u16,
+    pub last_channel: u16,
+    pub class_id: u16,
+    pub method_id: u16,
+    pub keep: u8,
+    pub has_channels: u8,
+    pub frame_type: u8,
+    pub has_class: u8,
+    pub has_method: u8,
+    pub status: u8,
+}
+
+/// How a body is cut.
+#[repr(C)]
+#[derive(Clone, Copy, Debug, Default)]
+pub struct Cut {
+    pub pieces: u64,
+    pub left: u32,
+    pub status: u32,
+}
+
+/// The payload of a body frame: first these bytes of those held, then these of the new ones.
+#[repr(C)]
+#[derive(Clone, Copy, Debug, Default)]
+pub struct Piece {
+    pub held_start: u32,
+    pub held_length: u32,
+    pub start: u32,
+    pub length: u32,
+}
+
 /// `feksroum_dump` or `feksroum_undump`.
 pub type Convert = unsafe extern "C" fn(*const u8, usize, *mut u8, usize, u32) -> Line;
 
@@ -144,6 +203,11 @@ extern "C" {
     ) -> Progress;
     pub fn feksroum_dump(bytes: *const u8, length: usize, out: *mut u8, out_length: usize, max_payload: u32) -> Line;
     pub fn feksroum_undump(text: *const u8, length: usize, out: *mut u8, out_length: usize, max_payload: u32) -> Line;
+    pub fn feksroum_step(channel: Channel, frame_type: u8, class_id: u16, method_id: u16, size: u64, max_body: u64) -> Turn;
+    pub fn feksroum_rule(word: *const u8, length: usize) -> FrameRule;
+    pub fn feksroum_decide(rules: *const FrameRule, count: usize, frame_type: u8, channel: u16, class_id: u16, method_id: u16) -> u8;
+    pub fn feksroum_recut(size: u32, held: u32, length: u32, ends: u8) -> Cut;
+    pub fn feksroum_piece_at(size: u32, held: u32, length: u32, ends: u8, k: u64) -> Piece;
     pub fn feksroum_body_head(channel: u16, length: u32, out: *mut u8, out_length: usize) -> usize;
     pub fn feksroum_max_payload(frame_max: u32) -> u32;
     pub fn feksroum_version() -> u32;
@@ -162,4 +226,9 @@ const _: () = {
     assert!(std::mem::size_of::<Progress>() == 24);
     assert!(std::mem::size_of::<Mark>() == 16);
     assert!(std::mem::size_of::<Line>() == 24);
+    assert!(std::mem::size_of::<Channel>() == 24);
+    assert!(std::mem::size_of::<Turn>() == 56);
+    assert!(std::mem::size_of::<FrameRule>() == 14);
+    assert!(std::mem::size_of::<Cut>() == 16);
+    assert!(std::mem::size_of::<Piece>() == 16);
 };

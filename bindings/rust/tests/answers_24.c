@@ -1,5 +1,5 @@
-/* A library whose calls all answer status 24, which none of them has. `.ci/rust` links it in place of the real one for
- * tests/unknown_status.rs. The structs are those of src/sys.rs. */
+/* A library whose calls all answer status 24, which none of them has but feksroum_step, and that with the number of a fault, which is
+ * missing here. `.ci/rust` links it in place of the real one for tests/unknown_status.rs. The structs are those of src/sys.rs. */
 #include <stdbool.h>
 #include <stddef.h>
 #include <stdint.h>
@@ -12,6 +12,11 @@ typedef struct { uint64_t body_size, nodes; uint16_t class_id, method_id; bool c
 typedef struct { uint64_t length; uint32_t head, node, status, unused; } written;
 typedef struct { uint64_t used, written; uint32_t status, unused; } progress;
 typedef struct { uint64_t used, length; uint32_t status, unused; } line;
+typedef struct { uint64_t size, seen; uint32_t state, unused; } channel;
+typedef struct { channel after; uint64_t before, up_to, size; uint8_t part; bool finished; uint8_t fault, status; uint32_t unused; } turn;
+typedef struct { uint16_t first_channel, last_channel, class_id, method_id; uint8_t keep, has[4], status; } rule;
+typedef struct { uint64_t pieces; uint32_t left, status; } cut;
+typedef struct { uint32_t held_start, held_length, start, length; } piece;
 
 frame feksroum_next(const uint8_t *bytes, size_t length, uint32_t max_payload) {
     (void)bytes, (void)length, (void)max_payload;
@@ -63,6 +68,31 @@ line feksroum_dump(const uint8_t *bytes, size_t length, uint8_t *out, size_t out
 
 line feksroum_undump(const uint8_t *bytes, size_t length, uint8_t *out, size_t out_length, uint32_t max_payload) {
     return feksroum_dump(bytes, length, out, out_length, max_payload);
+}
+
+turn feksroum_step(channel kept, uint8_t type, uint16_t class_id, uint16_t method_id, uint64_t size, uint64_t max_body) {
+    (void)kept, (void)type, (void)class_id, (void)method_id, (void)size, (void)max_body;
+    return (turn){.status = STATUS};
+}
+
+/* The word `keep` is a rule, so that there is something to decide by. */
+rule feksroum_rule(const uint8_t *word, size_t length) {
+    return (rule){.status = length == 4 && word[0] == 'k' ? 0 : STATUS};
+}
+
+uint8_t feksroum_decide(const rule *rules, size_t count, uint8_t type, uint16_t on, uint16_t class_id, uint16_t method_id) {
+    (void)rules, (void)count, (void)type, (void)on, (void)class_id, (void)method_id;
+    return STATUS;
+}
+
+cut feksroum_recut(uint32_t size, uint32_t held, uint32_t length, uint8_t ends) {
+    (void)size, (void)held, (void)length, (void)ends;
+    return (cut){.status = STATUS};
+}
+
+piece feksroum_piece_at(uint32_t size, uint32_t held, uint32_t length, uint8_t ends, uint64_t k) {
+    (void)size, (void)held, (void)length, (void)ends, (void)k;
+    return (piece){0};
 }
 
 size_t feksroum_body_head(uint16_t channel, uint32_t length, uint8_t *out, size_t out_length) {

@@ -25,7 +25,7 @@ fn canonical(bytes: &[u8]) -> Vec<u8> {
 #[test]
 fn lines_are_as_wanted() {
     let mut done = 0;
-    for Example { name, command, status, input, wanted } in examples(&["dump", "undump"]) {
+    for Example { name, command, status, input, wanted, .. } in examples(&["dump", "undump"]) {
         let (written, end) = if command == "dump" {
             let dumped = dump(&input, MAX_PAYLOAD);
             assert_eq!(undump(dumped.written.as_bytes(), MAX_PAYLOAD).written, canonical(&input), "{name}");

@@ -2,8 +2,10 @@
 //! links answers_24.c for that; over another library there is nothing to be tested, and this says so.
 
 use feksroum::method::BasicAck;
-use feksroum::{canonicalize, canonicalize_slice, check, dump, library_version, undump, Canonicalizer, Encode, EncodeError, Error};
-use feksroum::{FrameType, Frames, Level, Payload, Scratch, StreamError, Table, TableBuf, MAX_PAYLOAD};
+use feksroum::{canonicalize, canonicalize_slice, check, dump, library_version, messages, undump, Assembler, Canonicalizer, Encode};
+use feksroum::{EncodeError, Error, Filter, FrameType, Frames, Level, Payload, Recutter, Rules, RulesError, Scratch, StreamError};
+use feksroum::{Table, TableBuf, MAX_PAYLOAD};
+use std::num::NonZeroU32;
 
 const BEAT: [u8; 8] = [8, 0, 0, 0, 0, 0, 0, 206];
 const UNKNOWN: Error = Error::Incompatible(24);
@@ -28,6 +30,13 @@ fn each_call_ends_with_an_error() {
     assert_eq!(TableBuf::from_entries([("key", 1)]), Err(EncodeError::Incompatible(24)));
     assert_eq!(BasicAck::default().encode(1, &mut out), Err(EncodeError::Incompatible(24)));
     assert_eq!(BasicAck::default().encode_to_slice(1, &mut [0; 30]), Err(EncodeError::Incompatible(24)));
+    assert_eq!(Rules::new(["drop"]), Err(RulesError::Incompatible(24)));
+    let mut stream = Filter::new(MAX_PAYLOAD, Rules::new(["keep"]).unwrap());
+    assert_eq!((stream.feed(&BEAT, &mut out), stream.finish()), (Err(UNKNOWN), Err(UNKNOWN)));
+    let mut stream = Recutter::new(MAX_PAYLOAD, NonZeroU32::MIN);
+    assert_eq!((stream.feed(&BEAT, &mut out), stream.finish()), (Err(UNKNOWN), Err(UNKNOWN)));
+    let found: Vec<_> = messages(&BEAT[..], MAX_PAYLOAD, Assembler::new(9, 9)).collect();
+    assert!(matches!(found[..], [Err(StreamError::Frame(UNKNOWN))]), "{found:?}");
     assert!(out.is_empty());
 }
 

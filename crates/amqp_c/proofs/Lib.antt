@@ -12,4 +12,5 @@ pub mod BatchGiven
 pub mod KindsPut
 pub mod StateNumbers
 pub mod RuleNumbers
+pub mod BodiesCut
 pub mod Reported

@@ -11,4 +11,5 @@ pub mod Batches
 pub mod Names
 pub mod Turns
 pub mod Rules
+pub mod Recutting
 pub mod Making

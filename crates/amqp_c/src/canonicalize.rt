@@ -71,8 +71,7 @@ fn put_version(out: &mut [u8], at: usize, payload: &[u8]) -> Result<usize, Strea
     }
 }
 
-/// Puts the canonical bytes of a borrowed frame that is no protocol header, and returns the place after them. Inlined
-/// where the type is known, it has no test of it.
+/// Puts the canonical bytes of a borrowed frame that is no protocol header, and returns the place after them.
 #[inline(always)]
 fn put_typed(
     out: &mut [u8],
@@ -91,22 +90,7 @@ fn put_typed(
     }
 }
 
-/// The same borrowed frame, with its type written out.
-#[inline(always)]
-fn with_type(frame_type: AMQPFrameType, raw: AMQPRawFrame<'_>) -> AMQPRawFrame<'_>
-    requires { raw.frame_type ≡ frame_type }
-    ensures frame { raw_of result ≡ raw_of raw.entry }
-    ensures payload { result.payload.now ≡ raw.entry.payload.now }
-{
-    AMQPRawFrame {
-        frame_type,
-        channel_id: raw.channel_id,
-        payload: raw.payload,
-    }
-}
-
-/// Puts the canonical bytes of a borrowed frame, and returns the place after them. Methods, which come most often, have
-/// a way of their own.
+/// Puts the canonical bytes of a borrowed frame, and returns the place after them.
 #[inline(always)]
 pub(crate) fn put_plain(
     out: &mut [u8],
@@ -121,12 +105,10 @@ pub(crate) fn put_plain(
 {
     match raw.frame_type {
         AMQPFrameType::ProtocolHeader => put_version(out, at, raw.payload),
-        AMQPFrameType::Method => {
-            put_typed(out, at, scratch, with_type(AMQPFrameType::Method, raw))
-        }
-        AMQPFrameType::Header | AMQPFrameType::Body | AMQPFrameType::Heartbeat => put_typed(
-            out, at, scratch, raw,
-        ),
+        AMQPFrameType::Method
+        | AMQPFrameType::Header
+        | AMQPFrameType::Body
+        | AMQPFrameType::Heartbeat => put_typed(out, at, scratch, raw),
     }
 }
 

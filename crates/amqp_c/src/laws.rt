@@ -1,5 +1,6 @@
 //! Laws of what C calls, each the contract of a function that does nothing.
 
+ghost use Rattle.amqp_c.specs.Recutting.{BodiesAreCutAsOne};
 ghost use Rattle.amqp_c.specs.Rewriting.{FaultsStay, LittleIsLeft, PiecesAreWhole};
 ghost use Rattle.amqp_c.specs.Rules.{NumbersDecideAlike};
 
@@ -21,4 +22,9 @@ pub fn little_is_left()
 /// Rules by their numbers decide as the rules do.
 pub fn numbers_decide_alike()
     ensures { NumbersDecideAlike }
+{}
+
+/// Pieces that are cut body after body, with what is left held for the next, are those of the whole body of the message.
+pub fn bodies_are_cut_as_one()
+    ensures { BodiesAreCutAsOne }
 {}

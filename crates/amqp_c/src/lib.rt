@@ -15,6 +15,7 @@ mod laws;
 mod lines;
 mod names;
 mod next;
+mod recutting;
 mod rules;
 mod scratch;
 mod statuses;
@@ -33,10 +34,13 @@ pub use equality::{
 };
 pub use fields::PayloadFields;
 pub use frames::FrameBatch;
-pub use laws::{faults_stay, little_is_left, numbers_decide_alike, pieces_are_whole};
+pub use laws::{
+    bodies_are_cut_as_one, faults_stay, little_is_left, numbers_decide_alike, pieces_are_whole,
+};
 pub use lines::FrameLine;
 pub use names::NamedMethod;
 pub use next::FrontFrame;
+pub use recutting::{BodyCut, BodyPiece};
 pub use rules::FrameRule;
 pub use turns::{ChannelState, ChannelStep};
 pub use writing::WriteReport;

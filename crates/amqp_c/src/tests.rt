@@ -7,6 +7,7 @@ use crate::fields::{feksroum_open, feksroum_read};
 use crate::in_place::{feksroum_canonical_run, feksroum_canonicalize_in_place};
 use crate::lines::{feksroum_dump, feksroum_undump};
 use crate::next::feksroum_next;
+use crate::recutting::{feksroum_piece_at, feksroum_recut};
 use crate::scratch::feksroum_scratch;
 use crate::statuses::feksroum_name;
 use crate::vectors::{feksroum_body_head, feksroum_max_payload};
@@ -409,4 +410,53 @@ fn frames_are_canonicalized_in_place(rt: HostRuntime) {
         assert!(rt; buf.get(written..) == MIXED.get(written..));
     }
     assert!(rt; feksroum_canonicalize_in_place(&mut [], &mut [], &mut [], LIMIT, 0).status == 0);
+}
+
+/// The size, how many bytes are held, how many are new, whether they end the message; pieces, what is left, the status.
+const CUTS: &[(u32, u32, u32, u8, (u64, u32, u32))] = &[
+    (4, 3, 10, 0, (3, 1, 0)),
+    (4, 3, 10, 1, (4, 0, 0)),
+    (4, 3, 5, 1, (2, 0, 0)),
+    (4, 2, 1, 0, (0, 3, 0)),
+    (4, 0, 0, 1, (0, 0, 0)),
+    (4, 1, 0, 1, (1, 0, 0)),
+    (1, 0, u32::MAX, 0, (4_294_967_295, 0, 0)),
+    (u32::MAX, 4_294_967_294, u32::MAX, 1, (2, 0, 0)),
+    (4, 4, 1, 0, (0, 0, 41)),
+    (0, 0, 1, 0, (0, 0, 41)),
+    (4, 0, 1, 2, (0, 0, 41)),
+];
+
+/// The same numbers and which piece; how many bytes of it are held, where it goes on, and how many are new.
+const PIECES: &[(u32, u32, u32, u8, u64, (u32, u32, u32))] = &[
+    (4, 3, 10, 1, 0, (3, 0, 1)),
+    (4, 3, 10, 1, 1, (0, 1, 4)),
+    (4, 3, 10, 1, 3, (0, 9, 1)),
+    (4, 3, 10, 0, 3, (0, 0, 0)),
+    (4, 1, 0, 1, 0, (1, 0, 0)),
+    (
+        u32::MAX,
+        4_294_967_294,
+        u32::MAX,
+        1,
+        1,
+        (0, 1, 4_294_967_294),
+    ),
+    (4, 4, 9, 0, 0, (0, 0, 0)),
+    (4, 1, 9, 3, 0, (0, 0, 0)),
+    (4, 0, 4, 0, u64::MAX, (0, 0, 0)),
+];
+
+#[test]
+fn bodies_are_recut(rt: HostRuntime) {
+    for row in CUTS {
+        let cut = feksroum_recut(row.0, row.1, row.2, row.3);
+        assert!(rt; (cut.pieces, cut.left, cut.status) == row.4);
+    }
+    for row in PIECES {
+        let piece = feksroum_piece_at(row.0, row.1, row.2, row.3, row.4);
+        assert!(rt;
+            (piece.held_length, piece.start, piece.length) == row.5 && piece.held_start == 0
+        );
+    }
 }

@@ -82,6 +82,15 @@ last_field slot bytes (Ok j) h =
     subst P (same_judgement (j.used + 0) j.used (j.canonical && true) j.canonical (j.tidy && true) j.tidy (omega arith) (and_true j.canonical) (and_true j.tidy)) (field_step slot [] bytes j (judgement 0 true true) h (no_fields (drop j.used bytes)))
 last_field slot bytes (Err e) h = field_stop slot [] bytes e h
 
+-- two fields, of which the first one is taken
+pub two_fields : (first second : meant.Slot) (bytes : List ℕ) (a : Judgement) (r : Result Judgement ParserError) → TakesTidily (SpellsSlot strict first) (SpellsSlot tidy first) a bytes (judge_slot first bytes)
+    → JudgesLevels (λ level. SpellsSlot level second) (drop a.used bytes) r (judge_slot second (drop a.used bytes)) → JudgesLevels (λ level. SpellsSlots level (first ∷ second ∷ [])) bytes (after_others a.used a.canonical a.tidy r) (judge_slots (first ∷ second ∷ []) bytes)
+two_fields first second bytes a r one last = field_step first (second ∷ []) bytes a r one (last_field second (drop a.used bytes) r last)
+
+-- and where it is not
+pub no_first_of_two : (first second : meant.Slot) (bytes : List ℕ) (e : ParserError) → Fails e (judge_slot first bytes) → Fails e (judge_slots (first ∷ second ∷ []) bytes)
+no_first_of_two first second bytes e h = field_stop first (second ∷ []) bytes e h
+
 module _ (first second third : meant.Slot) (bytes : List ℕ) where
   pub three_fields : (a b : Judgement) (r : Result Judgement ParserError) → TakesTidily (SpellsSlot strict first) (SpellsSlot tidy first) a bytes (judge_slot first bytes) → TakesTidily (SpellsSlot strict second) (SpellsSlot tidy second) b (drop a.used bytes) (judge_slot second (drop a.used bytes))
       → JudgesLevels (λ level. SpellsSlot level third) (drop b.used (drop a.used bytes)) r (judge_slot third (drop b.used (drop a.used bytes)))
@@ -130,3 +139,10 @@ module _ {A : Type 0} (judge : Judge A) (Spells : Level → List ℕ → A → T
 pub canonical_slots : (shapes : List Slot) (bytes : List ℕ) (r : Result Judgement ParserError) → IsBytes bytes → are_least (slots_of shapes) ≡ true → JudgesLevels (AllSlots shapes) bytes r (all_slots shapes bytes)
     → JudgesTidily (AreCanonicalSlots (slots_of shapes)) (SpellsSlots tidy (slots_of shapes)) bytes r (judge_slots (slots_of shapes) bytes)
 canonical_slots shapes bytes r fits least h = canonical_of_levels (all_slots shapes) (AllSlots shapes) (slots_bytes (slots_of shapes)) (slots_lawful (slots_of shapes) least) bytes r fits h
+
+-- fields that are kept have no constants
+pub canonical_kept : (first second : Form) (bytes : List ℕ) (r : Result Judgement ParserError) → IsBytes bytes → (let slots = kept_slot first ∷ kept_slot second ∷ [] in JudgesLevels (λ level. SpellsSlots level slots) bytes r (judge_slots slots bytes)
+    → JudgesTidily (AreCanonicalSlots slots) (SpellsSlots tidy slots) bytes r (judge_slots slots bytes))
+canonical_kept first second bytes r fits h =
+    let slots = kept_slot first ∷ kept_slot second ∷ [] in
+    canonical_of_levels (judge_slots slots) (λ level. SpellsSlots level slots) (slots_bytes slots) (slots_lawful slots refl) bytes r fits h

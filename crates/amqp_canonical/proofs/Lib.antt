@@ -16,6 +16,7 @@ pub mod ReadParts
 pub mod Sizes
 pub mod InOrder
 pub mod Leading
+pub mod Above
 pub mod Marking
 pub mod NextKey
 pub mod Putting

@@ -21,6 +21,7 @@ use Rattle.amqp_types.specs.PropertySpelling.{SpellsOptional, SpellsSet, SpellsP
 use Rattle.amqp_types.specs.PropertyBytes.{properties_bytes}
 use Rattle.amqp_types.specs.ContentHeaders.{header_slots, header_of_parts, judge_content_header, SpellsContentHeader, content_header_bytes}
 use Rattle.amqp_types.specs.declared.errors.ParserError.{ParserError}
+use Rattle.amqp_types.proofs.Bytes.{IsBytes-drop}
 use Rattle.amqp_types.proofs.FormLaws.{numbers_lawful}
 use Rattle.amqp_types.proofs.Sequences.{map_taken}
 use Rattle.amqp_types.proofs.Took.{value_took}
@@ -34,7 +35,7 @@ use Rattle.amqp_canonical.specs.Shapes.{form_of, property_of}
 use Rattle.amqp_canonical.specs.SlotJudgements.{TakesTidily, JudgesTidily, JudgesLevels, after_others, IsCanonicalContentHeader}
 use Rattle.amqp_canonical.proofs.Refusing.{Fails, fully, fails_next}
 use Rattle.amqp_canonical.proofs.Children.{decided_as, both_decided}
-use Rattle.amqp_canonical.proofs.Joining.{IsRead, law_read, both_read, both_judged, split_at, judgement, IsReached, reached_none, reached_more, reached_fails, reached_all}
+use Rattle.amqp_canonical.proofs.Joining.{IsRead, law_read, both_read, both_judged, split_at, judgement, and_true, IsReached, reached_none, reached_more, reached_fails, reached_all}
 use Rattle.amqp_canonical.proofs.Forms.{slots_read, canonical_of_levels}
 
 -- ---- one property
@@ -126,6 +127,32 @@ module _ (mask : ℕ) where
   pub properties_all : (ps : List (ℕ × Form)) (bytes : List ℕ) (k at : ℕ) (canonical so_far : Bool) → length ps ≤ k → ArePropertiesReached ps bytes k at canonical so_far → JudgesLevels (AllProperties ps) bytes (judgement at canonical so_far) (all_properties ps bytes)
   properties_all = reached_all one_property OneProperty all_properties AllProperties no_properties
 
+  module _ (ps : List (ℕ × Form)) (bytes : List ℕ) (k at : ℕ) (canonical so_far : Bool) (other : ℕ × Form) (more : k < length ps) (before : ArePropertiesReached ps bytes k at canonical so_far) where
+    abbrev bit : ℕ
+    bit = let p = get_or ps k other in p.0
+
+    abbrev form : meant.Form
+    form = let p = get_or ps k other in form_of p.1
+
+    -- the next one is not present
+    pub property_absent : flag_at mask bit ≡ false → ArePropertiesReached ps bytes (k + 1) at canonical so_far
+    property_absent absent =
+        let next = properties_more ps bytes k at canonical so_far (record { used = 0; canonical = true; tidy = true }) other more before (optional_none (flag_at mask bit) form (drop at bytes) absent) in
+        let none : at + 0 ≡ at = omega arith in
+        let P : ℕ → Type 0 = λ n. ArePropertiesReached ps bytes (k + 1) n (canonical && true) (so_far && true) in
+        let Q : Bool → Type 0 = λ b. ArePropertiesReached ps bytes (k + 1) at b (so_far && true) in
+        let R : Bool → Type 0 = λ b. ArePropertiesReached ps bytes (k + 1) at canonical b in
+        subst R (and_true so_far) (subst Q (and_true canonical) (subst P none next))
+
+    -- it is, and was decoded
+    pub property_there : (j : Judgement) → IsBytes bytes → flag_at mask bit ≡ true → TakesTidily (SpellsForm strict form) (SpellsForm tidy form) j (drop at bytes) (judge_form form (drop at bytes))
+        → ArePropertiesReached ps bytes (k + 1) (at + j.used) (canonical && j.canonical) (so_far && j.tidy)
+    property_there j fits there h = properties_more ps bytes k at canonical so_far j other more before (optional_there (flag_at mask bit) form (drop at bytes) (Ok j) (IsBytes-drop at bytes fits) there h)
+
+    -- it is, and was not decoded
+    pub property_fails : (e : ParserError) → IsBytes bytes → flag_at mask bit ≡ true → Fails e (judge_form form (drop at bytes)) → Fails e (all_properties ps bytes)
+    property_fails e fits there h = properties_fail ps bytes k at canonical so_far e other more before (optional_there (flag_at mask bit) form (drop at bytes) (Err e) (IsBytes-drop at bytes fits) there h)
+
 -- of the whole table
 pub set_judged : (mask : ℕ) (ps : List (ℕ × Form)) (bytes : List ℕ) (r : Result Judgement ParserError) → map property_of ps ≡ properties → JudgesLevels (λ level. SpellsSet level mask (map property_of ps)) bytes r (judge_set mask (map property_of ps) bytes)
     → JudgesLevels (λ level. SpellsSet level mask properties) bytes r (judge_set mask properties bytes)
@@ -197,10 +224,6 @@ properties_took bytes mask n unused j fits is none h =
 -- a bit beyond the mask
 pub bit_beyond : (mask bit : ℕ) → mask < 2 ^ 16 → 16 ≤ bit → flag_at mask bit ≡ false
 bit_beyond mask bit fits far = let none = bit_at_above mask 16 bit fits far in ne_eqb (bit_at mask bit) 1 (omega (arith, none))
-
-pub as_present : (present flag : Bool) (form : meant.Form) (bytes : List ℕ) (r : Result Judgement ParserError) → present ≡ flag → JudgesLevels (λ level. SpellsOptional level present form) bytes r (judge_optional present form bytes)
-    → JudgesLevels (λ level. SpellsOptional level flag form) bytes r (judge_optional flag form bytes)
-as_present present flag form bytes r same h = let P : Bool → Type 0 = λ b. JudgesLevels (λ level. SpellsOptional level b form) bytes r (judge_optional b form bytes) in subst P same h
 
 -- ---- content headers
 

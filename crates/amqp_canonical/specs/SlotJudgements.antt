@@ -10,8 +10,8 @@ use Rattle.amqp_types.specs.SlotSpelling.{SpellsForm, SpellsReserved, SpellsSlot
 use Rattle.amqp_types.specs.Methods.{Method, judge_payload, payload_bytes}
 use Rattle.amqp_types.specs.MethodSpelling.{SpellsPayload}
 use Rattle.amqp_types.specs.Properties.{properties}
-use Rattle.amqp_types.specs.PropertyJudging.{judge_optional, judge_set}
-use Rattle.amqp_types.specs.PropertySpelling.{SpellsOptional, SpellsSet}
+use Rattle.amqp_types.specs.PropertyJudging.{judge_set}
+use Rattle.amqp_types.specs.PropertySpelling.{SpellsSet}
 use Rattle.amqp_types.specs.ContentHeaders.{ContentHeader, judge_content_header, SpellsContentHeader, content_header_bytes}
 use Rattle.amqp_types.specs.declared.errors.ParserError.{ParserError}
 use Rattle.amqp_canonical.specs.declared.slots.Judgement.{Judgement}
@@ -60,10 +60,6 @@ JudgesReserved form constant bytes result = JudgesLevels (λ level. SpellsReserv
 -- a field, decoded
 abbrev pub JudgesSlot : Slot → List ℕ → Result Judgement ParserError → Type 0
 JudgesSlot slot bytes result = JudgesLevels (λ level. SpellsSlot level slot) bytes result (judge_slot slot bytes)
-
--- a property, decoded where it is present
-abbrev pub JudgesOptional : Bool → Form → List ℕ → Result Judgement ParserError → Type 0
-JudgesOptional present form bytes result = JudgesLevels (λ level. SpellsOptional level present form) bytes result (judge_optional present form bytes)
 
 -- the properties whose bits are set in the mask, decoded
 abbrev pub JudgesSet : ℕ → List ℕ → Result Judgement ParserError → Type 0

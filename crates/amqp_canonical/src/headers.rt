@@ -7,8 +7,7 @@ ghost use Rattle.amqp_types.specs.SlotJudging.{judge_slots};
 ghost use Rattle.amqp_types.specs.SlotSpelling.{SpellsSlots};
 ghost use Rattle.amqp_types.specs.PropertyJudging.{judge_properties};
 ghost use Rattle.amqp_types.specs.PropertySpelling.{SpellsProperties};
-ghost use Rattle.amqp_canonical.specs.Shapes.{form_of};
-ghost use Rattle.amqp_canonical.specs.SlotJudgements.{JudgesOptional, JudgesSet, JudgesLevels, JudgesContentHeader};
+ghost use Rattle.amqp_canonical.specs.SlotJudgements.{JudgesSet, JudgesLevels, JudgesContentHeader};
 
 use crate::shapes::{Form, property_shapes};
 use crate::slots::{Judgement, judge_form, judge_reserved_short};
@@ -28,22 +27,6 @@ fn has_no_unused_bit(mask: u16) -> bool
     mask & 3 == 0
 }
 
-/// Decodes a property, where it is present.
-fn judge_property(present: bool, form: Form, i: &[u8]) -> Result<Judgement, ParserError>
-    ensures judged { JudgesOptional present (form_of form) i.now result }
-    ensures used { IfOk result (λ j. j.used ≤ length i.now) }
-{
-    if present {
-        judge_form(form, i)
-    } else {
-        Ok(Judgement {
-            used: 0,
-            canonical: true,
-            tidy: true,
-        })
-    }
-}
-
 /// Decodes the properties whose bits are set in the mask, one after another.
 fn judge_set(mask: u16, i: &[u8]) -> Result<Judgement, ParserError>
     ensures judged { JudgesSet mask i.now result }
@@ -54,8 +37,10 @@ fn judge_set(mask: u16, i: &[u8]) -> Result<Judgement, ParserError>
     let mut canonical = true;
     let mut tidy = true;
     for shape in shapes {
-        let present = has_bit(mask, shape.0);
-        let property = match judge_property(present, shape.1, &i[at..]) {
+        if !has_bit(mask, shape.0) {
+            continue;
+        }
+        let property = match judge_form(shape.1, &i[at..]) {
             Ok(property) => property,
             Err(error) => return Err(error),
         };

@@ -1,8 +1,8 @@
 //! Decoding fields by their shapes.
 
-ghost use Rattle.std.specs.Prelude.{◌≡◌, ◌≤◌, ◌<◌, ◌^◌, ◌↔◌, true, length, IfOk, IsTrue};
-ghost use Rattle.amqp_types.specs.Numbers.{NumberWidth, bytes2, byte_count};
-ghost use Rattle.amqp_types.specs.Slots.{number_form, flags_form, short_string_form, long_string_form, table_form};
+ghost use Rattle.std.specs.Prelude.{◌≡◌, ◌≤◌, ◌<◌, ◌^◌, ◌↔◌, true, [], ◌∷◌, length, IfOk, IfSome, IsTrue};
+ghost use Rattle.amqp_types.specs.Numbers.{NumberWidth, bytes2, bytes8, byte_count};
+ghost use Rattle.amqp_types.specs.Slots.{number_form, flags_form, short_string_form, long_string_form, table_form, kept_slot};
 ghost use Rattle.amqp_canonical.specs.Shapes.{form_of, is_constant, constant_of, slot_of, has_constant, slots_of, have_constants};
 ghost use Rattle.amqp_canonical.specs.SlotJudgements.{JudgesForm, JudgesReserved, JudgesSlot, JudgesSlots};
 
@@ -172,12 +172,47 @@ fn judge_slot(slot: Slot, i: &[u8]) -> Result<Judgement, ParserError>
     }
 }
 
+/// How many flags a method has after a number of 8 bytes, where it has no other field: acknowledgements are such, and
+/// most frames of many streams are acknowledgements.
+#[inline(always)]
+fn flags_after_number(shapes: &[Slot]) -> Option<u8>
+    ensures { IfSome result (λ count. slots_of shapes.now ≡ kept_slot (number_form bytes8) ∷ kept_slot (flags_form count) ∷ []) }
+{
+    if let [first, second] = shapes
+        && let Slot::Kept(Form::LongLong) = *first
+        && let Slot::Kept(Form::Flags(count)) = *second
+    {
+        Some(count)
+    } else {
+        None
+    }
+}
+
+/// Decodes a number of 8 bytes, and so many flags after it.
+#[inline(always)]
+fn judge_number_and_flags(count: u8, i: &[u8]) -> Result<Judgement, ParserError>
+    ensures judged { JudgesSlots (kept_slot (number_form bytes8) ∷ kept_slot (flags_form count) ∷ []) i.now result }
+    ensures used { IfOk result (λ j. j.used ≤ length i.now) }
+{
+    let number = judge_number(8, i)?;
+    let flags = judge_flags(count, &i[number.used..])?;
+    Ok(Judgement {
+        used: number.used + flags.used,
+        canonical: number.canonical & flags.canonical,
+        tidy: number.tidy & flags.tidy,
+    })
+}
+
 /// Decodes fields of these shapes, one after another (AMQP 0-9-1, section 4.2.4).
+#[inline(always)]
 pub fn judge_slots(shapes: &[Slot], i: &[u8]) -> Result<Judgement, ParserError>
     requires constants { have_constants shapes.now ≡ true }
     ensures judged { JudgesSlots (slots_of shapes.now) i.now result }
     ensures used { IfOk result (λ j. j.used ≤ length i.now) }
 {
+    if let Some(count) = flags_after_number(shapes) {
+        return judge_number_and_flags(count, i);
+    }
     let mut at = 0;
     let mut canonical = true;
     let mut tidy = true;

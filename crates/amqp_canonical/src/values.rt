@@ -4,7 +4,9 @@ ghost use Rattle.std.specs.Prelude.{◌≡◌, ◌≤◌, ◌<◌, ◌↔◌, So
 ghost use Rattle.amqp_types.specs.Booleans.{judge_boolean};
 ghost use Rattle.amqp_types.specs.ValueJudging.{filled, nested, judge_entry, judge_array, judge_table, judge_behind, judge_value};
 ghost use Rattle.amqp_canonical.specs.Judgements.{layout_at, layout_after_byte, IsShort, IsAbove, IsBelow, MayRefuse, IsCanonicalBoolean, IsCanonicalAfterTag, IsCanonicalValue, AreCanonicalValues, AreCanonicalEntries, IsCanonicalArray, IsCanonicalTable, Judges, JudgesEntry, JudgesWhole};
+ghost use Rattle.amqp_canonical.specs.Leads.{leading};
 
+use crate::leads::{first_eight, next_two};
 use crate::texts::short_text;
 use amqp_types::{
     FieldTag, ParserError, TAG_BOOLEAN, TAG_BYTE_ARRAY, TAG_DECIMAL_VALUE, TAG_DOUBLE,
@@ -121,7 +123,8 @@ pub(crate) fn layout_after(byte: u8) -> Option<TagByte>
 }
 
 /// Whether a key comes after the previous one, in the order of their bytes.
-fn is_above(key: &[u8], previous: &[u8]) -> bool
+#[inline(never)]
+fn is_key_above(key: &[u8], previous: &[u8]) -> bool
     ensures { IsTrue result ↔ IsBelow previous.now key.now }
 {
     match previous.cmp(key) {
@@ -130,12 +133,30 @@ fn is_above(key: &[u8], previous: &[u8]) -> bool
     }
 }
 
+/// Whether a key comes after the previous one, by their first bytes where these differ. The first eight of each are given as a
+/// number.
+#[inline(always)]
+fn is_above(lead: u64, key: &[u8], previous_lead: u64, previous: &[u8]) -> bool
+    requires leads { (lead ≡ leading 8 key.now) × (previous_lead ≡ leading 8 previous.now) }
+    ensures { IsTrue result ↔ IsBelow previous.now key.now }
+{
+    if previous_lead != lead {
+        return previous_lead < lead;
+    }
+    let (more, previous_more) = (next_two(key), next_two(previous));
+    if previous_more != more {
+        return previous_more < more;
+    }
+    is_key_above(key, previous)
+}
+
 /// Whether a key comes after the previous one, where there is one.
 #[inline(always)]
-fn is_next(at: usize, key: &[u8], previous: &[u8]) -> bool
+fn is_next(at: usize, lead: u64, key: &[u8], previous_lead: u64, previous: &[u8]) -> bool
+    requires leads { (lead ≡ leading 8 key.now) × (previous_lead ≡ leading 8 previous.now) }
     ensures { IsAbove at previous.now key.now result }
 {
-    at == 0 || is_above(key, previous)
+    at == 0 || is_above(lead, key, previous_lead, previous)
 }
 
 /// Decodes a truth value.
@@ -269,6 +290,7 @@ fn judge_entries(content: &[u8], depth_left: usize) -> Result<bool, ParserError>
     ensures { JudgesWhole AreCanonicalEntries content.now result (filled (judge_entry (judge_value depth_left)) 0 content.now) }
 {
     let mut previous: &[u8] = &[];
+    let mut previous_lead = 0;
     let mut canonical = true;
     let mut at = 0;
     while canonical && at < content.len() {
@@ -276,8 +298,10 @@ fn judge_entries(content: &[u8], depth_left: usize) -> Result<bool, ParserError>
             Ok(found) => found,
             Err(error) => return Err(error.inside()),
         };
-        canonical = item.canonical & is_next(at, key, previous);
+        let lead = first_eight(key);
+        canonical = item.canonical & is_next(at, lead, key, previous_lead, previous);
         previous = key;
+        previous_lead = lead;
         at += item.used;
     }
     // Where one is not canonical, the others are decoded alone, and their keys are not compared.

@@ -4,3 +4,4 @@ pub mod Whole
 pub mod Apart
 pub mod Entries
 pub mod EqualContents
+pub mod Counting

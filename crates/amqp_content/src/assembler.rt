@@ -7,6 +7,7 @@ ghost use Rattle.amqp_wire.specs.Outlines.{outline_of};
 ghost use Rattle.amqp_turns.specs.Units.{is_content};
 ghost use Rattle.amqp_turns.specs.Stands.{kept_at, OthersStay};
 ghost use Rattle.amqp_content.specs.Outcomes.{AssemblerStands, PushesIn, TakesIn, TakesMarked, IsHeadedThere, IsMessage, outcome_of, wrong, fault, pending_kept, kept_progress, with_header, with_bytes, whole_kept};
+ghost use Rattle.amqp_content.specs.Bounds.{adds, body_bytes};
 ghost use Rattle.amqp_turns.specs.Steps.{mark_after, method_mark};
 
 use crate::opening::Opening;
@@ -58,6 +59,7 @@ impl Assembler {
 
     /// Forgets what has come on a channel, its fault too: it was closed, and where it is opened again its content begins anew.
     pub fn forget(&mut self, channel_id: ChannelId)
+        ensures none { kept_at self.new.channels channel_id ≡ None }
         ensures stands { AssemblerStands self.old.max_body [] (kept_at self.new.channels channel_id) }
         ensures others { OthersStay channel_id self.old.channels self.new.channels }
         ensures max_body { self.new.max_body ≡ self.old.max_body }
@@ -72,6 +74,34 @@ impl Assembler {
         match self.channels.get(channel_id) {
             Some(pending) => Some(pending.progress()),
             None => None,
+        }
+    }
+
+    /// How many body bytes are held of a channel.
+    pub(crate) fn held_of(&self, channel_id: ChannelId) -> u64
+        ensures { result ≡ body_bytes (kept_at self.now.channels channel_id) }
+    {
+        match self.channels.get(channel_id) {
+            Some(pending) => pending.held(),
+            None => 0,
+        }
+    }
+
+    /// How many body bytes a frame adds to what is held.
+    pub(crate) fn adds(&self, frame: &AMQPFrame) -> u64
+        ensures { result ≡ adds self.now (frame_of frame.now) }
+    {
+        let AMQPFrame::Body(channel_id, bytes) = frame else {
+            return 0;
+        };
+        let count = bytes.len() as u64;
+        let outline = FrameOutline::Body {
+            channel_id: *channel_id,
+            length: count,
+        };
+        match self.mark(*channel_id, outline) {
+            Mark::Body { after, size, .. } if after != size => count,
+            _ => 0,
         }
     }
 
@@ -272,6 +302,7 @@ impl Assembler {
     /// and the frame is dropped.
     pub fn push(&mut self, frame: AMQPFrame) -> Result<Outcome, NoMemory>
         ensures outside { is_content (outline_of (frame_of frame)) ≡ false → (result ≡ Ok (Outcome.Passed frame)) × (self.new ≡ self.old) }
+        ensures takes { IfOk result (λ outcome. TakesMarked self.old self.new (frame_of frame) (outcome_of outcome)) }
         ensures pushes { IsTrue (is_content (outline_of (frame_of frame)))
             → IfOk result (λ outcome. PushesIn self.old self.new (frame_of frame) (outcome_of outcome)) }
         ensures others { OthersStay (channel_id_of (frame_of frame)) self.old.channels self.new.channels }

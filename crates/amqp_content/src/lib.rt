@@ -4,6 +4,7 @@
 
 mod assembler;
 mod assembling;
+mod bounded;
 mod equality;
 mod laws;
 mod message;
@@ -15,13 +16,14 @@ mod splitting;
 pub use amqp_turns::{
     Channels, ContentFault, Mark, Progress, Tracker, answers_are_steps, channels,
     channels_are_answered, channels_are_apart, equal_content_faults, equal_marks, equal_progress,
-    fault, mark, progress, step, tracker,
+    fault, mark, outlines_answer_alike, progress, step, tracker,
 };
 pub use amqp_types::NoMemory;
 pub use assembler::Assembler;
 pub use assembling::assemble;
+pub use bounded::{BoundedAssembler, Taken};
 pub use equality::{equal_messages, equal_openings, equal_outcomes};
-pub use laws::splits_are_whole;
+pub use laws::{interleaved_are_whole, splits_are_whole};
 pub use message::Message;
 pub use opening::Opening;
 pub use outcome::Outcome;

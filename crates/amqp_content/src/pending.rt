@@ -3,6 +3,7 @@
 ghost use Rattle.std.specs.Prelude.{◌≡◌, Some, OnOk, OnErr};
 ghost use Rattle.amqp_frame.specs.Frames.{header_of};
 ghost use Rattle.amqp_content.specs.Outcomes.{pending_kept, progress_kept, with_header, with_bytes, IsHeaded, outcome_of, whole_kept};
+ghost use Rattle.amqp_content.specs.Bounds.{body_bytes};
 
 use crate::message::Message;
 use crate::opening::Opening;
@@ -39,6 +40,16 @@ impl Pending {
                 None => Progress::Opened,
             },
             Pending::Faulted => Progress::Faulted,
+        }
+    }
+
+    /// How many body bytes are kept.
+    pub(crate) fn held(&self) -> u64
+        ensures { result ≡ body_bytes (Some (pending_kept self.now)) }
+    {
+        match self {
+            Pending::Message { body, .. } => body.len() as u64,
+            Pending::Faulted => 0,
         }
     }
 

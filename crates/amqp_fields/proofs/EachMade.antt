@@ -14,11 +14,11 @@ pub record Onward {E : Type 0} (whole rest : Result (List ℕ) E) (old new : Lis
   pub so_far : whole ≡ after (Ok done) rest
   pub are_put : ArePut old new at done made
 
-after_none : {E : Type 0} (made : Result (List ℕ) E) → after (Ok []) made ≡ made
+pub after_none : {E : Type 0} (made : Result (List ℕ) E) → after (Ok []) made ≡ made
 after_none (Ok bytes) = refl
 after_none (Err bad) = refl
 
-after_after : {E : Type 0} (a b c : Result (List ℕ) E) → after a (after b c) ≡ after (after a b) c
+pub after_after : {E : Type 0} (a b c : Result (List ℕ) E) → after a (after b c) ≡ after (after a b) c
 after_after (Ok a) (Ok b) (Ok c) = ap Ok (sym (append_assoc a b c))
 after_after (Ok a) (Ok b) (Err bad) = refl
 after_after (Ok a) (Err bad) c = refl

@@ -20,7 +20,8 @@ use Rattle.amqp_fields.specs.Making.{EncodesEntries, EncodesFrames, EncodesOrIsL
 use Rattle.amqp_fields.specs.Meaning.{AreNodes}
 use Rattle.amqp_fields.specs.Meant.{TellFrames, TellsEntry, TellsValue}
 use Rattle.amqp_fields.proofs.FramesTold.{at_ok, frames_told}
-use Rattle.amqp_fields.proofs.Suited.{each_fits, entry_fits, value_fits}
+use Rattle.amqp_fields.proofs.Ordered.{plain_order}
+use Rattle.amqp_fields.proofs.Suited.{entries_fit, value_fits, values_fit}
 use Rattle.amqp_fields.proofs.SuitedFrames.{at_suits, frames_fit}
 use Rattle.amqp_fields.proofs.ValuesTold.{Told, each_told, entry_told, value_told}
 
@@ -64,18 +65,18 @@ complete_by Spells thing made old new (Err (failures.TooSmall needed)) suits h =
 
 pub frames_complete : (pool : List ℕ) (nodes : List Node) (heads : List Head) (m : ℕ) (old new : List ℕ) (result : Result ℕ WriteError) → IsBytes pool → m < 2 ^ 32 → Writes (made_frames pool nodes m 0 heads) old new result
     → (frames : List Frame) → TellFrames pool nodes heads frames → EncodesOrIsLong (SpellsFrames plain (Some m)) frames new result
-frames_complete pool nodes heads m old new result fits few h frames meant = complete_by (SpellsFrames plain (Some m)) frames (made_frames pool nodes m 0 heads) old new result (frames_fit pool fits nodes m few 0 heads frames meant) h
+frames_complete pool nodes heads m old new result fits few h frames meant = complete_by (SpellsFrames plain (Some m)) frames (made_frames pool nodes m 0 heads) old new result (frames_fit plain pool fits nodes m plain_order few 0 heads frames meant) h
 
 pub entries_complete : (pool : List ℕ) (nodes : List Node) (old new : List ℕ) (result : Result ℕ WriteError) → IsBytes pool → Writes (made_entries pool nodes) old new result → (entries : List Entry) → TellEntries pool nodes entries → EncodesOrIsLong SpellsEntries entries new result
 entries_complete pool nodes old new result fits h entries meant =
     let make = made_entry pool (made_value pool inner_depth) in
     complete_by SpellsEntries entries (made_entries pool nodes) old new result
-    (at_suits pool fits 0 (made_each make (length nodes) 0 nodes) (λ bytes. SpellsEntries bytes entries)
-    (each_fits make (TellsEntry (TellsValue inner_depth pool) pool) (SpellsEntry (SpellsValue plain inner_depth)) (entry_fits pool fits inner_depth (made_value pool inner_depth) (value_fits pool fits inner_depth)) (length nodes) entries nodes meant)) h
+    (at_suits plain pool fits 0 (made_each make (length nodes) 0 nodes) (λ bytes. SpellsEntries bytes entries)
+    (entries_fit plain pool fits inner_depth (made_value pool inner_depth) (value_fits plain pool fits inner_depth) (length nodes) entries nodes plain_order meant)) h
 
 pub values_complete : (pool : List ℕ) (nodes : List Node) (old new : List ℕ) (result : Result ℕ WriteError) → IsBytes pool → Writes (made_values pool nodes) old new result → (values : List FieldValue) → TellValues pool nodes values → EncodesOrIsLong SpellsValues values new result
 values_complete pool nodes old new result fits h values meant =
     let make = made_value pool inner_depth in
     complete_by SpellsValues values (made_values pool nodes) old new result
-    (at_suits pool fits 0 (made_each make (length nodes) 0 nodes) (λ bytes. SpellsValues bytes values)
-    (each_fits make (TellsValue inner_depth pool) (SpellsValue plain inner_depth) (value_fits pool fits inner_depth) (length nodes) values nodes meant)) h
+    (at_suits plain pool fits 0 (made_each make (length nodes) 0 nodes) (λ bytes. SpellsValues bytes values)
+    (values_fit plain pool fits inner_depth (made_value pool inner_depth) (value_fits plain pool fits inner_depth) (length nodes) values nodes plain_order meant)) h

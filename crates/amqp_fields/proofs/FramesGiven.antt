@@ -30,7 +30,7 @@ use Rattle.amqp_fields.proofs.Spans.{Stands, itself, stands_part}
 
 -- ---- the next frame
 
-verdict_whole : (m : ℕ) (left : List ℕ) (raw : Raw) (size : ℕ) (frame : Frame) → outer (Some m) left ≡ took raw size → whole raw ≡ Ok frame → verdict plain (Some m) left ≡ took frame size
+pub verdict_whole : (m : ℕ) (left : List ℕ) (raw : Raw) (size : ℕ) (frame : Frame) → outer (Some m) left ≡ took raw size → whole raw ≡ Ok frame → verdict plain (Some m) left ≡ took frame size
 unfolding verdict
 verdict_whole m left raw size frame found is = ap (judged plain) found ∙ ap (λ r. judged_frame (is_at plain raw) r size) is
 

@@ -2,7 +2,7 @@
 use Rattle.std.proofs.Common.{◌≡◌, ℕ, zero, suc, ◌+◌, ◌<◌, ◌≤◌, ◌^◌, ◌%◌, ◌==◌, ◌&&◌, Bool, true, false, List, [], ◌∷◌, ◌++◌, length, map, take, drop, Option, Some, None, unwrap_or, Result, Ok, Err, refl, sym, ap, ap₂, subst, ◌∙◌, append-nil, append_assoc, arith, nat_lt, nat_le, if◌then◌else◌}
 use Rattle.std.specs.Prelude.{is_some}
 use Rattle.std.proofs.lemmas.Bool.Decides.{nat_tests}
-use Rattle.amqp_types.specs.Levels.{plain}
+use Rattle.amqp_types.specs.Levels.{Level, plain}
 use Rattle.amqp_types.specs.Judging.{IsBytes}
 use Rattle.amqp_types.specs.Numbers.{bytes1, bytes2, bytes8, number_bytes, SpellsNumber}
 use Rattle.amqp_types.specs.Flags.{flag_at}
@@ -32,6 +32,7 @@ use Rattle.amqp_fields.specs.MadeFields.{group_size, is_next, made_field, made_n
 use Rattle.amqp_fields.specs.MadeFrames.{at_head, has_no_ids, header_front, is_held, made_around, made_beat, made_body, made_frame, made_frames, made_header, made_known, made_method, made_own, made_payload, made_typed, made_version, nodes_in}
 use Rattle.amqp_fields.specs.Meaning.{AreNodes, IsSpan, fields_from, fields_of, kinds_in, set_fields}
 use Rattle.amqp_fields.specs.Meant.{HasNoIds, IsMethod, TellFrames, TellsField, TellsFields, TellsFrame, TellsTyped}
+use Rattle.amqp_fields.proofs.AtLevel.{from_tidy}
 use Rattle.amqp_fields.proofs.FieldsTold.{field_told, slots_told}
 use Rattle.amqp_fields.proofs.Inverted.{after_ok, fails, holds, ok_is, span_ok}
 use Rattle.amqp_fields.proofs.PayloadsFound.{few_fields, fourteen}
@@ -213,9 +214,9 @@ module _ (pool : List ℕ) (fits : IsBytes pool) where
     fields : TellsFields pool nodes head.first head.nodes (Head head.channel (header_of_parts (number_item head.class_id ∷ number_item head.body_size ∷ []) options))
     spelled : SpellsContentHeader plain bytes (header_of_parts (number_item head.class_id ∷ number_item head.body_size ∷ []) options)
 
-  pub front_spelled : (class size : ℕ) → class < 2 ^ 16 → size < 2 ^ 64 → SpellsSlots plain header_slots (number_bytes bytes2 class ++ (number_bytes bytes2 0 ++ number_bytes bytes8 size)) (number_item class ∷ number_item size ∷ [])
+  pub front_spelled : (level : Level) (class size : ℕ) → class < 2 ^ 16 → size < 2 ^ 64 → SpellsSlots level header_slots (number_bytes bytes2 class ++ (number_bytes bytes2 0 ++ number_bytes bytes8 size)) (number_item class ∷ number_item size ∷ [])
   unfolding header_slots
-  front_spelled class size class_fits size_fits = record {
+  front_spelled level class size class_fits size_fits = record {
     front = number_bytes bytes2 class;
     behind = number_bytes bytes2 0 ++ number_bytes bytes8 size;
     one = number_item class ∷ [];
@@ -228,7 +229,7 @@ module _ (pool : List ℕ) (fits : IsBytes pool) where
       one = [];
       two = number_item size ∷ [];
       bytes_are = refl;
-      first_is = record { dropped = number_item 0 ∷ []; spelled = record { thing = 0; spelled = record { fits = omega arith; bytes_are = refl }; made = refl }; none = refl; unused = tt };
+      first_is = record { dropped = number_item 0 ∷ []; spelled = record { thing = 0; spelled = record { fits = omega arith; bytes_are = refl }; made = refl }; none = refl; unused = from_tidy level refl };
       second_is = record {
         front = number_bytes bytes8 size;
         behind = [];
@@ -264,7 +265,7 @@ module _ (pool : List ℕ) (fits : IsBytes pool) where
           one = number_item head.class_id ∷ number_item head.body_size ∷ [];
           two = told.options;
           bytes_are = parts.bytes_are ∙ ap (λ bs. bs ++ parts.behind) (ok_is parts.first_is);
-          first_is = front_spelled head.class_id head.body_size class_fits size_fits;
+          first_is = front_spelled plain head.class_id head.body_size class_fits size_fits;
           second_is = told.spelled;
           joined = refl;
         };

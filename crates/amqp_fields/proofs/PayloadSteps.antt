@@ -1,11 +1,19 @@
 -- What the fields of whole payloads are listed as.
-use Rattle.std.proofs.Common.{Bor, ◌≡◌, ℕ, ◌<◌, Bool, List, [], ◌∷◌, length, drop, Option, Some, None, sym, ap, subst, ◌∙◌, arith}
+use Rattle.std.proofs.Common.{Bor, ◌≡◌, ℕ, ◌+◌, ◌-◌, ◌<◌, ◌≤◌, Bool, List, [], ◌∷◌, length, drop, Option, Some, None, Ok, sym, ap, subst, ◌∙◌, arith}
+use Rattle.std.proofs.lemmas.List.{length-drop}
 use Rattle.std.specs.Prelude.{option_copied, option_map}
-use Rattle.amqp_types.specs.Judging.{Judged, took, ◌>>=◌}
+use Rattle.amqp_types.specs.Judging.{IsBytes, Judged, took, ◌>>=◌}
+use Rattle.amqp_types.specs.Methods.{judge_payload, payload_bytes}
+use Rattle.amqp_types.specs.Tidiness.{is_tidy_payload}
 use Rattle.amqp_types.specs.Numbers.{bytes2, judge_number}
 use Rattle.amqp_types.specs.Rows.{slots_at}
 use Rattle.amqp_types.specs.Slots as meant
 use Rattle.amqp_canonical.specs.declared.shapes.Slot.{Slot}
+use Rattle.amqp_canonical.specs.declared.slots.Judgement.{Judgement}
+use Rattle.amqp_canonical.specs.SlotJudgements.{JudgesSlots}
+use Rattle.amqp_canonical.proofs.MethodWalk.{payload_took}
+use Rattle.amqp_wire.specs.Judgements.{JudgesAll}
+use Rattle.amqp_wire.proofs.Judged.{method_all}
 use Rattle.amqp_canonical.specs.Shapes.{slots_of}
 use Rattle.amqp_fields.specs.declared.node.Node.{Node}
 use Rattle.amqp_fields.specs.Listed.{listed_known, listed_method, listed_slots}
@@ -38,3 +46,13 @@ no_ids deep end count (a ∷ []) old h = tt
 no_ids deep end count (a ∷ b ∷ []) old h = tt
 no_ids deep end count (a ∷ b ∷ c ∷ []) old h = tt
 no_ids deep end count (a ∷ b ∷ c ∷ d ∷ rest) old h = absurd (omega arith)
+
+-- ---- methods decoded
+
+pub method_read : (payload fields : List ℕ) (class id : ℕ) (shapes : Option (Bor (List Slot))) (found : Bor (List Slot)) (j : Judgement) → IsBytes payload → 4 ≤ length payload → judge_number bytes2 payload ≡ took class 2 → judge_number bytes2 (drop 2 payload) ≡ took id 2 → fields ≡ drop 2 (drop 2 payload)
+    → option_map slots_of (option_copied shapes) ≡ slots_at class id → shapes ≡ Some found → j.used ≡ length fields → JudgesSlots (slots_of found.now) fields (Ok j) → JudgesAll judge_payload payload_bytes is_tidy_payload payload (Ok (record { canonical = j.canonical; tidy = j.tidy }))
+method_read payload fields class id shapes found j fits some one two behind at is all h =
+    let size : length fields ≡ length payload - 4 = ap length behind ∙ length-drop 2 (drop 2 payload) ∙ ap (λ n. n - 2) (length-drop 2 payload) ∙ omega arith in
+    let slots : slots_at class id ≡ Some (slots_of found.now) = sym at ∙ ap (λ o. option_map slots_of (option_copied o)) is in
+    let P : List ℕ → Type 0 = λ bytes. JudgesSlots (slots_of found.now) bytes (Ok j) in
+    method_all payload (record { used = 2 + (2 + j.used); canonical = j.canonical; tidy = j.tidy }) fits (omega (arith, all, size, some)) (payload_took payload class 2 id 2 (slots_of found.now) j fits one two slots (subst P behind h))

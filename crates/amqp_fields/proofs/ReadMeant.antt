@@ -1,32 +1,31 @@
 -- Nodes that reading gives are meant by what is written of them.
-use Rattle.std.proofs.Common.{◌≡◌, ℕ, zero, suc, ◌+◌, ◌-◌, ◌<◌, ◌≤◌, ◌^◌, Bool, true, false, List, [], ◌∷◌, ◌++◌, length, get_or, map, replicate, take, drop, Option, Some, None, unwrap_or, Result, Ok, Err, refl, sym, ap, subst, ◌∙◌, arith}
+use Rattle.std.proofs.Common.{◌≡◌, ℕ, zero, suc, ◌+◌, ◌-◌, ◌<◌, ◌^◌, Bool, true, false, List, [], ◌∷◌, ◌++◌, length, get_or, map, take, Option, Some, unwrap_or, Result, Ok, Err, refl, sym, ap, subst, ◌∙◌, arith}
 use Rattle.std.specs.List.{AllByRecursion}
 use Rattle.std.specs.Str.{IsUtf8}
-use Rattle.std.proofs.lemmas.List.{length-append, length-take-le}
 use Rattle.amqp_types.specs.Levels.{plain}
 use Rattle.amqp_types.specs.Judging.{Fault, IsBytes, IsExact, Judge, Judged, took, past, fault}
 use Rattle.amqp_types.specs.Numbers.{NumberWidth, bytes1, bytes2, bytes4, bytes8, number_limit}
 use Rattle.amqp_types.specs.Constants.{inner_depth}
 use Rattle.amqp_types.specs.Values.{FieldValue, Entry, boolean_value, signed_value, unsigned_value, decimal_value, bytes_value, array_value, table_value, void_value, items, pairs}
 use Rattle.amqp_types.specs.ValueJudging.{filled, judge_entry, judge_value, next_item, read_map}
-use Rattle.amqp_types.specs.ValueSpelling.{SpellsBehind, SpellsEntry, SpellsTagged, SpellsValue}
+use Rattle.amqp_types.specs.ValueSpelling.{SpellsBehind, SpellsEntry, SpellsValue}
 use Rattle.amqp_types.specs.Slots.{Item, number_item, flag_item, text_item, bytes_item, entries_item, Form, number_form, flags_form, short_string_form, long_string_form, table_form, Slot, kept_slot, reserved_slot}
 use Rattle.amqp_types.specs.SlotSpelling.{SpellsForm, SpellsSlots}
 use Rattle.amqp_types.specs.Rows.{slots_at}
 use Rattle.amqp_types.specs.Properties.{Property, properties}
-use Rattle.amqp_types.specs.PropertySpelling.{SpellsOptional, SpellsProperties, SpellsSet}
+use Rattle.amqp_types.specs.PropertySpelling.{SpellsOptional, SpellsSet}
 use Rattle.amqp_types.specs.PropertyJudging.{first_item}
 use Rattle.amqp_types.specs.ContentHeaders.{ContentHeader, SpellsContentHeader, header_of_parts, header_slots}
 use Rattle.amqp_types.specs.Flags.{flag_at, flags_from}
-use Rattle.amqp_laws.proofs.Exactly.{value_exact, value_some}
-use Rattle.amqp_laws.proofs.Filled.{HasBytes, entry_exact, entry_some}
+use Rattle.amqp_laws.proofs.Exactly.{value_exact}
+use Rattle.amqp_laws.proofs.Filled.{entry_exact}
 use Rattle.amqp_wire.specs.Frames.{Frame, Proto, Meth, Head, Body, Beat, BadBeat}
 use Rattle.amqp_wire.specs.Spelling.{Spells, proto}
 use Rattle.amqp_fields.specs.declared.node.Node.{Node}
 use Rattle.amqp_fields.specs.Kinds.{kind_of}
-use Rattle.amqp_fields.specs.Meaning.{AreInside, AreNodes, AreNodesOf, Field, IsArray, IsSpan, IsTable, MeansElement, MeansEntry, MeansField, MeansItem, MeansValue, Says, SaysAt, TableInside, field, fields_from, fields_of, kinds_in, kinds_of, set_field, set_fields}
+use Rattle.amqp_fields.specs.Meaning.{AreInside, AreNodes, Field, IsArray, IsSpan, IsTable, MeansElement, MeansEntry, MeansField, MeansItem, MeansValue, Says, SaysAt, TableInside, fields_from, fields_of, kinds_in, kinds_of, set_field, set_fields}
 use Rattle.amqp_fields.specs.WritingLaws.{ReadNodesAreMeant}
-use Rattle.amqp_fields.specs.Meant.{Holds, HoldsTable, IsSigned, Tells, TellsAt, TellsEntry, TellsField, TellsItem, TellsValue, kind_limit}
+use Rattle.amqp_fields.specs.Meant.{Holds, HoldsTable, Tells, TellsAt, TellsEntry, TellsField, TellsItem, TellsValue, kind_limit}
 use Rattle.amqp_fields.proofs.FieldsFound.{fields_append}
 use Rattle.amqp_fields.proofs.SuitedFields.{IsOne}
 use Rattle.amqp_fields.proofs.SuitedFrames.{AreOne, all_one}
@@ -39,7 +38,7 @@ pub record Encoded {A : Type 0} (Spells : List ℕ → A → Type 0) (x : A) : T
   pub bytes : List ℕ
   pub spelled : Spells bytes x
 
-nodes_into : {A : Type 0} (M T : Node → List Node → A → Type 0) (P : A → Type 0) → ((node : Node) (inside : List Node) (x : A) → P x → M node inside x → T node inside x) → (xs : List A) (nodes : List Node) → AllByRecursion P xs → AreNodes M xs nodes → AreNodes T xs nodes
+pub nodes_into : {A : Type 0} (M T : Node → List Node → A → Type 0) (P : A → Type 0) → ((node : Node) (inside : List Node) (x : A) → P x → M node inside x → T node inside x) → (xs : List A) (nodes : List Node) → AllByRecursion P xs → AreNodes M xs nodes → AreNodes T xs nodes
 nodes_into M T P into [] nodes all h = h
 nodes_into M T P into (x ∷ xs) nodes all h = record { node = h.node; inside = h.inside; others = h.others; nodes_are = h.nodes_are; inside_is = h.inside_is; means = into h.node h.inside x all.0 h.means; rest = nodes_into M T P into xs h.others all.1 h.rest }
 
@@ -65,14 +64,14 @@ module _ {A : Type 0} (item : Judge A) (Spells : List ℕ → A → Type 0) (exa
 -- ---- items and kinds
 
 -- the item is one that a field of the kind gives
-abbrev ItemOf : ℕ → Item → Type 0
+abbrev pub ItemOf : ℕ → Item → Type 0
 ItemOf kind (number_item n) = n < kind_limit kind
 ItemOf kind (flag_item b) = kind ≡ 5
 ItemOf kind (text_item text) = (kind ≡ 6) × (length text < 256) × IsUtf8 text
 ItemOf kind (bytes_item content) = kind ≡ 7
 ItemOf kind (entries_item table) = kind ≡ 8
 
-abbrev Suitable : Field → Type 0
+abbrev pub Suitable : Field → Type 0
 Suitable f = ItemOf f.kind f.item
 
 limit_of : (width : NumberWidth) → kind_limit (kind_of (number_form width)) ≡ number_limit width
@@ -92,7 +91,7 @@ flags_length zero k byte = refl
 flags_length (suc count) k byte = ap suc (flags_length count (k + 1) byte)
 
 -- what a form gives suits its kinds
-form_suits : (form : Form) (place : ℕ) (bytes : List ℕ) (given : List Item) → SpellsForm plain form bytes given → AllByRecursion Suitable (fields_from place (kinds_of form) given) × (length (kinds_of form) ≡ length given)
+pub form_suits : (form : Form) (place : ℕ) (bytes : List ℕ) (given : List Item) → SpellsForm plain form bytes given → AllByRecursion Suitable (fields_from place (kinds_of form) given) × (length (kinds_of form) ≡ length given)
 form_suits (number_form width) place bytes given h =
     let fits : h.thing < kind_limit (kind_of (number_form width)) = subst (λ limit. h.thing < limit) (sym (limit_of width)) h.spelled.fits in
     subst (λ xs. AllByRecursion Suitable (fields_from place (kinds_of (number_form width)) xs) × (length (kinds_of (number_form width)) ≡ length xs)) (sym h.made) ((fits, tt), refl)
@@ -155,7 +154,7 @@ header_options bytes header h =
     let found = front_items h.front h.one h.first_is in
     sym (ap (λ (x : ContentHeader). x.options) (h.joined ∙ ap (λ xs. header_of_parts xs h.two) found.2))
 
-frame_suits : (bytes : List ℕ) (frame : Frame) → IsBytes bytes → Spells plain bytes frame → AllByRecursion Suitable (fields_of frame)
+pub frame_suits : (bytes : List ℕ) (frame : Frame) → IsBytes bytes → Spells plain bytes frame → AllByRecursion Suitable (fields_of frame)
 unfolding fields_of
 frame_suits bytes (Proto major minor revision) fits h =
     let byte : (i : ℕ) → get_or (proto major minor revision) i 0 < 256 = λ i. subst (λ bs. get_or bs i 0 < 256) h (fits i) in

@@ -1,5 +1,6 @@
 -- What fields and properties are listed as, one after another.
 use Rattle.std.proofs.Common.{Bor, ◌≡◌, ℕ, zero, suc, ◌+◌, ◌-◌, ◌<◌, ◌≤◌, Bool, true, false, List, [], ◌∷◌, ◌++◌, length, get_or, drop, map, sym, ap, subst, ◌∙◌, arith}
+use Rattle.std.proofs.lemmas.Bool.Decides.{nat_tests}
 use Rattle.amqp_types.specs.Judging.{Judged, Judge, took, past, fault, ◌>>=◌}
 use Rattle.amqp_types.specs.Flags.{bit_of, flag_at, flags_from}
 use Rattle.amqp_types.specs.Numbers.{bytes2, judge_number}
@@ -84,6 +85,9 @@ slots_listed deep end place next (shape ∷ shapes) other i rest old mid new cou
     first (listed_slot deep end place (slot_of shape) i) (listed_slots deep end (next_place place (kept_count (slot_of shape))) (slots_of shapes)) i rest old mid new count total step one behind (subst P e h)
 
 -- ---- properties
+
+pub next_is : (place n : ℕ) → 0 < n → place + n < 256 → place + 1 ≡ next_place place 1
+next_is place n some few = grind (arith, nat_tests)
 
 pub no_options : (mask : ℕ) (deep : Bool) (end place : ℕ) (shapes : List (ℕ × Form)) (i : List ℕ) (old : List Node) (count : ℕ) → length shapes < 1 → Counts (listed_set mask deep end place (map property_of shapes) i) old count old count
 unfolding listed_set

@@ -143,6 +143,10 @@ entry_listed value end at label i key rest used more old new count is behind pla
         let Q : Node → Type 0 = λ m. Lists (value end m (drop n i)) old count new (record { used = used; count = more }) in
         entry_by (value end (keyed (end_before end (drop n i)) k) (drop n i)) n used (length key) more old new count (one.used_is ∙ ap (λ (xs : List ℕ). 1 + length xs) (sym same)) (subst Q marked (subst P after h))
 
+pub entry_unlisted : (value : Lister) (end : ℕ) (i : List ℕ) (old new : List Node) (count : ℕ) (step : Step) → (IsRead (judge_short_string i) → ⊥) → Lists (listed_entry value end i) old count new step
+unfolding listed_entry
+entry_unlisted value end i old new count step h = not_listed (judge_short_string i) _ old new count step h
+
 -- ---- things that fill some bytes, one after another
 
 -- the rest has groups of nodes that, after those that were put so far, complete the whole

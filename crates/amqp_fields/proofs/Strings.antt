@@ -1,5 +1,5 @@
 -- What strings are listed as: by what stands at the front of the bytes.
-use Rattle.std.proofs.Common.{◌≡◌, ℕ, ◌+◌, ◌-◌, ◌≤◌, List, [], ◌∷◌, length, take, drop, refl, sym, ap, subst, ◌∙◌, one-add, arith}
+use Rattle.std.proofs.Common.{◌≡◌, ℕ, ◌+◌, ◌-◌, ◌≤◌, ◌<◌, Bool, true, false, cond, List, [], ◌∷◌, length, get_or, take, drop, refl, sym, ap, subst, ◌∙◌, one-add, arith}
 use Rattle.std.specs.Prelude.{nat_lt}
 use Rattle.std.specs.Str.{is_utf8}
 use Rattle.std.proofs.lemmas.Bool.Decides.{nat_tests}
@@ -39,6 +39,24 @@ pub is_key : (i key : List ℕ) (used : ℕ) → judge_short_string i ≡ took k
 unfolding judge_short_string
 is_key [] key used h = absurd cc
 is_key (n ∷ bytes) key used h = key_took n bytes key used h
+
+-- ---- where there is no short string, by its length
+
+guarded : {A : Type 0} (short : Bool) (j : Judged A) → short ≡ true → IsRead (cond short past j) → ⊥
+guarded true j h read = read
+guarded false j h read = absurd cc
+
+pub no_length : (i : List ℕ) → length i < 1 → IsRead (judge_short_string i) → ⊥
+unfolding judge_short_string
+no_length [] few read = read
+no_length (n ∷ bytes) few read = absurd (omega arith)
+
+pub too_short : (i : List ℕ) → 1 ≤ length i → length (drop 1 i) < get_or i 0 0 → IsRead (judge_short_string i) → ⊥
+unfolding judge_short_string
+too_short [] some far read = read
+too_short (n ∷ bytes) some far read = guarded (nat_lt (length bytes) n) _ (grind (arith, nat_tests)) read
+
+-- ---- what is listed
 
 pub short_listed : (end : ℕ) (label node : Node) (i text rest : List ℕ) (at count more : ℕ) (old new : List Node) → text ≡ key_in i → rest ≡ after_key i → at ≡ end - length rest → node ≡ spanned label at text
     → Grows (listing old count) (listing new more) (node ∷ []) → Lists (listed_span judge_short_string end label i) old count new (record { used = 1 + length text; count = more })

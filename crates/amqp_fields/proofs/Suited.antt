@@ -1,13 +1,11 @@
 -- What is meant is made, unless a length is too great: parts, and values.
 use Rattle.std.proofs.Common.{◌≡◌, ℕ, zero, suc, ◌+◌, ◌-◌, ◌<◌, ◌^◌, ◌%◌, inl, inr, ℤ, Bool, true, false, List, [], ◌∷◌, ◌++◌, length, take, drop, Some, None, Result, Ok, Err, refl, sym, ap, subst, ◌∙◌, arith, nat_lt, nat_le, if◌then◌else◌}
 use Rattle.std.proofs.lemmas.Bool.Decides.{nat_tests}
-use Rattle.std.proofs.lemmas.Bool.{cases_lt}
-use Rattle.std.proofs.lemmas.Int.{of_z-to_z, to_z_pos}
+use Rattle.std.proofs.lemmas.Int.{of_z-to_z}
 use Rattle.std.proofs.lemmas.Str.{is_utf8-from_IsUtf8}
-use Rattle.std.proofs.Math.Facts.{to_z-neg}
-use Rattle.std.specs.Int.{w8, w16, w32, w64, cast_signed, cast_unsigned}
+use Rattle.std.specs.Int.{w64, cast_signed, cast_unsigned}
 use Rattle.std.specs.Str.{IsUtf8, is_utf8}
-use Rattle.amqp_types.specs.Levels.{plain}
+use Rattle.amqp_types.specs.Levels.{Level}
 use Rattle.amqp_types.specs.Judging.{Fault, IsBytes}
 use Rattle.amqp_types.specs.Numbers.{NumberWidth, bytes1, bytes2, bytes4, bytes8, number_bytes, number_limit, width_of, SpellsNumber}
 use Rattle.amqp_types.specs.Signed.{SpellsSigned}
@@ -27,12 +25,17 @@ use Rattle.amqp_laws.proofs.Tags.{tag_read}
 use Rattle.amqp_fields.specs.declared.node.Node.{Node}
 use Rattle.amqp_fields.specs.declared.refusals.Refusal.{Refusal}
 use Rattle.amqp_fields.specs.declared.refusals.WriteRefusal.TheVariants as whys
+use Rattle.amqp_fields.specs.Canonical.{IsTableKind}
 use Rattle.amqp_fields.specs.Nodes.{StandsFirst}
 use Rattle.amqp_fields.specs.Made.{Made, Maker, Nested, after, closed, faulty, is_signed, made_alone, made_array, made_behind, made_each, made_entry, made_given, made_if, made_items, made_leaf, made_long, made_nested, made_number, made_signed, made_span, made_table, made_text, made_truth, made_value, nested_array, nested_table, own_index, refuse, span_in}
 use Rattle.amqp_fields.specs.Making.{IsLength, Suits}
 use Rattle.amqp_fields.specs.Meaning.{AreNodes, IsSpan}
 use Rattle.amqp_fields.specs.Meant.{Holds, HoldsTable, IsSigned, Tells, TellsAt, TellsEntry, TellsValue}
+use Rattle.amqp_fields.proofs.AtLevel.{tag_at_level, truth_at}
 use Rattle.amqp_fields.proofs.EachMade.{each_next, each_none}
+use Rattle.amqp_fields.proofs.GivenContent.{array_at, table_at}
+use Rattle.amqp_fields.proofs.Ordered.{InOrder, Ordered, With, each_with, entries_once, order_inside}
+use Rattle.amqp_fields.proofs.SignedNumbers.{signed_bits}
 use Rattle.amqp_fields.proofs.ValuesMade.{value_parts}
 use Rattle.amqp_fields.proofs.ValuesTold.{array_encoded, span_fits, table_encoded}
 
@@ -117,61 +120,25 @@ each_fits make Means Spells one end (x ∷ xs) nodes h =
     as_fits (made_each make end 0 nodes) (after (make (end - length h.others) h.node h.inside) (made_each make end 0 h.others)) (each_next make end first)
     (after_fits (make (end - length h.others) h.node h.inside) (made_each make end 0 h.others) (λ a b p q. (a, b, refl, p, q)) (one (end - length h.others) h.node h.inside x h.means) (each_fits make Means Spells one end xs h.others h.rest))
 
--- ---- numbers
-
-octet_bits : (bits number : ℕ) → bits < 2 ^ 8 → number ≡ cast_unsigned w64 (cast_signed w8 bits) → (is_signed bytes1 number ≡ true) × (number % 2 ^ 8 ≡ bits)
-octet_bits bits number few is = elim (cases_lt bits (2 ^ 7)) [
-  | inl low ↦ (let same : number ≡ bits = is ∙ ap (cast_unsigned w64) (to_z_pos w8 bits low) in (grind (arith, nat_tests, same, low), omega (arith, same, few)))
-  | inr high ↦ (
-      let k = 2 ^ 8 - 1 - bits in
-      let below : k < 2 ^ 7 = omega (arith, high, few) in
-      let back : bits ≡ 2 ^ 8 - suc k = omega (arith, few) in
-      let same : number ≡ 2 ^ 64 - suc k = is ∙ ap (λ m. cast_unsigned w64 (cast_signed w8 m)) back ∙ ap (cast_unsigned w64) (to_z-neg w8 k below) in
-      (grind (arith, nat_tests, same, high, few), omega (arith, same, few)))
-]
-
-short_bits : (bits number : ℕ) → bits < 2 ^ 16 → number ≡ cast_unsigned w64 (cast_signed w16 bits) → (is_signed bytes2 number ≡ true) × (number % 2 ^ 16 ≡ bits)
-short_bits bits number few is = elim (cases_lt bits (2 ^ 15)) [
-  | inl low ↦ (let same : number ≡ bits = is ∙ ap (cast_unsigned w64) (to_z_pos w16 bits low) in (grind (arith, nat_tests, same, low), omega (arith, same, few)))
-  | inr high ↦ (
-      let k = 2 ^ 16 - 1 - bits in
-      let below : k < 2 ^ 15 = omega (arith, high, few) in
-      let back : bits ≡ 2 ^ 16 - suc k = omega (arith, few) in
-      let same : number ≡ 2 ^ 64 - suc k = is ∙ ap (λ m. cast_unsigned w64 (cast_signed w16 m)) back ∙ ap (cast_unsigned w64) (to_z-neg w16 k below) in
-      (grind (arith, nat_tests, same, high, few), omega (arith, same, few)))
-]
-
-long_bits : (bits number : ℕ) → bits < 2 ^ 32 → number ≡ cast_unsigned w64 (cast_signed w32 bits) → (is_signed bytes4 number ≡ true) × (number % 2 ^ 32 ≡ bits)
-long_bits bits number few is = elim (cases_lt bits (2 ^ 31)) [
-  | inl low ↦ (let same : number ≡ bits = is ∙ ap (cast_unsigned w64) (to_z_pos w32 bits low) in (grind (arith, nat_tests, same, low), omega (arith, same, few)))
-  | inr high ↦ (
-      let k = 2 ^ 32 - 1 - bits in
-      let below : k < 2 ^ 31 = omega (arith, high, few) in
-      let back : bits ≡ 2 ^ 32 - suc k = omega (arith, few) in
-      let same : number ≡ 2 ^ 64 - suc k = is ∙ ap (λ m. cast_unsigned w64 (cast_signed w32 m)) back ∙ ap (cast_unsigned w64) (to_z-neg w32 k below) in
-      (grind (arith, nat_tests, same, high, few), omega (arith, same, few)))
-]
-
 -- ---- after a tag
 
-module _ (pool : List ℕ) (nested : Nested) (depth : ℕ) (Array : Node → List Node → List FieldValue → Type 0) (Table : Node → List Node → List Entry → Type 0) (Spells : List ℕ → FieldValue → Type 0)
-    (array_fits : (end : ℕ) (node : Node) (inside : List Node) (vs : List FieldValue) → Array node inside vs → Fits (nested_array pool nested end node inside) (λ bytes. (0 < depth) × SpellsArray Spells bytes vs))
-    (table_fits : (end : ℕ) (node : Node) (inside : List Node) (es : List Entry) → Table node inside es → Fits (nested_table pool nested end node inside) (λ bytes. (0 < depth) × SpellsTable plain Spells bytes es))
-    (end : ℕ) (node : Node) (inside : List Node)
+module _ (level : Level) (pool : List ℕ) (nested : Nested) (depth : ℕ) (Array : List FieldValue → Type 0) (Table : List Entry → Type 0) (Spells : List ℕ → FieldValue → Type 0) (end : ℕ) (node : Node) (inside : List Node)
+    (array_fits : (vs : List FieldValue) → node.kind ≡ tag_byte tag.FieldArray → Array vs → Fits (nested_array pool nested end node inside) (λ bytes. (0 < depth) × SpellsArray Spells bytes vs))
+    (table_fits : (es : List Entry) → node.kind ≡ tag_byte tag.FieldTable → Table es → Fits (nested_table pool nested end node inside) (λ bytes. (0 < depth) × SpellsTable level Spells bytes es))
   where
     abbrev Behind : FieldTag → FieldValue → Type 0
-    Behind t v = Fits (made_behind pool nested t end node inside) (λ bytes. SpellsBehind plain depth Spells bytes v)
+    Behind t v = Fits (made_behind pool nested t end node inside) (λ bytes. SpellsBehind level depth Spells bytes v)
 
     truth_fits : (b : Bool) → node.number ≡ bit_of b → inside ≡ [] → Behind tag.Boolean (boolean_value b)
     unfolding made_behind made_leaf
     truth_fits true is none =
         let low : node.number % 2 ^ 8 ≡ 1 = omega (arith, is) in
         alone_fits (made_truth (own_index end inside) node.number) (own_index end inside) inside none
-        (if_fits (nat_lt node.number 2) (own_index end inside) (number_bytes bytes1 (node.number % 2 ^ 8)) (grind (arith, nat_tests, is)) (1, λ e. absurd (omega (arith, e)), ap (number_bytes bytes1) low))
+        (if_fits (nat_lt node.number 2) (own_index end inside) (number_bytes bytes1 (node.number % 2 ^ 8)) (grind (arith, nat_tests, is)) (truth_at level true (number_bytes bytes1 (node.number % 2 ^ 8)) (ap (number_bytes bytes1) low)))
     truth_fits false is none =
         let low : node.number % 2 ^ 8 ≡ 0 = omega (arith, is) in
         alone_fits (made_truth (own_index end inside) node.number) (own_index end inside) inside none
-        (if_fits (nat_lt node.number 2) (own_index end inside) (number_bytes bytes1 (node.number % 2 ^ 8)) (grind (arith, nat_tests, is)) (ap (number_bytes bytes1) low))
+        (if_fits (nat_lt node.number 2) (own_index end inside) (number_bytes bytes1 (node.number % 2 ^ 8)) (grind (arith, nat_tests, is)) (truth_at level false (number_bytes bytes1 (node.number % 2 ^ 8)) (ap (number_bytes bytes1) low)))
 
     -- of the three that are shorter than 8 bytes
     signed_made : (width : NumberWidth) (n : ℤ) (bits : ℕ) → bits < number_limit width → n ≡ cast_signed (width_of width) bits → inside ≡ [] → (is_signed width node.number ≡ true) × (node.number % number_limit width ≡ bits)
@@ -185,9 +152,9 @@ module _ (pool : List ℕ) (nested : Nested) (depth : ℕ) (Array : Node → Lis
 
     signed_fits : (kind : SignedKind) (n : ℤ) → IsSigned (signed_width kind) node.number n → inside ≡ [] → Behind (tag_of (signed_value kind n)) (signed_value kind n)
     unfolding made_behind made_leaf
-    signed_fits short_short_int n h none = signed_made bytes1 n h.bits h.fits h.means none (octet_bits h.bits node.number h.fits (as_bits bytes1 n h))
-    signed_fits short_int n h none = signed_made bytes2 n h.bits h.fits h.means none (short_bits h.bits node.number h.fits (as_bits bytes2 n h))
-    signed_fits long_int n h none = signed_made bytes4 n h.bits h.fits h.means none (long_bits h.bits node.number h.fits (as_bits bytes4 n h))
+    signed_fits short_short_int n h none = signed_made bytes1 n h.bits h.fits h.means none (signed_bits bytes1 h.bits node.number h.fits (as_bits bytes1 n h))
+    signed_fits short_int n h none = signed_made bytes2 n h.bits h.fits h.means none (signed_bits bytes2 h.bits node.number h.fits (as_bits bytes2 n h))
+    signed_fits long_int n h none = signed_made bytes4 n h.bits h.fits h.means none (signed_bits bytes4 h.bits node.number h.fits (as_bits bytes4 n h))
     signed_fits long_long_int n h none =
         let same : node.number ≡ h.bits = as_bits bytes8 n h ∙ of_z-to_z w64 h.bits h.fits in
         alone_fits (made_number bytes8 (own_index end inside) node.number) (own_index end inside) inside none
@@ -215,86 +182,101 @@ module _ (pool : List ℕ) (nested : Nested) (depth : ℕ) (Array : Node → Lis
     bytes_fits long_string content span none = bytes_made content span none
     bytes_fits byte_array content span none = bytes_made content span none
 
-    behind_fits : (v : FieldValue) → Tells (Array node inside) (Table node inside) pool node inside v → Behind (tag_of v) v
+    behind_fits : (v : FieldValue) → node.kind ≡ tag_byte (tag_of v) → Tells Array Table pool node inside v → Behind (tag_of v) v
     unfolding made_behind made_leaf Tells
-    behind_fits (boolean_value b) h = truth_fits b h.0 h.1
-    behind_fits (signed_value kind n) h = signed_fits kind n h.0 h.1
-    behind_fits (unsigned_value kind n) h = unsigned_fits kind n h.0 h.1 h.2
-    behind_fits (decimal_value scale n) h =
+    behind_fits (boolean_value b) is h = truth_fits b h.0 h.1
+    behind_fits (signed_value kind n) is h = signed_fits kind n h.0 h.1
+    behind_fits (unsigned_value kind n) is h = unsigned_fits kind n h.0 h.1 h.2
+    behind_fits (decimal_value scale n) is h =
         let index = own_index end inside in
         alone_fits (after (made_number bytes1 index node.scale) (made_number bytes4 index node.number)) index inside h.4
         (after_fits (made_number bytes1 index node.scale) (made_number bytes4 index node.number)
         (λ a b p q. record { front = a; behind = b; one = scale; two = n; bytes_are = refl; first_is = p; second_is = q; joined = refl })
         (number_fits bytes1 index node.scale scale h.2 h.0) (number_fits bytes4 index node.number n h.3 h.1))
-    behind_fits (bytes_value kind content) h = bytes_fits kind content h.0 h.1
-    behind_fits (array_value vs) h = array_fits end node inside (items vs) h
-    behind_fits (table_value es) h = table_fits end node inside (pairs es) h
-    behind_fits void_value h = alone_fits (Ok []) (own_index end inside) inside h (ok_fits [] refl)
+    behind_fits (bytes_value kind content) is h = bytes_fits kind content h.0 h.1
+    behind_fits (array_value vs) is h = array_fits (items vs) is h
+    behind_fits (table_value es) is h = table_fits (pairs es) is h
+    behind_fits void_value is h = alone_fits (Ok []) (own_index end inside) inside h (ok_fits [] refl)
 
 -- a tag and its value
-value_by : (pool : List ℕ) (depth_left end : ℕ) (node : Node) (inside : List Node) (v : FieldValue) (Spelled : List ℕ → FieldValue → Type 0) → node.kind ≡ tag_byte (tag_of v) → Fits (made_behind pool (made_nested pool depth_left) (tag_of v) end node inside) (λ bytes. Spelled bytes v)
-    → Fits (made_value pool depth_left end node inside) (λ bytes. SpellsTagged plain Spelled bytes v)
-value_by pool depth_left end node inside v Spelled kind h =
+value_by : (level : Level) (pool : List ℕ) (depth_left end : ℕ) (node : Node) (inside : List Node) (v : FieldValue) (Spelled : List ℕ → FieldValue → Type 0) → node.kind ≡ tag_byte (tag_of v) → Fits (made_behind pool (made_nested pool depth_left) (tag_of v) end node inside) (λ bytes. Spelled bytes v)
+    → Fits (made_value pool depth_left end node inside) (λ bytes. SpellsTagged level Spelled bytes v)
+value_by level pool depth_left end node inside v Spelled kind h =
     let read : tag_at node.kind ≡ Some (tag_of v) = tag_read node.kind (tag_of v) (inl kind) in
     as_fits (made_value pool depth_left end node inside) (after (Ok (node.kind ∷ [])) (made_behind pool (made_nested pool depth_left) (tag_of v) end node inside)) (value_parts pool depth_left end node inside (tag_of v) read (sym kind))
     (after_fits (Ok (node.kind ∷ [])) (made_behind pool (made_nested pool depth_left) (tag_of v) end node inside) {P = λ bytes. bytes ≡ node.kind ∷ []} {Q = λ bytes. Spelled bytes v}
-    (λ a b p q. record { byte = node.kind; behind = b; bytes_are = ap (λ bs. bs ++ b) p; tag_is = inl kind; value_is = q }) (ok_fits (node.kind ∷ []) refl) h)
+    (λ a b p q. record { byte = node.kind; behind = b; bytes_are = ap (λ bs. bs ++ b) p; tag_is = tag_at_level level node.kind (tag_of v) kind; value_is = q }) (ok_fits (node.kind ∷ []) refl) h)
 
 -- ---- tables and arrays
 
-module _ (pool : List ℕ) (fits : IsBytes pool) (depth_left : ℕ) (value : Maker)
-    (one : (end : ℕ) (node : Node) (inside : List Node) (v : FieldValue) → TellsValue depth_left pool node inside v → Fits (value end node inside) (λ bytes. SpellsValue plain depth_left bytes v))
+module _ (level : Level) (pool : List ℕ) (fits : IsBytes pool) (depth_left : ℕ) (value : Maker)
+    (one : (end : ℕ) (node : Node) (inside : List Node) (v : FieldValue) → TellsValue depth_left pool node inside v → Ordered level pool node inside → Fits (value end node inside) (λ bytes. SpellsValue level depth_left bytes v))
   where
-    pub entry_fits : (end : ℕ) (node : Node) (inside : List Node) (e : Entry) → TellsEntry (TellsValue depth_left pool) pool node inside e → Fits (made_entry pool value end node inside) (λ bytes. SpellsEntry (SpellsValue plain depth_left) bytes e)
+    pub entry_fits : (end : ℕ) (node : Node) (inside : List Node) (e : Entry) → TellsEntry (TellsValue depth_left pool) pool node inside e → Ordered level pool node inside → Fits (made_entry pool value end node inside) (λ bytes. SpellsEntry (SpellsValue level depth_left) bytes e)
     unfolding made_entry
-    entry_fits end node inside e h =
+    entry_fits end node inside e h order =
         let index = own_index end inside in
         after_fits (made_span (made_text index) index (span_in pool node.key_start node.key_length)) (value end node inside)
         (λ a b p q. record { front = a; behind = b; one = e.0; two = e.1; bytes_are = refl; first_is = p; second_is = q; joined = refl })
-        (span_fits_in (made_text index) index pool e.0 node.key_start node.key_length h.key (text_fits index e.0 h.short h.utf8)) (one end node inside e.1 h.value)
+        (span_fits_in (made_text index) index pool e.0 node.key_start node.key_length h.key (text_fits index e.0 h.short h.utf8)) (one end node inside e.1 h.value order)
 
-    pub array_fits_at : (end : ℕ) (node : Node) (inside : List Node) (vs : List FieldValue) → Holds (judge_value depth_left) (λ values nodes. AreNodes (TellsValue depth_left pool) values nodes) pool node inside vs → Fits (made_array pool depth_left value end node inside) (λ bytes. SpellsArray (SpellsValue plain depth_left) bytes vs)
+    pub values_fit : (end : ℕ) (vs : List FieldValue) (nodes : List Node) → InOrder level pool nodes → AreNodes (TellsValue depth_left pool) vs nodes → Fits (made_each value end 0 nodes) (λ bytes. SpellsEach (SpellsValue level depth_left) bytes vs)
+    values_fit end vs nodes order h =
+        each_fits value (With level pool (TellsValue depth_left pool)) (SpellsValue level depth_left) (λ end node inside v p. one end node inside v p.0 p.1) end vs nodes (each_with level pool (TellsValue depth_left pool) vs nodes order h)
+
+    pub entries_fit : (end : ℕ) (es : List Entry) (nodes : List Node) → InOrder level pool nodes → AreNodes (TellsEntry (TellsValue depth_left pool) pool) es nodes → Fits (made_each (made_entry pool value) end 0 nodes) (λ bytes. SpellsEach (SpellsEntry (SpellsValue level depth_left)) bytes es)
+    entries_fit end es nodes order h =
+        each_fits (made_entry pool value) (With level pool (TellsEntry (TellsValue depth_left pool) pool)) (SpellsEntry (SpellsValue level depth_left)) (λ end node inside e p. entry_fits end node inside e p.0 p.1) end es nodes
+        (each_with level pool (TellsEntry (TellsValue depth_left pool) pool) es nodes order h)
+
+    pub array_fits_at : (end : ℕ) (node : Node) (inside : List Node) (vs : List FieldValue) → node.kind ≡ tag_byte tag.FieldArray → Ordered level pool node inside → Holds (judge_value depth_left) (λ values nodes. AreNodes (TellsValue depth_left pool) values nodes) pool node inside vs
+        → Fits (made_array pool depth_left value end node inside) (λ bytes. SpellsArray (SpellsValue level depth_left) bytes vs)
     unfolding made_items
-    array_fits_at end node [] vs h =
+    array_fits_at end node [] vs kind order h =
         let index = own_index end [] in
         let content_fits = span_fits pool h.content node.start node.length fits h.span in
         span_fits_in (λ content. made_given index content (filled (judge_value depth_left) 0 content)) index pool h.content node.start node.length h.span
-        (fits_into (made_given index h.content (filled (judge_value depth_left) 0 h.content)) (λ bytes long. array_encoded h.content bytes content_fits long depth_left vs h.fills) (given_fits index h.content (filled (judge_value depth_left) 0 h.content) vs h.fills))
-    array_fits_at end node (first ∷ others) vs h =
+        (fits_into (made_given index h.content (filled (judge_value depth_left) 0 h.content))
+        (λ bytes long. array_at depth_left h.content bytes long pool node h.span level vs order kind (array_encoded h.content bytes content_fits long depth_left vs h.fills)) (given_fits index h.content (filled (judge_value depth_left) 0 h.content) vs h.fills))
+    array_fits_at end node (first ∷ others) vs kind order h =
         closed_fits (own_index end (first ∷ others)) (made_each value end 0 (first ∷ others)) (λ content bytes each long. record { inner = content; framed = long; each = each })
-        (each_fits value (TellsValue depth_left pool) (SpellsValue plain depth_left) one end vs (first ∷ others) h)
+        (values_fit end vs (first ∷ others) (order_inside level pool node (first ∷ others) order.order) h)
 
-    table_by : (bytes : List ℕ) (table entries : List Entry) → table ≡ settled entries → SpellsTable plain (SpellsValue plain depth_left) bytes (settled entries) → SpellsTable plain (SpellsValue plain depth_left) bytes table
-    table_by bytes table entries is h = subst (λ es. SpellsTable plain (SpellsValue plain depth_left) bytes es) (sym is) h
+    table_by : (bytes : List ℕ) (table entries : List Entry) → table ≡ settled entries → SpellsTable level (SpellsValue level depth_left) bytes (settled entries) → SpellsTable level (SpellsValue level depth_left) bytes table
+    table_by bytes table entries is h = subst (λ es. SpellsTable level (SpellsValue level depth_left) bytes es) (sym is) h
 
-    holds_table : (end : ℕ) (node : Node) (inside : List Node) (entries : List Entry) → Holds (judge_entry (judge_value depth_left)) (λ entries nodes. AreNodes (TellsEntry (TellsValue depth_left pool) pool) entries nodes) pool node inside entries
-        → Fits (made_table pool depth_left value end node inside) (λ bytes. SpellsTable plain (SpellsValue plain depth_left) bytes (settled entries))
+    holds_table : (end : ℕ) (node : Node) (inside : List Node) (entries : List Entry) → IsTableKind node.kind → Ordered level pool node inside → Holds (judge_entry (judge_value depth_left)) (λ entries nodes. AreNodes (TellsEntry (TellsValue depth_left pool) pool) entries nodes) pool node inside entries
+        → Fits (made_table pool depth_left value end node inside) (λ bytes. SpellsTable level (SpellsValue level depth_left) bytes (settled entries))
     unfolding made_items
-    holds_table end node [] entries h =
+    holds_table end node [] entries kind order h =
         let index = own_index end [] in
         let content_fits = span_fits pool h.content node.start node.length fits h.span in
         span_fits_in (λ content. made_given index content (filled (judge_entry (judge_value depth_left)) 0 content)) index pool h.content node.start node.length h.span
-        (fits_into (made_given index h.content (filled (judge_entry (judge_value depth_left)) 0 h.content)) (λ bytes long. table_encoded h.content bytes content_fits long depth_left entries h.fills) (given_fits index h.content (filled (judge_entry (judge_value depth_left)) 0 h.content) entries h.fills))
-    holds_table end node (first ∷ others) entries h =
-        closed_fits (own_index end (first ∷ others)) (made_each (made_entry pool value) end 0 (first ∷ others)) (λ content bytes each long. record { inner = content; entries = entries; framed = long; each = each; counts = settles entries; once = tt })
-        (each_fits (made_entry pool value) (TellsEntry (TellsValue depth_left pool) pool) (SpellsEntry (SpellsValue plain depth_left)) entry_fits end entries (first ∷ others) h)
+        (fits_into (made_given index h.content (filled (judge_entry (judge_value depth_left)) 0 h.content))
+        (λ bytes long. table_at depth_left h.content bytes long pool node h.span level (settled entries) order kind (table_encoded h.content bytes content_fits long depth_left entries h.fills)) (given_fits index h.content (filled (judge_entry (judge_value depth_left)) 0 h.content) entries h.fills))
+    holds_table end node (first ∷ others) entries kind order h =
+        closed_fits (own_index end (first ∷ others)) (made_each (made_entry pool value) end 0 (first ∷ others))
+        (λ content bytes each long. record { inner = content; entries = entries; framed = long; each = each; counts = settles entries; once = entries_once pool (TellsValue depth_left pool) level node (first ∷ others) entries order kind h })
+        (entries_fit end entries (first ∷ others) (order_inside level pool node (first ∷ others) order.order) h)
 
-    pub table_fits_at : (end : ℕ) (node : Node) (inside : List Node) (table : List Entry) → HoldsTable (Holds (judge_entry (judge_value depth_left)) (λ entries nodes. AreNodes (TellsEntry (TellsValue depth_left pool) pool) entries nodes) pool node inside) table
-        → Fits (made_table pool depth_left value end node inside) (λ bytes. SpellsTable plain (SpellsValue plain depth_left) bytes table)
-    table_fits_at end node inside table h = fits_into (made_table pool depth_left value end node inside) (λ bytes spelled. table_by bytes table h.entries h.settles spelled) (holds_table end node inside h.entries h.holds)
+    pub table_fits_at : (end : ℕ) (node : Node) (inside : List Node) (table : List Entry) → IsTableKind node.kind → Ordered level pool node inside
+        → HoldsTable (Holds (judge_entry (judge_value depth_left)) (λ entries nodes. AreNodes (TellsEntry (TellsValue depth_left pool) pool) entries nodes) pool node inside) table
+        → Fits (made_table pool depth_left value end node inside) (λ bytes. SpellsTable level (SpellsValue level depth_left) bytes table)
+    table_fits_at end node inside table kind order h =
+        fits_into (made_table pool depth_left value end node inside) (λ bytes spelled. table_by bytes table h.entries h.settles spelled) (holds_table end node inside h.entries kind order h.holds)
 
 -- ---- values
 
-module _ (pool : List ℕ) (fits : IsBytes pool) where
-  pub value_fits : (depth_left end : ℕ) (node : Node) (inside : List Node) (v : FieldValue) → TellsValue depth_left pool node inside v → Fits (made_value pool depth_left end node inside) (λ bytes. SpellsValue plain depth_left bytes v)
+module _ (level : Level) (pool : List ℕ) (fits : IsBytes pool) where
+  pub value_fits : (depth_left end : ℕ) (node : Node) (inside : List Node) (v : FieldValue) → TellsValue depth_left pool node inside v → Ordered level pool node inside → Fits (made_value pool depth_left end node inside) (λ bytes. SpellsValue level depth_left bytes v)
   unfolding TellsAt SpellsValue made_nested made_value
-  value_fits zero end node inside v h =
-      value_by pool 0 end node inside v (SpellsBehind plain 0 (λ _ _. ⊥)) h.0
-      (behind_fits pool None 0 (λ node inside values. ⊥) (λ node inside table. ⊥) (λ _ _. ⊥) (λ end node inside vs no. absurd no) (λ end node inside es no. absurd no) end node inside v h.1)
-  value_fits (suc depth_left) end node inside v h =
-      value_by pool (suc depth_left) end node inside v (SpellsBehind plain (suc depth_left) (SpellsValue plain depth_left)) h.0
-      (behind_fits pool (Some (depth_left, made_value pool depth_left)) (suc depth_left) (Holds (judge_value depth_left) (λ values nodes. AreNodes (TellsValue depth_left pool) values nodes) pool)
-      (λ node inside table. HoldsTable (Holds (judge_entry (judge_value depth_left)) (λ entries nodes. AreNodes (TellsEntry (TellsValue depth_left pool) pool) entries nodes) pool node inside) table) (SpellsValue plain depth_left)
-      (λ end node inside vs a. fits_into (made_array pool depth_left (made_value pool depth_left) end node inside) (λ bytes spelled. (omega arith, spelled)) (array_fits_at pool fits depth_left (made_value pool depth_left) (value_fits depth_left) end node inside vs a))
-      (λ end node inside es a. fits_into (made_table pool depth_left (made_value pool depth_left) end node inside) (λ bytes spelled. (omega arith, spelled)) (table_fits_at pool fits depth_left (made_value pool depth_left) (value_fits depth_left) end node inside es a))
-      end node inside v h.1)
+  value_fits zero end node inside v h order =
+      value_by level pool 0 end node inside v (SpellsBehind level 0 (λ _ _. ⊥)) h.0
+      (behind_fits level pool None 0 (λ values. ⊥) (λ table. ⊥) (λ _ _. ⊥) end node inside (λ vs kind no. absurd no) (λ es kind no. absurd no) v h.0 h.1)
+  value_fits (suc depth_left) end node inside v h order =
+      value_by level pool (suc depth_left) end node inside v (SpellsBehind level (suc depth_left) (SpellsValue level depth_left)) h.0
+      (behind_fits level pool (Some (depth_left, made_value pool depth_left)) (suc depth_left) (Holds (judge_value depth_left) (λ values nodes. AreNodes (TellsValue depth_left pool) values nodes) pool node inside)
+      (HoldsTable (Holds (judge_entry (judge_value depth_left)) (λ entries nodes. AreNodes (TellsEntry (TellsValue depth_left pool) pool) entries nodes) pool node inside)) (SpellsValue level depth_left) end node inside
+      (λ vs kind a. fits_into (made_array pool depth_left (made_value pool depth_left) end node inside) (λ bytes spelled. (omega arith, spelled)) (array_fits_at level pool fits depth_left (made_value pool depth_left) (value_fits depth_left) end node inside vs kind order a))
+      (λ es kind a. fits_into (made_table pool depth_left (made_value pool depth_left) end node inside) (λ bytes spelled. (omega arith, spelled)) (table_fits_at level pool fits depth_left (made_value pool depth_left) (value_fits depth_left) end node inside es (inr kind) order a))
+      v h.0 h.1)

@@ -2,7 +2,7 @@
 use Rattle.std.proofs.Common.{◌≡◌, ℕ, suc, ◌+◌, ◌<◌, ◌≤◌, ◌^◌, ◌%◌, ◌==◌, ◌&&◌, Bool, true, false, List, [], ◌∷◌, ◌++◌, length, map, take, drop, Option, Some, None, unwrap_or, Result, Ok, Err, refl, sym, ap, ap₂, subst, ◌∙◌, append_assoc, arith, nat_lt, nat_le, if◌then◌else◌}
 use Rattle.std.specs.Prelude.{is_some}
 use Rattle.std.proofs.lemmas.Bool.Decides.{nat_tests}
-use Rattle.amqp_types.specs.Levels.{plain}
+use Rattle.amqp_types.specs.Levels.{Level}
 use Rattle.amqp_types.specs.Judging.{IsBytes}
 use Rattle.amqp_types.specs.Numbers.{bytes1, bytes2, number_bytes}
 use Rattle.amqp_types.specs.Flags.{flag_at}
@@ -32,11 +32,13 @@ use Rattle.amqp_fields.specs.MadeFrames.{at_head, has_no_ids, header_front, is_h
 use Rattle.amqp_fields.specs.Making.{RefusesLength, Suits}
 use Rattle.amqp_fields.specs.Meaning.{AreNodes, IsSpan, fields_from, fields_of, kinds_in, set_fields}
 use Rattle.amqp_fields.specs.Meant.{HasNoIds, IsMethod, TellFrames, TellsField, TellsFields, TellsFrame, TellsTyped}
+use Rattle.amqp_fields.proofs.AtLevel.{beat_at, from_tidy}
 use Rattle.amqp_fields.proofs.FramesTold.{front_spelled}
+use Rattle.amqp_fields.proofs.Ordered.{InOrder, each_with, order_taken}
 use Rattle.amqp_fields.proofs.PayloadsFound.{few_fields, few_spare, fourteen}
 use Rattle.amqp_fields.proofs.Spans.{byte_below}
 use Rattle.amqp_fields.proofs.Suited.{Fits, after_fits, as_fits, fits_into, ok_fits, span_fits_in}
-use Rattle.amqp_fields.proofs.SuitedFields.{IsOne, field_fits, slots_fit}
+use Rattle.amqp_fields.proofs.SuitedFields.{IsOne, Means, field_fits, slots_fit}
 
 -- ---- properties
 
@@ -48,19 +50,19 @@ pub all_one : AreOne properties
 unfolding properties later_properties
 all_one = (tt, (tt, (tt, (tt, (tt, (tt, (tt, (tt, (tt, (tt, (tt, (tt, (tt, (tt, tt))))))))))))))
 
-module _ (pool : List ℕ) (fits : IsBytes pool) where
+module _ (level : Level) (pool : List ℕ) (fits : IsBytes pool) where
   -- the nodes of properties from a place on are not at a place before it
-  later_place : (before place : ℕ) (ps : List Property) (options : List (Option Item)) (nodes : List Node) → before < place → AreNodes (TellsField pool) (set_fields place ps options) nodes → is_next before nodes ≡ false
+  later_place : (before place : ℕ) (ps : List Property) (options : List (Option Item)) (nodes : List Node) → before < place → AreNodes (Means level pool) (set_fields place ps options) nodes → is_next before nodes ≡ false
   later_place before place [] options nodes less h = ap (is_next before) h
   later_place before place (p ∷ ps) [] nodes less h = ap (is_next before) h
   later_place before place (p ∷ ps) (None ∷ options) nodes less h = later_place before (place + 1) ps options nodes (omega (arith, less)) h
   later_place before place (p ∷ ps) (Some item ∷ options) nodes less h =
-      let other : (h.node.place == before) ≡ false = grind (arith, nat_tests, h.means.place_is, less) in
+      let other : (h.node.place == before) ≡ false = grind (arith, nat_tests, h.means.0.place_is, less) in
       ap (is_next before) h.nodes_are ∙ other
 
   record SetFits (end place : ℕ) (ps : List Property) (options : List (Option Item)) (nodes : List Node) : Type 0 where
     chosen : map is_some (set_at place ps nodes) ≡ map is_some options
-    made : (mask : ℕ) → set_flags mask ps ≡ map is_some options → Fits (made_set pool end place ps nodes) (λ bytes. SpellsSet plain mask ps bytes options)
+    made : (mask : ℕ) → set_flags mask ps ≡ map is_some options → Fits (made_set pool end place ps nodes) (λ bytes. SpellsSet level mask ps bytes options)
 
   none_fits : (end : ℕ) (nodes : List Node) {P : List ℕ → Type 0} → nodes ≡ [] → P [] → Fits (made_none end nodes) P
   none_fits end nodes {P} none p = subst (λ ns. Fits (made_none end ns) P) (sym none) (ok_fits [] p)
@@ -83,7 +85,7 @@ module _ (pool : List ℕ) (fits : IsBytes pool) where
             ∙ ap₂ (λ k ns. after (made_field pool end place p.form nodes) (made_set pool end k ps ns)) next (sym is),
       )
 
-  set_fit : (end place : ℕ) (ps : List Property) (options : List (Option Item)) (nodes : List Node) → place + length ps < 256 → AreOne ps → length options ≡ length ps → AreNodes (TellsField pool) (set_fields place ps options) nodes → SetFits end place ps options nodes
+  set_fit : (end place : ℕ) (ps : List Property) (options : List (Option Item)) (nodes : List Node) → place + length ps < 256 → AreOne ps → length options ≡ length ps → AreNodes (Means level pool) (set_fields place ps options) nodes → SetFits end place ps options nodes
   unfolding made_set set_at
   set_fit end place [] [] nodes room one number h = record { chosen = refl; made = λ mask flags. none_fits end nodes h (refl, refl) }
   set_fit end place [] (option ∷ options) nodes room one number h = absurd (omega (arith, number))
@@ -98,12 +100,12 @@ module _ (pool : List ℕ) (fits : IsBytes pool) where
             let bit : flag_at mask p.bit ≡ false = cc in
             let others : set_flags mask ps ≡ map is_some options = cc in
             fits_into (made_set pool end place (p ∷ ps) nodes)
-            (λ bytes spelled. record { front = []; behind = bytes; one = None; two = options; bytes_are = refl; first_is = subst (λ present. SpellsOptional plain present p.form [] None) (sym bit) (refl, refl); second_is = spelled; joined = refl })
+            (λ bytes spelled. record { front = []; behind = bytes; one = None; two = options; bytes_are = refl; first_is = subst (λ present. SpellsOptional level present p.form [] None) (sym bit) (refl, refl); second_is = spelled; joined = refl })
             (as_fits (made_set pool end place (p ∷ ps) nodes) (made_set pool end (place + 1) ps nodes) past.1 (more.made mask others));
       }
   set_fit end place (p ∷ ps) (Some item ∷ options) nodes room one number h =
-      let found = field_fits pool fits end place p.form item nodes (λ others. AreNodes (TellsField pool) (set_fields (place + 1) ps options) others) one.0 h in
-      let first : (h.node.place == place) ≡ true = grind (arith, nat_tests, h.means.place_is) in
+      let found = field_fits level pool fits end place p.form item nodes (λ others. AreNodes (Means level pool) (set_fields (place + 1) ps options) others) one.0 h in
+      let first : (h.node.place == place) ≡ true = grind (arith, nat_tests, h.means.0.place_is) in
       let on : is_next place nodes ≡ true = ap (is_next place) h.nodes_are ∙ first in
       let here = here_eq end place p ps nodes h.others (omega (arith, room)) on found.1 in
       let more = set_fit end (place + 1) ps options h.others (omega (arith, room)) one.1 (omega (arith, number)) h.rest in
@@ -120,7 +122,7 @@ module _ (pool : List ℕ) (fits : IsBytes pool) where
               one = Some item;
               two = options;
               bytes_are = refl;
-              first_is = subst (λ present. SpellsOptional plain present p.form a (Some item)) (sym bit) (record { thing = item ∷ []; spelled = spelled; made = refl });
+              first_is = subst (λ present. SpellsOptional level present p.form a (Some item)) (sym bit) (record { thing = item ∷ []; spelled = spelled; made = refl });
               second_is = rest;
               joined = refl;
             }) found.0 (more.made mask others));
@@ -130,7 +132,7 @@ module _ (pool : List ℕ) (fits : IsBytes pool) where
   map_length [] = refl
   map_length (option ∷ options) = ap suc (map_length options)
 
-  properties_fit : (end : ℕ) (options : List (Option Item)) (nodes : List Node) → length options ≡ length properties → AreNodes (TellsField pool) (set_fields 0 properties options) nodes → Fits (made_properties pool end nodes) (λ bytes. SpellsProperties plain bytes options)
+  properties_fit : (end : ℕ) (options : List (Option Item)) (nodes : List Node) → length options ≡ length properties → AreNodes (Means level pool) (set_fields 0 properties options) nodes → Fits (made_properties pool end nodes) (λ bytes. SpellsProperties level bytes options)
   unfolding made_properties
   properties_fit end options nodes number h =
       let set = set_fit end 0 properties options nodes (omega (arith, fourteen)) all_one number h in
@@ -138,7 +140,7 @@ module _ (pool : List ℕ) (fits : IsBytes pool) where
       let count : length (map is_some options) ≡ 14 = map_length options ∙ number ∙ fourteen in
       let is : IsMaskOf mask (map is_some options) = subst (λ m. IsMaskOf m (map is_some options)) (sym (mask_of-flags properties (set_at 0 properties nodes) ∙ ap (flags_mask properties) set.chosen)) (flags_mask_is (map is_some options) count) in
       after_fits (Ok (number_bytes bytes2 mask)) (made_set pool end 0 properties nodes) {P = λ bytes. bytes ≡ number_bytes bytes2 mask}
-      (λ a b p q. record { mask = mask; behind = b; fits = is.fits; bytes_are = ap (λ bs. bs ++ b) p; set = q; unused = tt }) (ok_fits (number_bytes bytes2 mask) refl) (set.made mask is.set)
+      (λ a b p q. record { mask = mask; behind = b; fits = is.fits; bytes_are = ap (λ bs. bs ++ b) p; set = q; unused = from_tidy level (is.second, is.lowest) }) (ok_fits (number_bytes bytes2 mask) refl) (set.made mask is.set)
 
   -- ---- payloads
 
@@ -153,18 +155,18 @@ module _ (pool : List ℕ) (fits : IsBytes pool) where
   free_ids : (head : given.Head) → HasNoIds head → has_no_ids head ≡ true
   free_ids head h = grind (arith, nat_tests, h.0, h.1, h.2)
 
-  method_fits : (nodes : List Node) (head : given.Head) (channel : ℕ) (m : Method) → head.class_id ≡ m.class → head.method_id ≡ m.id → head.body_size ≡ 0 → IsMethod m → TellsFields pool nodes head.first head.nodes (Meth channel m) → Fits (made_method pool nodes head) (λ bytes. SpellsPayload plain bytes m)
+  method_fits : (nodes : List Node) (head : given.Head) (channel : ℕ) (m : Method) → InOrder level pool nodes → head.class_id ≡ m.class → head.method_id ≡ m.id → head.body_size ≡ 0 → IsMethod m → TellsFields pool nodes head.first head.nodes (Meth channel m) → Fits (made_method pool nodes head) (λ bytes. SpellsPayload level bytes m)
   unfolding made_method fields_of
-  method_fits nodes head channel m class id free is h =
+  method_fits nodes head channel m order class id free is h =
       let slots = is.slots in
       let own = take head.nodes (drop head.first nodes) in
       let ids = number_bytes bytes2 head.class_id ++ number_bytes bytes2 head.method_id in
       let known : slots_at head.class_id head.method_id ≡ Some slots = ap₂ (λ a b. slots_at a b) class id ∙ is.known in
       let table = in_table m.class m.id slots is.known in
       let kinds : kinds_in (unwrap_or (slots_at m.class m.id) []) ≡ kinds_in slots = ap (λ o. kinds_in (unwrap_or o [])) is.known in
-      let means = subst (λ ks. AreNodes (TellsField pool) (fields_from 0 ks m.items) own) kinds h.fields in
+      let means = each_with level pool (TellsField pool) (fields_from 0 (kinds_in slots) m.items) own (order_taken level pool nodes head.first head.nodes order) (subst (λ ks. AreNodes (TellsField pool) (fields_from 0 ks m.items) own) kinds h.fields) in
       let few = few_fields m.class m.id slots is.known in
-      let slots_made = slots_fit pool fits (head.first + head.nodes) 0 slots m.items own (omega (arith, few)) (few_spare m.class m.id slots is.known) table.least is.number means in
+      let slots_made = slots_fit level pool fits (head.first + head.nodes) 0 slots m.items own (omega (arith, few)) (few_spare m.class m.id slots is.known) table.least is.number means in
       let free_is : (head.body_size == 0) ≡ true = grind (arith, nat_tests, free) in
       let make : List Node → Made = λ own. after (Ok ids) (made_slots pool (head.first + head.nodes) 0 slots own) in
       as_fits (made_known pool nodes head (slots_at head.class_id head.method_id)) (made_known pool nodes head (Some slots)) (ap (made_known pool nodes head) known)
@@ -183,13 +185,14 @@ module _ (pool : List ℕ) (fits : IsBytes pool) where
         slots_are = q;
       }) (ok_fits ids refl) slots_made)))
 
-  header_fits : (nodes : List Node) (head : given.Head) (channel : ℕ) (header : ContentHeader) → head.class_id < 2 ^ 16 → head.body_size < 2 ^ 64 → head.class_id ≡ header.class_id → head.method_id ≡ 0 → head.body_size ≡ header.body_size → length header.options ≡ length properties
-      → TellsFields pool nodes head.first head.nodes (Head channel header) → Fits (made_header pool nodes head) (λ bytes. SpellsContentHeader plain bytes header)
+  header_fits : (nodes : List Node) (head : given.Head) (channel : ℕ) (header : ContentHeader) → InOrder level pool nodes → head.class_id < 2 ^ 16 → head.body_size < 2 ^ 64 → head.class_id ≡ header.class_id → head.method_id ≡ 0 → head.body_size ≡ header.body_size → length header.options ≡ length properties
+      → TellsFields pool nodes head.first head.nodes (Head channel header) → Fits (made_header pool nodes head) (λ bytes. SpellsContentHeader level bytes header)
   unfolding made_header fields_of
-  header_fits nodes head channel header class_fits size_fits class free size number h =
+  header_fits nodes head channel header order class_fits size_fits class free size number h =
       let own = take head.nodes (drop head.first nodes) in
       let free_is : (head.method_id == 0) ≡ true = grind (arith, nat_tests, free) in
       let make : List Node → Made = λ own. after (Ok (header_front head)) (made_properties pool (head.first + head.nodes) own) in
+      let means = each_with level pool (TellsField pool) (set_fields 0 properties header.options) own (order_taken level pool nodes head.first head.nodes order) h.fields in
       let same : header_of_parts (number_item head.class_id ∷ number_item head.body_size ∷ []) header.options ≡ header = ap₂ (λ a b. header_of_parts (number_item a ∷ number_item b ∷ []) header.options) class size in
       test_fits (head.method_id == 0) (made_own make (nodes_in nodes head)) (misfit 0) free_is
       (own_fits make nodes head h.within
@@ -200,10 +203,10 @@ module _ (pool : List ℕ) (fits : IsBytes pool) where
         one = number_item head.class_id ∷ number_item head.body_size ∷ [];
         two = header.options;
         bytes_are = ap (λ bs. bs ++ b) p;
-        first_is = front_spelled pool fits head.class_id head.body_size class_fits size_fits;
+        first_is = front_spelled pool fits level head.class_id head.body_size class_fits size_fits;
         second_is = q;
         joined = sym same;
-      }) (ok_fits (header_front head) refl) (properties_fit (head.first + head.nodes) header.options own number h.fields)))
+      }) (ok_fits (header_front head) refl) (properties_fit (head.first + head.nodes) header.options own number means)))
 
   body_fits : (head : given.Head) (content : List ℕ) → HasNoIds head → head.nodes ≡ 0 → IsSpan pool head.start head.length content → Fits (made_body pool head) (λ bytes. bytes ≡ content)
   unfolding made_body
@@ -211,43 +214,44 @@ module _ (pool : List ℕ) (fits : IsBytes pool) where
       let is : (has_no_ids head && (head.nodes == 0)) ≡ true = grind (arith, nat_tests, free_ids head free, none) in
       test_fits (has_no_ids head && (head.nodes == 0)) (made_span (λ content. Ok content) 0 (span_in pool head.start head.length)) (misfit 0) is (span_fits_in (λ content. Ok content) 0 pool content head.start head.length span (ok_fits content refl))
 
-  beat_fits : (head : given.Head) → HasNoIds head → head.nodes ≡ 0 → Fits (made_beat head) (λ bytes. Unit {0})
+  beat_fits : (head : given.Head) → HasNoIds head → head.nodes ≡ 0 → Fits (made_beat head) (λ bytes. bytes ≡ [])
   unfolding made_beat
   beat_fits head free none =
       let is : (has_no_ids head && (head.nodes == 0)) ≡ true = grind (arith, nat_tests, free_ids head free, none) in
-      test_fits (has_no_ids head && (head.nodes == 0)) (Ok []) (misfit 0) is (ok_fits [] tt)
+      test_fits (has_no_ids head && (head.nodes == 0)) (Ok []) (misfit 0) is (ok_fits [] refl)
 
   -- ---- protocol headers
 
   small_octet : (n : ℕ) → n < 2 ^ 8 → number_bytes bytes1 n ≡ n ∷ []
   small_octet n few = ap (λ k. k ∷ []) {x = n % 256} {y = n} (omega (arith, few))
 
-  octet_bytes : (slots : List Slot) (bytes : List ℕ) (n : ℕ) (others : List Item) → SpellsSlots plain (kept_slot (number_form bytes1) ∷ slots) bytes (number_item n ∷ others) → (rest : List ℕ) × (bytes ≡ n ∷ rest) × SpellsSlots plain slots rest others
+  octet_bytes : (slots : List Slot) (bytes : List ℕ) (n : ℕ) (others : List Item) → SpellsSlots level (kept_slot (number_form bytes1) ∷ slots) bytes (number_item n ∷ others) → (rest : List ℕ) × (bytes ≡ n ∷ rest) × SpellsSlots level slots rest others
   octet_bytes slots bytes n others h =
       let items : number_item n ∷ others ≡ number_item h.first_is.thing ∷ h.two = h.joined ∙ ap (λ xs. xs ++ h.two) h.first_is.made in
       let same : n ≡ h.first_is.thing = cc in
       let left : others ≡ h.two = cc in
       let front : h.front ≡ n ∷ [] = h.first_is.spelled.bytes_are ∙ small_octet h.first_is.thing h.first_is.spelled.fits ∙ ap (λ k. k ∷ []) (sym same) in
-      (h.behind, h.bytes_are ∙ ap (λ bs. bs ++ h.behind) front, subst (λ xs. SpellsSlots plain slots h.behind xs) (sym left) h.second_is)
+      (h.behind, h.bytes_are ∙ ap (λ bs. bs ++ h.behind) front, subst (λ xs. SpellsSlots level slots h.behind xs) (sym left) h.second_is)
 
-  version_bytes : (major minor revision : ℕ) (bytes : List ℕ) → SpellsSlots plain version_slots bytes (number_item major ∷ number_item minor ∷ number_item revision ∷ []) → bytes ≡ major ∷ minor ∷ revision ∷ []
+  version_bytes : (major minor revision : ℕ) (bytes : List ℕ) → SpellsSlots level version_slots bytes (number_item major ∷ number_item minor ∷ number_item revision ∷ []) → bytes ≡ major ∷ minor ∷ revision ∷ []
   version_bytes major minor revision bytes h =
       let one = octet_bytes (kept_slot (number_form bytes1) ∷ kept_slot (number_form bytes1) ∷ []) bytes major (number_item minor ∷ number_item revision ∷ []) h in
       let two = octet_bytes (kept_slot (number_form bytes1) ∷ []) one.0 minor (number_item revision ∷ []) one.2 in
       let three = octet_bytes [] two.0 revision [] two.2 in
       one.1 ∙ ap (λ bs. major ∷ bs) (two.1 ∙ ap (λ bs. minor ∷ bs) (three.1 ∙ ap (λ bs. revision ∷ bs) three.2.0))
 
-  version_fits : (nodes : List Node) (head : given.Head) (major minor revision : ℕ) → head.channel ≡ 0 → HasNoIds head → TellsFields pool nodes head.first head.nodes (Proto major minor revision) → Fits (made_version pool nodes head) (λ bytes. bytes ≡ proto major minor revision)
+  version_fits : (nodes : List Node) (head : given.Head) (major minor revision : ℕ) → InOrder level pool nodes → head.channel ≡ 0 → HasNoIds head → TellsFields pool nodes head.first head.nodes (Proto major minor revision) → Fits (made_version pool nodes head) (λ bytes. bytes ≡ proto major minor revision)
   unfolding made_version fields_of
-  version_fits nodes head major minor revision none free h =
+  version_fits nodes head major minor revision order none free h =
       let own = take head.nodes (drop head.first nodes) in
       let is : (has_no_ids head && (head.channel == 0)) ≡ true = grind (arith, nat_tests, free_ids head free, none) in
       let make : List Node → Made = λ own. after (Ok (protocol_byte ∷ protocol_mark)) (made_slots pool (head.first + head.nodes) 0 version_slots own) in
       let items : List Item = number_item major ∷ number_item minor ∷ number_item revision ∷ [] in
-      let slots_made = slots_fit pool fits (head.first + head.nodes) 0 version_slots items own (omega arith) (omega arith) refl refl h.fields in
+      let means = each_with level pool (TellsField pool) (fields_of (Proto major minor revision)) own (order_taken level pool nodes head.first head.nodes order) h.fields in
+      let slots_made = slots_fit level pool fits (head.first + head.nodes) 0 version_slots items own (omega arith) (omega arith) refl refl means in
       test_fits (has_no_ids head && (head.channel == 0)) (made_own make (nodes_in nodes head)) (misfit 0) is
       (own_fits make nodes head h.within
-      (after_fits (Ok (protocol_byte ∷ protocol_mark)) (made_slots pool (head.first + head.nodes) 0 version_slots own) {P = λ bytes. bytes ≡ protocol_byte ∷ protocol_mark} {Q = λ bytes. SpellsSlots plain version_slots bytes items}
+      (after_fits (Ok (protocol_byte ∷ protocol_mark)) (made_slots pool (head.first + head.nodes) 0 version_slots own) {P = λ bytes. bytes ≡ protocol_byte ∷ protocol_mark} {Q = λ bytes. SpellsSlots level version_slots bytes items}
       (λ a b p q. ap₂ (λ x y. x ++ y) p (version_bytes major minor revision b q)) (ok_fits (protocol_byte ∷ protocol_mark) refl) slots_made))
 
   -- ---- frames
@@ -286,32 +290,32 @@ module _ (pool : List ℕ) (fits : IsBytes pool) where
   head_held : (head : given.Head) → is_held head ≡ true → Held head
   head_held head h = record { channel = grind (arith, nat_tests, h); class = grind (arith, nat_tests, h); size = grind (arith, nat_tests, h) }
 
-  typed_fits : (nodes : List Node) (m : ℕ) (head : given.Head) (frame : Frame) → m < 2 ^ 32 → Held head → TellsTyped pool nodes head frame → Fits (made_typed pool nodes m head) (λ bytes. Spells plain bytes frame × IsWithin (Some m) bytes)
+  typed_fits : (nodes : List Node) (m : ℕ) (head : given.Head) (frame : Frame) → InOrder level pool nodes → m < 2 ^ 32 → Held head → TellsTyped pool nodes head frame → Fits (made_typed pool nodes m head) (λ bytes. Spells level bytes frame × IsWithin (Some m) bytes)
   unfolding by_type
-  typed_fits nodes m head (Proto major minor revision) few held h =
+  typed_fits nodes m head (Proto major minor revision) order few held h =
       as_fits (made_typed pool nodes m head) (made_version pool nodes head) (typed_is nodes m head ∙ ap (by_type nodes m head) h.0)
-      (fits_into (made_version pool nodes head) (λ bytes is. (is, omega (arith, ap length is))) (version_fits nodes head major minor revision h.1 h.2 h.3))
-  typed_fits nodes m head (Meth channel meth) few held h =
+      (fits_into (made_version pool nodes head) (λ bytes is. (is, omega (arith, ap length is))) (version_fits nodes head major minor revision order h.1 h.2 h.3))
+  typed_fits nodes m head (Meth channel meth) order few held h =
       as_fits (made_typed pool nodes m head) (made_around m head (made_method pool nodes head)) (typed_is nodes m head ∙ ap (by_type nodes m head) h.0)
       (around_fits m head (made_method pool nodes head) few held.channel (λ payload bytes spelled is. record { payload = payload; is_framed = framed_as head method_byte channel bytes payload h.0 h.1 is; spelled = spelled })
-      (method_fits nodes head channel meth h.2 h.3 h.4 h.5 h.6))
-  typed_fits nodes m head (Head channel header) few held h =
+      (method_fits nodes head channel meth order h.2 h.3 h.4 h.5 h.6))
+  typed_fits nodes m head (Head channel header) order few held h =
       as_fits (made_typed pool nodes m head) (made_around m head (made_header pool nodes head)) (typed_is nodes m head ∙ ap (by_type nodes m head) h.0)
       (around_fits m head (made_header pool nodes head) few held.channel (λ payload bytes spelled is. record { payload = payload; is_framed = framed_as head header_byte channel bytes payload h.0 h.1 is; spelled = spelled })
-      (header_fits nodes head channel header held.class held.size h.2 h.3 h.4 h.5 h.6))
-  typed_fits nodes m head (Body channel content) few held h =
+      (header_fits nodes head channel header order held.class held.size h.2 h.3 h.4 h.5 h.6))
+  typed_fits nodes m head (Body channel content) order few held h =
       as_fits (made_typed pool nodes m head) (made_around m head (made_body pool head)) (typed_is nodes m head ∙ ap (by_type nodes m head) h.0)
       (around_fits m head (made_body pool head) few held.channel (λ payload bytes same is. subst (λ bs. IsFramed bytes body_byte channel bs) same (framed_as head body_byte channel bytes payload h.0 h.1 is)) (body_fits head content h.2 h.3 h.4))
-  typed_fits nodes m head Beat few held h =
+  typed_fits nodes m head Beat order few held h =
       as_fits (made_typed pool nodes m head) (made_around m head (made_beat head)) (typed_is nodes m head ∙ ap (by_type nodes m head) h.0)
-      (around_fits m head (made_beat head) few held.channel (λ payload bytes any is. record { payload = payload; is_framed = framed_as head heartbeat_byte 0 bytes payload h.0 h.1 is; at_level = tt }) (beat_fits head h.2 h.3))
-  typed_fits nodes m head (BadBeat channel) few held h =
+      (around_fits m head (made_beat head) few held.channel (λ payload bytes none is. record { payload = payload; is_framed = framed_as head heartbeat_byte 0 bytes payload h.0 h.1 is; at_level = beat_at level payload none }) (beat_fits head h.2 h.3))
+  typed_fits nodes m head (BadBeat channel) order few held h =
       as_fits (made_typed pool nodes m head) (made_around m head (made_beat head)) (typed_is nodes m head ∙ ap (by_type nodes m head) h.0)
-      (around_fits m head (made_beat head) few held.channel (λ payload bytes any is. (h.2, record { payload = payload; is_framed = framed_as head heartbeat_byte channel bytes payload h.0 h.1 is; at_level = tt })) (beat_fits head h.3 h.4))
+      (around_fits m head (made_beat head) few held.channel (λ payload bytes none is. (h.2, record { payload = payload; is_framed = framed_as head heartbeat_byte channel bytes payload h.0 h.1 is; at_level = beat_at level payload none })) (beat_fits head h.3 h.4))
 
-  pub frame_fits : (nodes : List Node) (m : ℕ) (head : given.Head) (frame : Frame) → m < 2 ^ 32 → TellsFrame pool nodes head frame → Fits (made_frame pool nodes m head) (λ bytes. Spells plain bytes frame × IsWithin (Some m) bytes)
+  pub frame_fits : (nodes : List Node) (m : ℕ) (head : given.Head) (frame : Frame) → InOrder level pool nodes → m < 2 ^ 32 → TellsFrame pool nodes head frame → Fits (made_frame pool nodes m head) (λ bytes. Spells level bytes frame × IsWithin (Some m) bytes)
   unfolding made_frame
-  frame_fits nodes m head frame few h = test_fits (is_held head) (made_typed pool nodes m head) (misfit 0) h.0 (typed_fits nodes m head frame few (head_held head h.0) h.1)
+  frame_fits nodes m head frame order few h = test_fits (is_held head) (made_typed pool nodes m head) (misfit 0) h.0 (typed_fits nodes m head frame order few (head_held head h.0) h.1)
 
   -- ---- sequences
 
@@ -324,11 +328,11 @@ module _ (pool : List ℕ) (fits : IsBytes pool) where
   then_suits (Ok x) (Err bad) P Q R both p q = q
   then_suits (Err bad) b P Q R both p q = p
 
-  pub frames_fit : (nodes : List Node) (m : ℕ) → m < 2 ^ 32 → (k : ℕ) (heads : List given.Head) (frames : List Frame) → TellFrames pool nodes heads frames → Suits RefusesLength (made_frames pool nodes m k heads) (λ bytes. SpellsFrames plain (Some m) bytes frames)
+  pub frames_fit : (nodes : List Node) (m : ℕ) → InOrder level pool nodes → m < 2 ^ 32 → (k : ℕ) (heads : List given.Head) (frames : List Frame) → TellFrames pool nodes heads frames → Suits RefusesLength (made_frames pool nodes m k heads) (λ bytes. SpellsFrames level (Some m) bytes frames)
   unfolding made_frames
-  frames_fit nodes m few k [] [] h = refl
-  frames_fit nodes m few k [] (frame ∷ frames) h = absurd h
-  frames_fit nodes m few k (head ∷ heads) [] h = absurd h
-  frames_fit nodes m few k (head ∷ heads) (frame ∷ frames) h =
-      then_suits (at_head k (made_frame pool nodes m head)) (made_frames pool nodes m (k + 1) heads) (λ bytes. Spells plain bytes frame × IsWithin (Some m) bytes) (λ bytes. SpellsFrames plain (Some m) bytes frames) (λ bytes. SpellsFrames plain (Some m) bytes (frame ∷ frames))
-      (λ a b p q. (a, b, refl, p.0, p.1, q)) (at_suits k (made_frame pool nodes m head) (λ bytes. Spells plain bytes frame × IsWithin (Some m) bytes) (frame_fits nodes m head frame few h.0)) (frames_fit nodes m few (k + 1) heads frames h.1)
+  frames_fit nodes m order few k [] [] h = refl
+  frames_fit nodes m order few k [] (frame ∷ frames) h = absurd h
+  frames_fit nodes m order few k (head ∷ heads) [] h = absurd h
+  frames_fit nodes m order few k (head ∷ heads) (frame ∷ frames) h =
+      then_suits (at_head k (made_frame pool nodes m head)) (made_frames pool nodes m (k + 1) heads) (λ bytes. Spells level bytes frame × IsWithin (Some m) bytes) (λ bytes. SpellsFrames level (Some m) bytes frames) (λ bytes. SpellsFrames level (Some m) bytes (frame ∷ frames))
+      (λ a b p q. (a, b, refl, p.0, p.1, q)) (at_suits k (made_frame pool nodes m head) (λ bytes. Spells level bytes frame × IsWithin (Some m) bytes) (frame_fits nodes m head frame order few h.0)) (frames_fit nodes m order few (k + 1) heads frames h.1)

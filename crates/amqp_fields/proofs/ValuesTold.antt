@@ -2,10 +2,9 @@
 use Rattle.std.proofs.Common.{◌≡◌, ℕ, zero, suc, ◌-◌, ◌<◌, ◌≤◌, ◌^◌, ◌%◌, ◌==◌, ◌||◌, ◌&&◌, ◌⊎◌, inl, inr, ℤ, true, false, List, [], ◌∷◌, ◌++◌, length, take, drop, Option, Some, None, Ok, refl, sym, ap, subst, ◌∙◌, append-nil, arith, nat_lt, nat_le}
 use Rattle.std.proofs.lemmas.Bool.Decides.{nat_tests}
 use Rattle.std.proofs.lemmas.Bool.{or_cases}
-use Rattle.std.proofs.lemmas.Int.{of_z-to_z, to_z_pos}
-use Rattle.std.proofs.Math.Facts.{to_z-neg}
+use Rattle.std.proofs.lemmas.Int.{of_z-to_z}
 use Rattle.std.proofs.lemmas.List.{length-take-le, take-append-drop, take_all}
-use Rattle.std.specs.Int.{w8, w16, w32, w64, cast_signed, cast_unsigned}
+use Rattle.std.specs.Int.{w64, cast_signed, cast_unsigned}
 use Rattle.amqp_types.specs.Levels.{plain}
 use Rattle.amqp_types.specs.Judging.{IsBytes, took, ◌>>=◌}
 use Rattle.amqp_types.specs.Numbers.{NumberWidth, bytes1, bytes2, bytes4, bytes8, number_bytes, number_limit, width_of, SpellsNumber}
@@ -28,11 +27,12 @@ use Rattle.amqp_laws.proofs.Exactly.{value_exact, value_some}
 use Rattle.amqp_laws.proofs.Filled.{array_exact, table_exact}
 use Rattle.amqp_laws.proofs.Settling.{settles}
 use Rattle.amqp_fields.specs.declared.node.Node.{Node}
-use Rattle.amqp_fields.specs.Made.{Maker, Nested, after, made_alone, made_array, made_behind, made_each, made_entry, made_given, made_items, made_known, made_leaf, made_long, made_nested, made_number, made_signed, made_span, made_table, made_tagged, made_text, made_truth, made_value, nested_array, nested_table, own_index, refusal, span_in}
+use Rattle.amqp_fields.specs.Made.{Maker, Nested, after, half_limit, made_alone, made_array, made_behind, made_each, made_entry, made_given, made_items, made_known, made_leaf, made_long, made_nested, made_number, made_signed, made_span, made_table, made_tagged, made_text, made_truth, made_value, nested_array, nested_table, own_index, refusal, span_in}
 use Rattle.amqp_fields.specs.declared.refusals.WriteRefusal.TheVariants as whys
 use Rattle.amqp_fields.specs.Meaning.{AreNodes, IsSpan}
 use Rattle.amqp_fields.specs.Meant.{Holds, HoldsTable, IsSigned, Tells, TellsAt, TellsEntry, TellsValue}
 use Rattle.amqp_fields.proofs.Inverted.{after_ok, alone_ok, closed_ok, fails, given_ok, holds, if_ok, long_ok, number_ok, ok_is, span_ok, text_ok}
+use Rattle.amqp_fields.proofs.SignedNumbers.{signed_back}
 
 -- something that is meant, and that the bytes encode
 pub record Told {A : Type 0} (Means Spelled : A → Type 0) : Type 0 where
@@ -68,39 +68,6 @@ module _ {A : Type 0} (make : Maker) (Means : Node → List Node → A → Type 
     each_told end nodes bytes h = each_from end 0 nodes bytes h
 
 -- ---- numbers
-
-signed_octet : (n : ℕ) → (n < 2 ^ 7) ⊎ ((2 ^ 64 - 2 ^ 7 ≤ n) × (n < 2 ^ 64)) → n ≡ cast_unsigned w64 (cast_signed w8 (n % 2 ^ 8))
-signed_octet n (inl few) =
-    let same : n % 2 ^ 8 ≡ n = omega (arith, few) in
-    sym (ap (λ k. cast_unsigned w64 (cast_signed w8 k)) same ∙ ap (cast_unsigned w64) (to_z_pos w8 n few))
-signed_octet n (inr most) =
-    let k = 2 ^ 64 - 1 - n in
-    let same : n % 2 ^ 8 ≡ 2 ^ 8 - suc k = omega (arith, most) in
-    let below : k < 2 ^ 7 = omega (arith, most) in
-    let back : 2 ^ 64 - suc k ≡ n = omega (arith, most) in
-    sym (ap (λ m. cast_unsigned w64 (cast_signed w8 m)) same ∙ ap (cast_unsigned w64) (to_z-neg w8 k below) ∙ back)
-
-signed_short : (n : ℕ) → (n < 2 ^ 15) ⊎ ((2 ^ 64 - 2 ^ 15 ≤ n) × (n < 2 ^ 64)) → n ≡ cast_unsigned w64 (cast_signed w16 (n % 2 ^ 16))
-signed_short n (inl few) =
-    let same : n % 2 ^ 16 ≡ n = omega (arith, few) in
-    sym (ap (λ k. cast_unsigned w64 (cast_signed w16 k)) same ∙ ap (cast_unsigned w64) (to_z_pos w16 n few))
-signed_short n (inr most) =
-    let k = 2 ^ 64 - 1 - n in
-    let same : n % 2 ^ 16 ≡ 2 ^ 16 - suc k = omega (arith, most) in
-    let below : k < 2 ^ 15 = omega (arith, most) in
-    let back : 2 ^ 64 - suc k ≡ n = omega (arith, most) in
-    sym (ap (λ m. cast_unsigned w64 (cast_signed w16 m)) same ∙ ap (cast_unsigned w64) (to_z-neg w16 k below) ∙ back)
-
-signed_long : (n : ℕ) → (n < 2 ^ 31) ⊎ ((2 ^ 64 - 2 ^ 31 ≤ n) × (n < 2 ^ 64)) → n ≡ cast_unsigned w64 (cast_signed w32 (n % 2 ^ 32))
-signed_long n (inl few) =
-    let same : n % 2 ^ 32 ≡ n = omega (arith, few) in
-    sym (ap (λ k. cast_unsigned w64 (cast_signed w32 k)) same ∙ ap (cast_unsigned w64) (to_z_pos w32 n few))
-signed_long n (inr most) =
-    let k = 2 ^ 64 - 1 - n in
-    let same : n % 2 ^ 32 ≡ 2 ^ 32 - suc k = omega (arith, most) in
-    let below : k < 2 ^ 31 = omega (arith, most) in
-    let back : 2 ^ 64 - suc k ≡ n = omega (arith, most) in
-    sym (ap (λ m. cast_unsigned w64 (cast_signed w32 m)) same ∙ ap (cast_unsigned w64) (to_z-neg w32 k below) ∙ back)
 
 either_half : (half n : ℕ) → (nat_lt n half || (nat_le (2 ^ 64 - half) n && nat_lt n (2 ^ 64))) ≡ true → (n < half) ⊎ ((2 ^ 64 - half ≤ n) × (n < 2 ^ 64))
 either_half half n h = elim (or_cases (nat_lt n half) (nat_le (2 ^ 64 - half) n && nat_lt n (2 ^ 64)) h) [
@@ -195,19 +162,19 @@ module _ (pool : List ℕ) (nested : Nested) (depth : ℕ) (Array : Node → Lis
         let index = own_index end inside in
         let alone = alone_ok (made_signed bytes1 index node.number) index inside bytes h in
         let both = if_ok _ index (number_bytes bytes1 (node.number % 2 ^ 8)) bytes alone.1 in
-        signed_kind short_short_int tag.ShortShortInt node inside bytes (λ n. refl) alone.0 (signed_told bytes1 node.number bytes (signed_octet node.number (either_half (2 ^ 7) node.number both.0)) both.1)
+        signed_kind short_short_int tag.ShortShortInt node inside bytes (λ n. refl) alone.0 (signed_told bytes1 node.number bytes (signed_back bytes1 node.number (either_half (half_limit bytes1) node.number both.0)) both.1)
     behind_told tag.ShortShortUInt end node inside bytes h = unsigned short_short_uint tag.ShortShortUInt (own_index end inside) node inside bytes refl h
     behind_told tag.ShortInt end node inside bytes h =
         let index = own_index end inside in
         let alone = alone_ok (made_signed bytes2 index node.number) index inside bytes h in
         let both = if_ok _ index (number_bytes bytes2 (node.number % 2 ^ 16)) bytes alone.1 in
-        signed_kind short_int tag.ShortInt node inside bytes (λ n. refl) alone.0 (signed_told bytes2 node.number bytes (signed_short node.number (either_half (2 ^ 15) node.number both.0)) both.1)
+        signed_kind short_int tag.ShortInt node inside bytes (λ n. refl) alone.0 (signed_told bytes2 node.number bytes (signed_back bytes2 node.number (either_half (half_limit bytes2) node.number both.0)) both.1)
     behind_told tag.ShortUInt end node inside bytes h = unsigned short_uint tag.ShortUInt (own_index end inside) node inside bytes refl h
     behind_told tag.LongInt end node inside bytes h =
         let index = own_index end inside in
         let alone = alone_ok (made_signed bytes4 index node.number) index inside bytes h in
         let both = if_ok _ index (number_bytes bytes4 (node.number % 2 ^ 32)) bytes alone.1 in
-        signed_kind long_int tag.LongInt node inside bytes (λ n. refl) alone.0 (signed_told bytes4 node.number bytes (signed_long node.number (either_half (2 ^ 31) node.number both.0)) both.1)
+        signed_kind long_int tag.LongInt node inside bytes (λ n. refl) alone.0 (signed_told bytes4 node.number bytes (signed_back bytes4 node.number (either_half (half_limit bytes4) node.number both.0)) both.1)
     behind_told tag.LongUInt end node inside bytes h = unsigned long_uint tag.LongUInt (own_index end inside) node inside bytes refl h
     behind_told tag.LongLongInt end node inside bytes h =
         let index = own_index end inside in

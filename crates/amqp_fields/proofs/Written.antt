@@ -25,11 +25,11 @@ never_at k (Ok bytes) n h = absurd cc
 never_at k (Err bad) n h = absurd cc
 
 module _ (pool : List ℕ) (nodes : List Node) (m : ℕ) where
-  first_made : (k : ℕ) (rest others : List Head) (head : Head) → rest ≡ head ∷ others → made_frames pool nodes m k rest ≡ after (at_head k (made_frame pool nodes m head)) (made_frames pool nodes m (k + 1) others)
+  pub first_made : (k : ℕ) (rest others : List Head) (head : Head) → rest ≡ head ∷ others → made_frames pool nodes m k rest ≡ after (at_head k (made_frame pool nodes m head)) (made_frames pool nodes m (k + 1) others)
   unfolding made_frames
   first_made k rest others head is = ap (made_frames pool nodes m k) is
 
-  no_heads : (k : ℕ) (rest : List Head) → length rest ≡ 0 → made_frames pool nodes m k rest ≡ Ok []
+  pub no_heads : (k : ℕ) (rest : List Head) → length rest ≡ 0 → made_frames pool nodes m k rest ≡ Ok []
   unfolding made_frames
   no_heads k [] none = refl
   no_heads k (head ∷ rest) none = absurd (omega (arith, none))

@@ -18,4 +18,6 @@ pub mod MadeFrames
 pub mod Makes
 pub mod Making
 pub mod Meant
+pub mod Canonical
+pub mod SameNodes
 pub mod WritingLaws

@@ -1,13 +1,16 @@
 -- What calls return that put bytes where a buffer has room for them.
-use Rattle.std.specs.Prelude.{◌≡◌, ◌≤◌, ◌<◌, ◌^◌, ◌+◌, ℕ, nat_lt, if◌then◌else◌, Bool, List, [], ◌∷◌, length, Result, Ok, Err}
+use Rattle.std.specs.Prelude.{◌≡◌, ◌≤◌, ◌<◌, ◌^◌, ◌+◌, ℕ, nat_lt, if◌then◌else◌, Bool, List, [], ◌∷◌, true, false, length, drop, Result, Ok, Err}
 use Rattle.amqp_types.specs.Flags.{flags_byte}
 use Rattle.amqp_types.specs.Numbers.{bytes4, number_bytes}
 use Rattle.amqp_types.specs.Constants.{end_byte}
 use Rattle.amqp_types.specs.Writing.{written}
+use Rattle.amqp_types.specs.Properties.{Property, properties}
 use Rattle.amqp_wire.specs.Spelling.{head}
+use Rattle.amqp_fields.specs.declared.node.Node.{Node}
 use Rattle.amqp_fields.specs.declared.refusals.Refusal.{Refusal}
 use Rattle.amqp_fields.specs.declared.refusals.WriteRefusal.TheVariants as whys
 use Rattle.amqp_fields.specs.Made.{refusal}
+use Rattle.amqp_fields.specs.MadeFields.{is_field}
 
 -- as 8 bytes hold it, or the greatest number that they hold
 abbrev pub cut_long : ℕ → ℕ
@@ -30,6 +33,22 @@ abbrev pub Makes : {E : Type 0} → Result (List ℕ) E → List ℕ → List �
 Makes made old new at (Ok count) = Gives made old new at count
 Makes made old new at (Err bad) = made ≡ Err bad
 
+-- these bytes were made, and counted
+pub record IsMeasured {E : Type 0} (made : Result (List ℕ) E) (count : ℕ) : Type 0 where
+  pub bytes : List ℕ
+  pub is : made ≡ Ok bytes
+  pub count_is : count ≡ cut_long (length bytes)
+
+-- how many bytes were made, or the refusal
+abbrev pub Measures : {E : Type 0} → Result (List ℕ) E → Result ℕ E → Type 0
+Measures made (Ok count) = IsMeasured made count
+Measures made (Err bad) = made ≡ Err bad
+
+-- What was made was put at a place, and the place after it is returned: where nothing is refused, and the buffer has room.
+pub record Sets {E : Type 0} (made : Result (List ℕ) E) (old new : List ℕ) (at next : ℕ) : Type 0 where
+  pub same_length : length new ≡ length old
+  pub put : (bytes : List ℕ) → made ≡ Ok bytes → length old < 2 ^ 64 → at + length bytes ≤ length old → (new ≡ written old at bytes) × (next ≡ at + length bytes)
+
 -- a length was put in front of so many bytes, and both are counted
 pub record IsClosed (length : ℕ) (old new : List ℕ) (at count : ℕ) : Type 0 where
   pub fits : length < 2 ^ 32
@@ -40,6 +59,23 @@ pub record IsClosed (length : ℕ) (old new : List ℕ) (at count : ℕ) : Type 
 abbrev pub Closes : ℕ → ℕ → List ℕ → List ℕ → ℕ → Result ℕ Refusal → Type 0
 Closes node length old new at (Ok count) = IsClosed length old new at count
 Closes node length old new at (Err bad) = (2 ^ 32 ≤ length) × (bad ≡ refusal node whys.TooLong)
+
+-- the node is this property, at a place or after it
+pub record IsProperty (place : ℕ) (node : Node) (p : Property) : Type 0 where
+  pub from : place ≤ node.place
+  pub later : List Property
+  pub stands : drop node.place properties ≡ p ∷ later
+  pub later_is : later ≡ drop (node.place + 1) properties
+  pub is : is_field node.place p.form node ≡ true
+
+-- it is none of them
+abbrev pub IsNoProperty : ℕ → Node → Type 0
+IsNoProperty place node = (p : Property) (later : List Property) → place ≤ node.place → drop node.place properties ≡ p ∷ later → is_field node.place p.form node ≡ false
+
+-- a length of 4 bytes in front of so many, all counted; or 4 bytes do not hold it
+abbrev pub ClosesMeasured : ℕ → ℕ → Result ℕ Refusal → Type 0
+ClosesMeasured node length (Ok count) = (length < 2 ^ 32) × (count ≡ length + 4)
+ClosesMeasured node length (Err bad) = (2 ^ 32 ≤ length) × (bad ≡ refusal node whys.TooLong)
 
 -- the byte of some flags, which has no other bits
 pub record IsFlagsByte (read : Result (List Bool) Refusal) (count byte : ℕ) : Type 0 where

@@ -87,7 +87,7 @@ pub fn read_entries(content: &[u8], nodes: &mut [Node]) -> Result<usize, FieldsE
         Err(error) => return Err(FieldsError::Payload(error)),
     }
     are_bytes(content);
-    let filled = list_entries(nodes, 0, content.len(), content, INNER_DEPTH);
+    let filled = list_entries(nodes, 0, content.len() as u32, content, INNER_DEPTH);
     let count = filled.count as usize;
     if count > nodes.len() {
         return Err(FieldsError::TooFew { needed: count });
@@ -110,7 +110,7 @@ pub fn read_values(content: &[u8], nodes: &mut [Node]) -> Result<usize, FieldsEr
         Err(error) => return Err(FieldsError::Payload(error)),
     }
     are_bytes(content);
-    let filled = list_values(nodes, 0, content.len(), content, INNER_DEPTH);
+    let filled = list_values(nodes, 0, content.len() as u32, content, INNER_DEPTH);
     let count = filled.count as usize;
     if count > nodes.len() {
         return Err(FieldsError::TooFew { needed: count });

@@ -1,6 +1,6 @@
 //! The nodes of the fields of methods and of the properties of messages.
 
-ghost use Rattle.std.specs.Prelude.{◌≡◌, ◌<◌, ◌+◌, map};
+ghost use Rattle.std.specs.Prelude.{◌≡◌, ◌<◌, ◌+◌, length, map};
 ghost use Rattle.amqp_types.specs.Flags.{bit_of, flag_at, flags_from, judge_flags};
 ghost use Rattle.amqp_types.specs.Sequences.{judge_map};
 ghost use Rattle.amqp_canonical.specs.Shapes.{form_of, property_of, slot_of, slots_of};
@@ -46,6 +46,7 @@ pub(crate) fn further(place: u8, n: u8) -> u8
 }
 
 /// A field at a place, of which nothing else is known.
+#[inline(always)]
 fn placed(place: u8, form: Form) -> Node
     ensures { result ≡ placed place (form_of form) }
 {
@@ -57,6 +58,7 @@ fn placed(place: u8, form: Form) -> Node
 }
 
 /// A flag at a place, which is this bit of a byte.
+#[inline(always)]
 fn bit(place: u8, byte: u8, k: u8) -> Node
     ensures { result ≡ numbered (placed place (flags_form 1)) (bit_of (flag_at byte k)) }
 {
@@ -82,6 +84,7 @@ fn list_bits(nodes: &mut [Node], count: u32, place: u8, byte: u8, k: u8, flags: 
 }
 
 /// So many flags of a byte, at places from one on.
+#[inline(always)]
 #[tactic(auto, unfolding(amqp_types::specs::Flags::judge_flags))]
 fn list_flags(nodes: &mut [Node], count: u32, place: u8, flags: u8, i: &[u8]) -> Step
     ensures { Lists (judge_map (listed_bits place) (judge_flags flags) i.now) nodes.old count nodes.new result }
@@ -96,12 +99,13 @@ fn list_flags(nodes: &mut [Node], count: u32, place: u8, flags: u8, i: &[u8]) ->
 }
 
 /// What is encoded so: a field of a method or a property, from a place on.
+#[inline(always)]
 #[tactic(auto, unfolding(crate::specs::Listed::listed_form))]
 fn list_form(
     nodes: &mut [Node],
     count: u32,
     deep: bool,
-    end: usize,
+    end: u32,
     place: u8,
     form: Form,
     i: &[u8],
@@ -139,12 +143,13 @@ pub(crate) fn kept_count(slot: Slot) -> u8
 }
 
 /// A field, or nothing where it is reserved.
+#[inline(always)]
 #[tactic(auto, using(crate::proofs::SlotSteps::reserved_listed, crate::proofs::SlotSteps::kept_listed))]
 fn list_slot(
     nodes: &mut [Node],
     count: u32,
     deep: bool,
-    end: usize,
+    end: u32,
     place: u8,
     slot: Slot,
     i: &[u8],
@@ -166,7 +171,7 @@ pub(crate) fn list_slots(
     nodes: &mut [Node],
     count: u32,
     deep: bool,
-    end: usize,
+    end: u32,
     place: u8,
     shapes: &[Slot],
     i: &[u8],
@@ -190,18 +195,19 @@ fn list_set(
     nodes: &mut [Node],
     count: u32,
     deep: bool,
-    end: usize,
+    end: u32,
     place: u8,
     mask: u16,
     shapes: &[(u16, Form)],
     i: &[u8],
 ) -> u32
+    requires few { place + length shapes.now < 256 }
     ensures { Counts (listed_set mask deep end place (map property_of shapes.now) i.now) nodes.old count nodes.new result }
 {
     match shapes {
         [] => count,
         [shape, others @ ..] => {
-            let next = further(place, 1);
+            let next = place + 1;
             if !has_bit(mask, shape.0) {
                 return list_set(nodes, count, deep, end, next, mask, others, i);
             }
@@ -213,14 +219,8 @@ fn list_set(
 }
 
 /// The properties that are set, out of the bytes from their mask on.
-#[tactic(auto, using(crate::proofs::SlotSteps::properties_listed), unfolding(crate::specs::Listed::listed_properties))]
-pub(crate) fn list_properties(
-    nodes: &mut [Node],
-    count: u32,
-    deep: bool,
-    end: usize,
-    i: &[u8],
-) -> u32
+#[tactic(auto, using(crate::proofs::SlotSteps::properties_listed, crate::proofs::Counted::shapes_few), unfolding(crate::specs::Listed::listed_properties))]
+pub(crate) fn list_properties(nodes: &mut [Node], count: u32, deep: bool, end: u32, i: &[u8]) -> u32
     ensures { Counts (listed_properties deep end i.now) nodes.old count nodes.new result }
 {
     match i {

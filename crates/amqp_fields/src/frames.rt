@@ -8,16 +8,16 @@ ghost use Rattle.amqp_fields.specs.Frames.{EndsWith, ReadsFrames, in_reach, leas
 ghost use Rattle.amqp_fields.specs.Framing.{FindsFrame, IsNext, Reads, outlined};
 ghost use Rattle.amqp_fields.specs.Heads.{form_of};
 
+use crate::decoding::decode;
 use crate::head::{CANONICAL, Head, TIDY};
 use crate::node::Node;
-use crate::payloads::list_payload;
 use amqp_canonical::bytes_from;
 use amqp_types::{
     FRAME_BODY, FRAME_HEADER, FRAME_HEARTBEAT, FRAME_METHOD, PROTOCOL_BYTE, ParserError, are_bytes,
 };
 use amqp_wire::{
-    AMQPFrameType, AMQPRawFrame, FrameJudgement, FrameLayout, FrameOutline, Look, judge_frame,
-    look_at, outline_raw,
+    AMQPFrameType, AMQPRawFrame, FrameJudgement, FrameLayout, FrameOutline, Look, look_at,
+    outline_raw,
 };
 
 /// What comes after the frames that were read.
@@ -177,18 +177,20 @@ fn read_raw(
     requires few { start + length raw.payload.now < 2 ^ 32 }
     ensures { Reads (raw_of raw.entry) start deep nodes.old first nodes.new result }
 {
-    let judged = judge_frame(raw)?;
     let length = raw.payload.len() as u32;
-    let end = (start + length) as usize;
-    let count = list_payload(nodes, first, raw.frame_type, deep, end, raw.payload);
+    let end = start + length;
+    let decoded = match decode(raw, nodes, first, deep, end) {
+        Ok(decoded) => decoded,
+        Err(error) => return Err(error),
+    };
     let head = Head {
         start,
         length,
         first,
-        nodes: count.saturating_sub(first),
+        nodes: decoded.count.saturating_sub(first),
         channel: raw.channel_id,
         frame_type: byte_of(raw.frame_type),
-        form: form_of(judged),
+        form: form_of(decoded.judged),
         ..Head::default()
     };
     Ok(outlined(head, outline_raw(raw)))

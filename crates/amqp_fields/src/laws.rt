@@ -1,14 +1,8 @@
-//! Laws of nodes, and when nodes and what is read are equal.
+//! Laws of heads and nodes that are read and written.
 
-ghost use Rattle.std.specs.Prelude.{◌≡◌, ◌↔◌, IsTrue};
 ghost use Rattle.amqp_fields.specs.Laws.{HeadsSayTheFront, LastEntriesWin, SpansLieWithin};
-ghost use Rattle.amqp_fields.specs.WritingLaws.{HeadsMeanOne, ReadNodesAreMeant};
-
-use crate::frames::{FramesEnd, FramesRead};
-use crate::head::Head;
-use crate::node::Node;
-use crate::reading::{FieldsError, FieldsRead};
-use crate::refusals::{WriteError, WriteRefusal};
+ghost use Rattle.amqp_fields.specs.SameNodes.{OneFrameHasSameNodes};
+ghost use Rattle.amqp_fields.specs.WritingLaws.{CanonicalWhereKeysAscend, HeadsMeanOne, ReadAgainIsSame, ReadIsWrittenAgain, ReadNodesAreMeant};
 
 /// Of duplicate keys the last one wins: a map that is filled with the entries of a table in the order of their nodes is
 /// the table.
@@ -42,62 +36,31 @@ pub fn read_nodes_are_meant()
     ensures { ReadNodesAreMeant }
 {}
 
-/// Two refusals are equal exactly where they are the same.
-pub fn equal_write_refusals(a: &WriteRefusal, b: &WriteRefusal) -> bool
-    ensures { IsTrue result ↔ (a.now ≡ b.now) }
-{
-    a == b
-}
+/// What is written is canonical where the keys of each table ascend: where they do in each table that nodes give, and content
+/// that stands in the pool as bytes is canonical, what is written is the canonical bytes of the frames that heads and nodes mean.
+#[tactic(auto, using(crate::proofs::CanonicalMade::canonical_made))]
+pub fn canonical_where_keys_ascend()
+    ensures { CanonicalWhereKeysAscend }
+{}
 
-/// Two errors of writing are equal exactly where they are the same.
-pub fn equal_write_errors(a: &WriteError, b: &WriteError) -> bool
-    ensures { IsTrue result ↔ (a.now ≡ b.now) }
-{
-    a == b
-}
+/// What was read, written and canonicalized is what canonicalizing gives: heads and nodes that say the frames in front of some
+/// bytes, alone or with all that lies inside tables, are written with these bytes as the pool to bytes that encode the same
+/// frames, so that the canonical bytes of both are the same.
+#[tactic(auto, using(crate::proofs::WrittenAgain::written_again))]
+pub fn read_is_written_again()
+    ensures { ReadIsWrittenAgain }
+{}
 
-/// Two nodes are equal exactly where all members are.
-#[tactic(auto, using(crate::proofs::EqualNodes::same_node))]
-pub fn equal_nodes(a: &Node, b: &Node) -> bool
-    ensures { IsTrue result ↔ (a.now ≡ b.now) }
-{
-    a == b
-}
+/// Nodes of one frame say the same whatever bytes they were read from, where each table is given with all that lies inside it
+/// and its keys ascend.
+#[tactic(auto, using(crate::proofs::SameNodes::same_nodes))]
+pub fn one_frame_has_same_nodes()
+    ensures { OneFrameHasSameNodes }
+{}
 
-/// What was read of two payloads is equal exactly where it says the same.
-#[tactic(auto, using(crate::proofs::EqualNodes::same_read))]
-pub fn equal_fields_read(a: &FieldsRead, b: &FieldsRead) -> bool
-    ensures { IsTrue result ↔ (a.now ≡ b.now) }
-{
-    a == b
-}
-
-/// Two errors are equal exactly where they are the same.
-pub fn equal_fields_errors(a: &FieldsError, b: &FieldsError) -> bool
-    ensures { IsTrue result ↔ (a.now ≡ b.now) }
-{
-    a == b
-}
-
-/// Two heads are equal exactly where all members are.
-#[tactic(auto, using(crate::proofs::EqualNodes::same_head))]
-pub fn equal_heads(a: &Head, b: &Head) -> bool
-    ensures { IsTrue result ↔ (a.now ≡ b.now) }
-{
-    a == b
-}
-
-/// What comes after the frames that were read is equal exactly where it is the same.
-pub fn equal_frames_ends(a: &FramesEnd, b: &FramesEnd) -> bool
-    ensures { IsTrue result ↔ (a.now ≡ b.now) }
-{
-    a == b
-}
-
-/// What was read of two pieces of bytes is equal exactly where it says the same.
-#[tactic(auto, using(crate::proofs::EqualNodes::same_frames_read))]
-pub fn equal_frames_read(a: &FramesRead, b: &FramesRead) -> bool
-    ensures { IsTrue result ↔ (a.now ≡ b.now) }
-{
-    a == b
-}
+/// What was read with all that lies inside tables, and is written and so read again, has the same nodes where the keys of each
+/// table ascend: the same kinds, places and numbers, the same nodes inside, and keys and spans of the same bytes.
+#[tactic(auto, using(crate::proofs::WrittenAgain::read_again))]
+pub fn read_again_is_same()
+    ensures { ReadAgainIsSame }
+{}

@@ -3,6 +3,8 @@
 
 mod contents;
 mod counting;
+mod decoding;
+mod equality;
 mod fields;
 mod frames;
 mod head;
@@ -12,6 +14,10 @@ mod making;
 mod making_fields;
 mod making_frames;
 mod making_values;
+mod measuring;
+mod measuring_fields;
+mod measuring_frames;
+mod measuring_values;
 mod node;
 mod node_groups;
 mod numbers;
@@ -23,12 +29,16 @@ mod values;
 
 pub use contents::{read_entries, read_values};
 pub use counting::count_fields;
+pub use equality::{
+    equal_fields_errors, equal_fields_read, equal_frames_ends, equal_frames_read, equal_heads,
+    equal_nodes, equal_write_errors, equal_write_refusals,
+};
 pub use frames::{FramesEnd, FramesRead, least_length, read_frames};
 pub use head::{CANONICAL, Head, TIDY};
 pub use laws::{
-    equal_fields_errors, equal_fields_read, equal_frames_ends, equal_frames_read, equal_heads,
-    equal_nodes, equal_write_errors, equal_write_refusals, heads_mean_one, heads_say_the_front,
-    last_entries_win, read_nodes_are_meant, spans_lie_within,
+    canonical_where_keys_ascend, heads_mean_one, heads_say_the_front, last_entries_win,
+    one_frame_has_same_nodes, read_again_is_same, read_is_written_again, read_nodes_are_meant,
+    spans_lie_within,
 };
 pub use making::{write_entries, write_frames, write_values};
 pub use node::{FLAG, LONG, LONG_LONG, LONG_STRING, Node, OCTET, SHORT, SHORT_STRING, TABLE};

@@ -7,6 +7,7 @@ ghost use Rattle.amqp_fields.specs.Listing.{Grows, listing};
 use crate::node::Node;
 
 /// Puts a node at a place, where the list has it.
+#[inline(always)]
 #[tactic(auto, using(crate::proofs::Pushing::set_beyond))]
 pub(crate) fn put(nodes: &mut [Node], place: u32, node: Node)
     ensures { nodes.new ≡ set nodes.old place node }
@@ -18,6 +19,7 @@ pub(crate) fn put(nodes: &mut [Node], place: u32, node: Node)
 }
 
 /// Puts one more node where the list has room for it, and returns how many there are.
+#[inline(always)]
 #[tactic(auto, unfolding(crate::specs::Listing::pushed))]
 pub(crate) fn push(nodes: &mut [Node], count: u32, node: Node) -> u32
     ensures { Grows (listing nodes.old count) (listing nodes.new result) (node ∷ []) }
@@ -55,6 +57,7 @@ pub(crate) fn one_more(items: u32) -> u32
 }
 
 /// Says in the node of a table or an array, at its place, what fills it after the nodes that stood there when it was begun.
+#[inline(always)]
 pub(crate) fn close(nodes: &mut [Node], place: u32, begun: u32, node: Node, filled: Filled)
     ensures { nodes.new ≡ set nodes.old place (held node (filled.count - begun) filled.items) }
 {

@@ -1,5 +1,5 @@
-//! Writing frames and contents that heads and nodes mean, without memory. Each is made twice: first into no buffer at all,
-//! which tests and measures it, and then into the caller's.
+//! Writing frames and contents that heads and nodes mean, without memory. Each is gone through twice: it is tested and
+//! measured, and then put into the caller's buffer.
 
 ghost use Rattle.std.specs.Prelude.{◌≡◌, ◌∷◌, List, None, Some, length, IfOk, IfSome};
 ghost use Rattle.amqp_types.specs.Levels.{plain};
@@ -7,13 +7,15 @@ ghost use Rattle.amqp_types.specs.Values.{Entry, FieldValue};
 ghost use Rattle.amqp_wire.specs.Frames.{Frame};
 ghost use Rattle.amqp_wire.specs.Spelling.{SpellsFrames};
 ghost use Rattle.amqp_fields.specs.MadeFrames.{made_frames};
-ghost use Rattle.amqp_fields.specs.Makes.{Makes};
+ghost use Rattle.amqp_fields.specs.Makes.{Makes, Measures};
 ghost use Rattle.amqp_fields.specs.Making.{EncodesEntries, EncodesFrames, EncodesOrIsLong, EncodesValues, SpellsEntries, SpellsValues, TellEntries, TellValues, Writes, made_entries, made_values};
 ghost use Rattle.amqp_fields.specs.Meant.{TellFrames};
 
 use crate::head::Head;
 use crate::making_frames::make_frame;
 use crate::making_values::{make_entries, make_values};
+use crate::measuring_frames::measure_frame;
+use crate::measuring_values::{measure_entries, measure_values};
 use crate::node::Node;
 use crate::putting::plus;
 use crate::refusals::{Refusal, WriteError};
@@ -40,6 +42,31 @@ fn first_head(heads: &[Head]) -> Option<(Head, &[Head])>
         [] => None,
         [head, others @ ..] => Some((*head, others)),
     }
+}
+
+/// How many bytes frames have, one after another, or the greatest number.
+fn measure_frames(
+    pool: &[u8],
+    nodes: &[Node],
+    heads: &[Head],
+    max_payload: u32,
+) -> Result<usize, WriteError>
+    ensures { Measures (made_frames pool.now nodes.now max_payload 0 heads.now) result }
+{
+    let mut rest = heads;
+    let mut size = 0;
+    while !rest.is_empty() {
+        let (head, others) = match first_head(rest) {
+            Some(found) => found,
+            None => return Ok(size),
+        };
+        match measure_frame(pool, nodes, head, max_payload) {
+            Ok(n) => size = plus(size, n),
+            Err(bad) => return Err(within(heads.len() - rest.len(), bad)),
+        }
+        rest = others;
+    }
+    Ok(size)
 }
 
 /// Frames one after another, from the front of a buffer on, as far as it has room. Returns how many bytes they have, or the
@@ -69,7 +96,7 @@ fn make_frames(
     Ok(made)
 }
 
-/// Writes frames, or says why not. A function of its own for the proof.
+/// Writes frames, or says why not. Split for the proof.
 fn fill_frames(
     out: &mut [u8],
     pool: &[u8],
@@ -79,7 +106,7 @@ fn fill_frames(
 ) -> Result<usize, WriteError>
     ensures { Writes (made_frames pool.now nodes.now max_payload 0 heads.now) out.old out.new result }
 {
-    let needed = match make_frames(&mut [], pool, nodes, heads, max_payload) {
+    let needed = match measure_frames(pool, nodes, heads, max_payload) {
         Ok(needed) => needed,
         Err(error) => return Err(error),
     };
@@ -92,10 +119,10 @@ fn fill_frames(
 }
 
 /// Writes the frames that heads and nodes mean, one after another, and returns how many bytes they have. Reserved fields
-/// stand at their constants, and entries in the order of their nodes: what is written is canonical where the keys of each
-/// table ascend. Spans lie in the pool. A table or an array is its nodes, or where nothing lies inside it, content that stands
-/// in the pool as bytes. The first head or node that is refused is said, from left to right, and then nothing is written. No
-/// memory is taken, and the time is linear.
+/// stand at their constants, and entries in the order of their nodes. Spans lie in the pool. A table or an array is its nodes,
+/// or where nothing lies inside it, content that stands in the pool as bytes: what is written is canonical where the keys of
+/// each table ascend and such content is canonical (`canonical_where_keys_ascend`). The first head or node that is refused is
+/// said, from left to right, and then nothing is written. No memory is taken, and the time is linear.
 #[tactic(auto, using(crate::proofs::Encoding::frames_encoded, crate::proofs::Encoding::frames_complete))]
 pub fn write_frames(
     heads: &[Head],
@@ -115,6 +142,16 @@ pub fn write_frames(
     fill_frames(out, pool, nodes, heads, max_payload)
 }
 
+/// How many bytes entries have, one after another, or the greatest number.
+fn measure_all_entries(nodes: &[Node], pool: &[u8]) -> Result<usize, WriteError>
+    ensures { Measures (made_entries pool.now nodes.now) result }
+{
+    match measure_entries(pool, nodes.len(), nodes, INNER_DEPTH) {
+        Ok(n) => Ok(n),
+        Err(bad) => Err(within(0, bad)),
+    }
+}
+
 /// Entries one after another, from the front of a buffer on, as far as it has room.
 fn make_all_entries(buf: &mut [u8], nodes: &[Node], pool: &[u8]) -> Result<usize, WriteError>
     ensures { Makes (made_entries pool.now nodes.now) buf.old buf.new 0 result }
@@ -125,11 +162,11 @@ fn make_all_entries(buf: &mut [u8], nodes: &[Node], pool: &[u8]) -> Result<usize
     }
 }
 
-/// Writes entries, or says why not. A function of its own for the proof.
+/// Writes entries, or says why not. Split for the proof.
 fn fill_entries(out: &mut [u8], nodes: &[Node], pool: &[u8]) -> Result<usize, WriteError>
     ensures { Writes (made_entries pool.now nodes.now) out.old out.new result }
 {
-    let needed = match make_all_entries(&mut [], nodes, pool) {
+    let needed = match measure_all_entries(nodes, pool) {
         Ok(needed) => needed,
         Err(error) => return Err(error),
     };
@@ -153,6 +190,16 @@ pub fn write_entries(nodes: &[Node], pool: &[u8], out: &mut [u8]) -> Result<usiz
     fill_entries(out, nodes, pool)
 }
 
+/// How many bytes values have, one after another, or the greatest number.
+fn measure_all_values(nodes: &[Node], pool: &[u8]) -> Result<usize, WriteError>
+    ensures { Measures (made_values pool.now nodes.now) result }
+{
+    match measure_values(pool, nodes.len(), nodes, INNER_DEPTH) {
+        Ok(n) => Ok(n),
+        Err(bad) => Err(within(0, bad)),
+    }
+}
+
 /// Values one after another, from the front of a buffer on, as far as it has room.
 fn make_all_values(buf: &mut [u8], nodes: &[Node], pool: &[u8]) -> Result<usize, WriteError>
     ensures { Makes (made_values pool.now nodes.now) buf.old buf.new 0 result }
@@ -163,11 +210,11 @@ fn make_all_values(buf: &mut [u8], nodes: &[Node], pool: &[u8]) -> Result<usize,
     }
 }
 
-/// Writes values, or says why not. A function of its own for the proof.
+/// Writes values, or says why not. Split for the proof.
 fn fill_values(out: &mut [u8], nodes: &[Node], pool: &[u8]) -> Result<usize, WriteError>
     ensures { Writes (made_values pool.now nodes.now) out.old out.new result }
 {
-    let needed = match make_all_values(&mut [], nodes, pool) {
+    let needed = match measure_all_values(nodes, pool) {
         Ok(needed) => needed,
         Err(error) => return Err(error),
     };

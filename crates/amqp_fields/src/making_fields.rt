@@ -66,7 +66,8 @@ fn make_form(
 }
 
 /// Whether a node is of the kind and at the place of a field.
-fn is_field(place: u8, form: Form, node: Node) -> bool
+#[inline(always)]
+pub(crate) fn is_field(place: u8, form: Form, node: Node) -> bool
     ensures { result ≡ is_field place (form_of form) node }
 {
     node.kind == kind_of(form) && node.place == place
@@ -95,6 +96,7 @@ fn make_field(
 }
 
 /// Whether a node is a flag at a place.
+#[inline(always)]
 fn is_flag(place: u8, node: Node) -> bool
     ensures { result ≡ is_flag place node }
 {
@@ -102,7 +104,7 @@ fn is_flag(place: u8, node: Node) -> bool
 }
 
 /// The byte of so many flags, at places from one on, which are the first of these nodes.
-fn flags_byte(end: usize, place: u8, count: u8, nodes: &[Node]) -> Result<u8, Refusal>
+pub(crate) fn flags_byte(end: usize, place: u8, count: u8, nodes: &[Node]) -> Result<u8, Refusal>
     requires few { count ≤ 8 }
     ensures { MakesFlags (flags_in end place count nodes.now) count result }
 {
@@ -164,6 +166,7 @@ fn make_slot(
 }
 
 /// How many nodes the first one is with those inside it.
+#[inline(always)]
 fn group_size(nodes: &[Node]) -> usize
     ensures { result ≡ group_size nodes.now }
 {
@@ -174,7 +177,8 @@ fn group_size(nodes: &[Node]) -> usize
 }
 
 /// How many of these nodes a field has, with those inside them.
-fn node_count(slot: Slot, nodes: &[Node]) -> usize
+#[inline(always)]
+pub(crate) fn node_count(slot: Slot, nodes: &[Node]) -> usize
     ensures { result ≡ node_count (slot_of slot) nodes.now }
 {
     match slot {

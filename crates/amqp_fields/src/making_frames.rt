@@ -21,7 +21,8 @@ use amqp_types::{
 use amqp_wire::frame_head;
 
 /// The nodes of a head, where the list has them.
-fn nodes_of(nodes: &[Node], head: Head) -> Option<&[Node]>
+#[inline(always)]
+pub(crate) fn nodes_of(nodes: &[Node], head: Head) -> Option<&[Node]>
     ensures { option_copied result ≡ nodes_in nodes.now head }
 {
     let first = head.first as usize;
@@ -34,7 +35,8 @@ fn nodes_of(nodes: &[Node], head: Head) -> Option<&[Node]>
 }
 
 /// The place after the last node of a head.
-fn nodes_end(head: Head) -> usize
+#[inline(always)]
+pub(crate) fn nodes_end(head: Head) -> usize
     ensures { result ≡ head.first + head.nodes }
 {
     head.first as usize + head.nodes as usize
@@ -53,7 +55,7 @@ fn is_class(class: u16) -> bool
 
 /// Which of both ids is unknown, where there is no such method.
 #[tactic(auto, using(crate::proofs::FramesMade::class_known, crate::proofs::FramesMade::class_unknown))]
-fn unknown(class: u16) -> ParserError
+pub(crate) fn unknown(class: u16) -> ParserError
     ensures { result ≡ unknown_in (rows_of class) }
 {
     if is_class(class) {
@@ -139,7 +141,8 @@ fn make_header(
 }
 
 /// Whether a head has neither ids nor a body size.
-fn has_no_ids(head: Head) -> bool
+#[inline(always)]
+pub(crate) fn has_no_ids(head: Head) -> bool
     ensures { result ≡ has_no_ids head }
 {
     head.class_id == 0 && head.method_id == 0 && head.body_size == 0
@@ -267,7 +270,7 @@ fn make_typed(
 
 /// The numbers of a head are within the widths of their members.
 #[inline(always)]
-fn head_held(head: Head)
+pub(crate) fn head_held(head: Head)
     ensures { is_held head ≡ true }
 {
     short_held(head.channel);

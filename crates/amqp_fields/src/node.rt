@@ -104,13 +104,21 @@ pub(crate) fn cut_byte(n: usize) -> u8
     if n < 255 { n as u8 } else { 255 }
 }
 
+/// The place that is before these bytes, which end at a place of the payload.
+#[inline(always)]
+pub(crate) fn before(end: u32, rest: &[u8]) -> u32
+    ensures { result ≡ end - length rest.now }
+{
+    (end as usize).saturating_sub(rest.len()) as u32
+}
+
 /// The node with a span: some bytes that end at this place of the payload.
 #[inline(always)]
-pub(crate) fn spanned(label: Node, end: usize, content: &[u8]) -> Node
+pub(crate) fn spanned(label: Node, end: u32, content: &[u8]) -> Node
     ensures { result ≡ spanned label end content.now }
 {
     Node {
-        start: cut(end.saturating_sub(content.len())),
+        start: cut((end as usize).saturating_sub(content.len())),
         length: cut(content.len()),
         ..label
     }
@@ -118,11 +126,11 @@ pub(crate) fn spanned(label: Node, end: usize, content: &[u8]) -> Node
 
 /// The node with the span of a key: some bytes that end at this place of the payload.
 #[inline(always)]
-pub(crate) fn keyed(end: usize, key: &[u8]) -> Node
+pub(crate) fn keyed(end: u32, key: &[u8]) -> Node
     ensures { result ≡ keyed end key.now }
 {
     Node {
-        key_start: cut(end.saturating_sub(key.len())),
+        key_start: cut((end as usize).saturating_sub(key.len())),
         key_length: cut_byte(key.len()),
         ..Node::default()
     }

@@ -27,6 +27,7 @@ pub(crate) fn first_group(nodes: &[Node]) -> Option<(Node, &[Node], &[Node])>
 }
 
 /// The nodes after so many.
+#[inline(always)]
 pub(crate) fn nodes_from(nodes: &[Node], count: usize) -> &[Node]
     ensures { result.now ≡ drop count nodes.now }
 {

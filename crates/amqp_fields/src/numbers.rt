@@ -1,13 +1,14 @@
 //! The nodes of numbers, strings and byte arrays.
 
-ghost use Rattle.std.specs.Prelude.{◌≤◌, length, drop, IfSome};
+ghost use Rattle.std.specs.Prelude.{◌≡◌, ◌≤◌, ◌+◌, length, None, IfSome};
 ghost use Rattle.amqp_types.specs.Numbers.{bytes1, bytes2, bytes4, bytes8};
 ghost use Rattle.amqp_types.specs.Strings.{judge_short_string, judge_long_string};
+ghost use Rattle.amqp_canonical.specs.Writes.{IsRead, key_in, after_key};
 ghost use Rattle.amqp_fields.specs.Finding.{FindsContent, Lists};
 ghost use Rattle.amqp_fields.specs.Listed.{listed_boolean, listed_decimal, listed_number, listed_signed, listed_span};
 
 use crate::listing::{Step, push};
-use crate::node::{Node, spanned};
+use crate::node::{Node, before, spanned};
 use amqp_canonical::{bytes_from, split_key};
 use amqp_types::parse_long_bytes;
 
@@ -23,7 +24,28 @@ pub(crate) fn split_long(i: &[u8]) -> Option<(usize, &[u8])>
     }
 }
 
+/// What a length of 1 byte covers at the front, and what stands after it.
+#[inline(always)]
+pub(crate) fn split_short(i: &[u8]) -> Option<(&[u8], &[u8])>
+    ensures key { IfSome result (λ found. found.0.now ≡ key_in i.now) }
+    ensures rest { IfSome result (λ found. found.1.now ≡ after_key i.now) }
+    ensures size { IfSome result (λ found. 1 + (length found.0.now + length found.1.now) ≡ length i.now) }
+    ensures none { result ≡ None → IsRead (judge_short_string i.now) → ⊥ }
+{
+    match i {
+        [] => None,
+        [n, rest @ ..] => {
+            let n = *n as usize;
+            if n > rest.len() {
+                return None;
+            }
+            Some((&rest[..n], &rest[n..]))
+        }
+    }
+}
+
 /// An unsigned number of 1 byte.
+#[inline(always)]
 pub(crate) fn list_octet(nodes: &mut [Node], count: u32, label: Node, i: &[u8]) -> Step
     ensures listed { Lists (listed_number bytes1 label i.now) nodes.old count nodes.new result }
     ensures used { result.used ≤ length i.now }
@@ -45,6 +67,7 @@ pub(crate) fn list_octet(nodes: &mut [Node], count: u32, label: Node, i: &[u8]) 
 }
 
 /// An unsigned number of 2 bytes.
+#[inline(always)]
 pub(crate) fn list_short(nodes: &mut [Node], count: u32, label: Node, i: &[u8]) -> Step
     ensures listed { Lists (listed_number bytes2 label i.now) nodes.old count nodes.new result }
     ensures used { result.used ≤ length i.now }
@@ -60,6 +83,7 @@ pub(crate) fn list_short(nodes: &mut [Node], count: u32, label: Node, i: &[u8]) 
 }
 
 /// A signed number of 2 bytes.
+#[inline(always)]
 pub(crate) fn list_signed_short(nodes: &mut [Node], count: u32, label: Node, i: &[u8]) -> Step
     ensures listed { Lists (listed_signed bytes2 label i.now) nodes.old count nodes.new result }
     ensures used { result.used ≤ length i.now }
@@ -75,18 +99,19 @@ pub(crate) fn list_signed_short(nodes: &mut [Node], count: u32, label: Node, i: 
 }
 
 /// A short string.
+#[inline(always)]
 #[tactic(auto, using(crate::proofs::Strings::short_listed))]
 pub(crate) fn list_short_string(
     nodes: &mut [Node],
     count: u32,
-    end: usize,
+    end: u32,
     label: Node,
     i: &[u8],
 ) -> Step
     ensures { Lists (listed_span judge_short_string end label i.now) nodes.old count nodes.new result }
 {
     let (text, rest) = split_key(i);
-    let node = spanned(label, end.saturating_sub(rest.len()), text);
+    let node = spanned(label, before(end, rest), text);
     let count = push(nodes, count, node);
     Step {
         used: 1 + text.len(),
@@ -95,11 +120,12 @@ pub(crate) fn list_short_string(
 }
 
 /// A long string or a byte array.
+#[inline(always)]
 #[tactic(auto, using(crate::proofs::Strings::long_listed, crate::proofs::Strings::unlisted))]
 pub(crate) fn list_long_string(
     nodes: &mut [Node],
     count: u32,
-    end: usize,
+    end: u32,
     label: Node,
     i: &[u8],
 ) -> Step
@@ -109,7 +135,7 @@ pub(crate) fn list_long_string(
     match split_long(i) {
         Some((used, content)) => {
             let rest = bytes_from(i, used);
-            let node = spanned(label, end.saturating_sub(rest.len()), content);
+            let node = spanned(label, before(end, rest), content);
             let count = push(nodes, count, node);
             Step { used, count }
         }
@@ -118,6 +144,7 @@ pub(crate) fn list_long_string(
 }
 
 /// An unsigned number of 4 bytes.
+#[inline(always)]
 pub(crate) fn list_long(nodes: &mut [Node], count: u32, label: Node, i: &[u8]) -> Step
     ensures listed { Lists (listed_number bytes4 label i.now) nodes.old count nodes.new result }
     ensures used { result.used ≤ length i.now }
@@ -133,6 +160,7 @@ pub(crate) fn list_long(nodes: &mut [Node], count: u32, label: Node, i: &[u8]) -
 }
 
 /// An unsigned number of 8 bytes.
+#[inline(always)]
 pub(crate) fn list_long_long(nodes: &mut [Node], count: u32, label: Node, i: &[u8]) -> Step
     ensures listed { Lists (listed_number bytes8 label i.now) nodes.old count nodes.new result }
     ensures used { result.used ≤ length i.now }
@@ -148,6 +176,7 @@ pub(crate) fn list_long_long(nodes: &mut [Node], count: u32, label: Node, i: &[u
 }
 
 /// A signed number of 4 bytes.
+#[inline(always)]
 pub(crate) fn list_signed_long(nodes: &mut [Node], count: u32, label: Node, i: &[u8]) -> Step
     ensures listed { Lists (listed_signed bytes4 label i.now) nodes.old count nodes.new result }
     ensures used { result.used ≤ length i.now }
@@ -163,6 +192,7 @@ pub(crate) fn list_signed_long(nodes: &mut [Node], count: u32, label: Node, i: &
 }
 
 /// A signed number of 8 bytes.
+#[inline(always)]
 pub(crate) fn list_signed_long_long(nodes: &mut [Node], count: u32, label: Node, i: &[u8]) -> Step
     ensures listed { Lists (listed_signed bytes8 label i.now) nodes.old count nodes.new result }
     ensures used { result.used ≤ length i.now }
@@ -178,6 +208,7 @@ pub(crate) fn list_signed_long_long(nodes: &mut [Node], count: u32, label: Node,
 }
 
 /// A signed number of 1 byte.
+#[inline(always)]
 pub(crate) fn list_signed_octet(nodes: &mut [Node], count: u32, label: Node, i: &[u8]) -> Step
     ensures listed { Lists (listed_signed bytes1 label i.now) nodes.old count nodes.new result }
     ensures used { result.used ≤ length i.now }
@@ -193,6 +224,7 @@ pub(crate) fn list_signed_octet(nodes: &mut [Node], count: u32, label: Node, i: 
 }
 
 /// A truth value.
+#[inline(always)]
 pub(crate) fn list_boolean(nodes: &mut [Node], count: u32, label: Node, i: &[u8]) -> Step
     ensures listed { Lists (listed_boolean label i.now) nodes.old count nodes.new result }
     ensures used { result.used ≤ length i.now }
@@ -211,6 +243,7 @@ pub(crate) fn list_boolean(nodes: &mut [Node], count: u32, label: Node, i: &[u8]
 }
 
 /// A scale and an unsigned number.
+#[inline(always)]
 #[tactic(auto, unfolding(amqp_types::specs::ValueJudging::judge_decimal))]
 pub(crate) fn list_decimal(nodes: &mut [Node], count: u32, label: Node, i: &[u8]) -> Step
     ensures listed { Lists (listed_decimal label i.now) nodes.old count nodes.new result }

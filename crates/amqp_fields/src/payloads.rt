@@ -18,6 +18,7 @@ const VERSION: [Slot; 3] = [
 ];
 
 /// The shapes of the three numbers of a protocol header.
+#[inline(always)]
 pub(crate) fn version_shapes() -> &'static [Slot]
     ensures slots { slots_of result.now ≡ version_slots }
     ensures constants { have_constants result.now ≡ true }
@@ -27,7 +28,7 @@ pub(crate) fn version_shapes() -> &'static [Slot]
 
 /// The fields of a method, out of its payload.
 #[tactic(auto, using(crate::proofs::PayloadSteps::method_listed, crate::proofs::PayloadSteps::no_method, crate::proofs::PayloadSteps::no_ids))]
-fn list_method(nodes: &mut [Node], count: u32, deep: bool, end: usize, payload: &[u8]) -> u32
+fn list_method(nodes: &mut [Node], count: u32, deep: bool, end: u32, payload: &[u8]) -> u32
     ensures { Counts (listed_method deep end payload.now) nodes.old count nodes.new result }
 {
     match payload {
@@ -51,7 +52,7 @@ pub(crate) fn list_payload(
     count: u32,
     frame_type: AMQPFrameType,
     deep: bool,
-    end: usize,
+    end: u32,
     payload: &[u8],
 ) -> u32
     ensures { Counts (listed_payload frame_type deep end payload.now) nodes.old count nodes.new result }

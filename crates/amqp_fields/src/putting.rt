@@ -134,6 +134,7 @@ pub(crate) fn put_length(
 }
 
 /// The bytes of a span, where it lies within the pool.
+#[inline(always)]
 pub(crate) fn span(pool: &[u8], start: u32, count: u32) -> Option<&[u8]>
     ensures { option_copied result ≡ span_in pool.now start count }
 {

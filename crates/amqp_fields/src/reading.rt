@@ -3,10 +3,10 @@
 ghost use Rattle.std.specs.Prelude.{◌≡◌, ◌≤◌, ◌<◌, ◌^◌, length, IfErr, IfOk};
 ghost use Rattle.amqp_fields.specs.Reading.{HasNodes, ListsIn, RefusesFields, SaysLevels};
 
+use crate::decoding::decode;
 use crate::node::Node;
-use crate::payloads::list_payload;
 use amqp_types::{ParserError, are_bytes};
-use amqp_wire::{AMQPFrameType, AMQPRawFrame, judge_frame};
+use amqp_wire::{AMQPFrameType, AMQPRawFrame};
 
 /// What was read of a payload.
 #[derive(Clone, Copy, Debug, PartialEq, Eq)]
@@ -59,18 +59,19 @@ pub fn read_fields(
         channel_id: 0,
         payload,
     };
-    let judged = match judge_frame(raw) {
-        Ok(judged) => judged,
+    are_bytes(payload);
+    let end = payload.len() as u32;
+    let decoded = match decode(raw, nodes, 0, deep, end) {
+        Ok(decoded) => decoded,
         Err(error) => return Err(FieldsError::Payload(error)),
     };
-    are_bytes(payload);
-    let count = list_payload(nodes, 0, frame_type, deep, payload.len(), payload) as usize;
+    let count = decoded.count as usize;
     if count > nodes.len() {
         return Err(FieldsError::TooFew { needed: count });
     }
     Ok(FieldsRead {
         count,
-        canonical: judged.canonical,
-        tidy: judged.tidy,
+        canonical: decoded.judged.canonical,
+        tidy: decoded.judged.tidy,
     })
 }

@@ -1,40 +1,75 @@
 //! The nodes of values, arrays and tables, and of all that lies inside them.
 #![tactic(auto, using(crate::proofs::Stepping::listed_next), unfolding(crate::specs::Listed::listed_behind))]
 
-ghost use Rattle.std.specs.Prelude.{◌≤◌, ◌<◌, ◌+◌, length};
+ghost use Rattle.std.specs.Prelude.{◌≡◌, ◌≤◌, ◌<◌, length};
+ghost use Rattle.amqp_types.specs.Tags.{tag_at};
 ghost use Rattle.amqp_types.specs.ValueJudging.{filled};
 ghost use Rattle.amqp_fields.specs.Nodes.{blank};
 ghost use Rattle.amqp_fields.specs.Finding.{Lists, ListsAll};
 ghost use Rattle.amqp_fields.specs.Listed.{listed_array, listed_behind, listed_entry, listed_nested, listed_table, listed_value};
 
 use crate::listing::{Filled, Step, close, one_more, push};
-use crate::node::{Node, keyed, spanned};
+use crate::node::{Node, before, keyed, spanned};
 use crate::numbers::{
     list_boolean, list_decimal, list_long, list_long_long, list_long_string, list_octet,
     list_short, list_signed_long, list_signed_long_long, list_signed_octet, list_signed_short,
-    split_long,
+    split_long, split_short,
 };
-use amqp_canonical::{bytes_from, split_key};
-use amqp_types::FieldTag;
+use amqp_canonical::bytes_from;
+use amqp_types::{
+    FieldTag, TAG_BOOLEAN, TAG_BYTE_ARRAY, TAG_DECIMAL_VALUE, TAG_DOUBLE, TAG_FIELD_ARRAY,
+    TAG_FIELD_TABLE, TAG_FLOAT, TAG_LONG_INT, TAG_LONG_LONG_INT, TAG_LONG_LONG_INT_READ,
+    TAG_LONG_STRING, TAG_LONG_UINT, TAG_SHORT_INT, TAG_SHORT_INT_READ, TAG_SHORT_SHORT_INT,
+    TAG_SHORT_SHORT_UINT, TAG_SHORT_UINT, TAG_TIMESTAMP, TAG_VOID,
+};
+
+/// The kind that a tag byte stands for. `FieldTag::from_byte` returns the same, and is not inlined: here one jump goes from the
+/// byte to its arm.
+#[inline(always)]
+fn tag_of(byte: u8) -> Option<FieldTag>
+    ensures { result ≡ tag_at byte }
+{
+    match byte {
+        TAG_BOOLEAN => Some(FieldTag::Boolean),
+        TAG_SHORT_SHORT_INT => Some(FieldTag::ShortShortInt),
+        TAG_SHORT_SHORT_UINT => Some(FieldTag::ShortShortUInt),
+        TAG_SHORT_INT | TAG_SHORT_INT_READ => Some(FieldTag::ShortInt),
+        TAG_SHORT_UINT => Some(FieldTag::ShortUInt),
+        TAG_LONG_INT => Some(FieldTag::LongInt),
+        TAG_LONG_UINT => Some(FieldTag::LongUInt),
+        TAG_LONG_LONG_INT | TAG_LONG_LONG_INT_READ => Some(FieldTag::LongLongInt),
+        TAG_FLOAT => Some(FieldTag::Float),
+        TAG_DOUBLE => Some(FieldTag::Double),
+        TAG_DECIMAL_VALUE => Some(FieldTag::DecimalValue),
+        TAG_LONG_STRING => Some(FieldTag::LongString),
+        TAG_FIELD_ARRAY => Some(FieldTag::FieldArray),
+        TAG_TIMESTAMP => Some(FieldTag::Timestamp),
+        TAG_FIELD_TABLE => Some(FieldTag::FieldTable),
+        TAG_BYTE_ARRAY => Some(FieldTag::ByteArray),
+        TAG_VOID => Some(FieldTag::Void),
+        _ => None,
+    }
+}
 
 /// A value at the front. Tables and arrays may nest `depth_left` deep in it. It is put after `count` nodes, what is known
 /// of it is in `label`, and the bytes end at the place `end` of the payload.
+#[inline(always)]
 #[cycle(list)]
 pub(crate) fn list_value(
     nodes: &mut [Node],
     count: u32,
-    end: usize,
+    end: u32,
     label: Node,
     i: &[u8],
     depth_left: usize,
 ) -> Step
     ensures listed { Lists (listed_value depth_left end label i.now) nodes.old count nodes.new result }
-    ensures some { 0 < result.used }
-    ensures bound { result.used ≤ length i.now + 1 }
+    ensures some { 0 < length i.now → 0 < result.used }
+    ensures bound { result.used ≤ length i.now }
 {
     match i {
-        [] => Step { used: 1, count },
-        [byte, rest @ ..] => match FieldTag::from_byte(*byte) {
+        [] => Step { used: 0, count },
+        [byte, rest @ ..] => match tag_of(*byte) {
             Some(tag) => {
                 let label = Node {
                     kind: tag.to_byte(),
@@ -52,11 +87,12 @@ pub(crate) fn list_value(
 }
 
 /// The value after a tag.
+#[inline(always)]
 #[cycle(list)]
 fn list_after_tag(
     nodes: &mut [Node],
     count: u32,
-    end: usize,
+    end: u32,
     label: Node,
     tag: FieldTag,
     i: &[u8],
@@ -89,11 +125,12 @@ fn list_after_tag(
 }
 
 /// An array, in whose values tables and arrays may nest `depth_left` deep.
+#[inline(always)]
 #[cycle(list)]
 fn list_array(
     nodes: &mut [Node],
     count: u32,
-    end: usize,
+    end: u32,
     label: Node,
     i: &[u8],
     depth_left: usize,
@@ -103,7 +140,7 @@ fn list_array(
 {
     match split_long(i) {
         Some((used, content)) => {
-            let inner = end.saturating_sub(bytes_from(i, used).len());
+            let inner = before(end, bytes_from(i, used));
             let node = spanned(label, inner, content);
             let begun = push(nodes, count, node);
             let filled = list_values(nodes, begun, inner, content, depth_left);
@@ -118,11 +155,12 @@ fn list_array(
 }
 
 /// A table, in whose values tables and arrays may nest `depth_left` deep.
+#[inline(always)]
 #[cycle(list)]
 pub(crate) fn list_table(
     nodes: &mut [Node],
     count: u32,
-    end: usize,
+    end: u32,
     label: Node,
     i: &[u8],
     depth_left: usize,
@@ -132,7 +170,7 @@ pub(crate) fn list_table(
 {
     match split_long(i) {
         Some((used, content)) => {
-            let inner = end.saturating_sub(bytes_from(i, used).len());
+            let inner = before(end, bytes_from(i, used));
             let node = spanned(label, inner, content);
             let begun = push(nodes, count, node);
             let filled = list_entries(nodes, begun, inner, content, depth_left);
@@ -147,11 +185,12 @@ pub(crate) fn list_table(
 }
 
 /// The values that fill an array.
+#[inline(never)]
 #[cycle(list)]
 pub(crate) fn list_values(
     nodes: &mut [Node],
     count: u32,
-    end: usize,
+    end: u32,
     content: &[u8],
     depth_left: usize,
 ) -> Filled
@@ -164,17 +203,18 @@ pub(crate) fn list_values(
         let step = list_value(nodes, now, end, Node::default(), rest, depth_left);
         now = step.count;
         items = one_more(items);
-        rest = bytes_from(rest, step.used);
+        rest = &rest[step.used..];
     }
     Filled { items, count: now }
 }
 
 /// The entries that fill a table.
+#[inline(never)]
 #[cycle(list)]
 pub(crate) fn list_entries(
     nodes: &mut [Node],
     count: u32,
-    end: usize,
+    end: u32,
     content: &[u8],
     depth_left: usize,
 ) -> Filled
@@ -187,23 +227,31 @@ pub(crate) fn list_entries(
         let step = list_entry(nodes, now, end, rest, depth_left);
         now = step.count;
         items = one_more(items);
-        rest = bytes_from(rest, step.used);
+        rest = &rest[step.used..];
     }
     Filled { items, count: now }
 }
 
 /// An entry: its key and its value.
+#[inline(always)]
 #[cycle(list)]
-fn list_entry(nodes: &mut [Node], count: u32, end: usize, i: &[u8], depth_left: usize) -> Step
+fn list_entry(nodes: &mut [Node], count: u32, end: u32, i: &[u8], depth_left: usize) -> Step
     ensures listed { Lists (listed_entry (listed_value depth_left) end i.now) nodes.old count nodes.new result }
-    ensures some { 0 < result.used }
-    ensures bound { result.used ≤ length i.now + 2 }
+    ensures some { 0 < length i.now → 0 < result.used }
+    ensures bound { result.used ≤ length i.now }
 {
-    let (key, value) = split_key(i);
-    let label = keyed(end.saturating_sub(value.len()), key);
-    let step = list_value(nodes, count, end, label, value, depth_left);
-    Step {
-        used: 1 + key.len() + step.used,
-        count: step.count,
+    match split_short(i) {
+        Some((key, value)) => {
+            let label = keyed(before(end, value), key);
+            let step = list_value(nodes, count, end, label, value, depth_left);
+            Step {
+                used: 1 + key.len() + step.used,
+                count: step.count,
+            }
+        }
+        None => Step {
+            used: i.len(),
+            count,
+        },
     }
 }

@@ -39,11 +39,6 @@ no_frame raw error fault h = is_none raw error fault.0 (not_memory error fault.1
 pub faulty_by : (raw : Raw) (error : ParserError) → IsPayloadFault error → RefusesWhole error (whole raw) → IsFaultyBy raw (cause_of (payload_fault error))
 faulty_by raw error fault h = let none = no_frame raw error fault h in subst (IsFaultyBy raw) none.tells (is_faulty plain raw none.bad none.is_whole none.other)
 
-pub refuses_faulty : (raw : Raw) (other : ContentFault) (error : ParserError) → IsPayloadFault error → RefusesWhole error (whole raw) → RefusesFrame raw other (stopped_by (cause_of (payload_fault error)))
-refuses_faulty raw other error fault h =
-    let none = no_frame raw error fault h in
-    subst (λ cause. RefusesFrame raw other (stopped_by cause)) none.tells (is_faulty plain raw none.bad none.is_whole none.other)
-
 -- ---- what is returned
 
 pub method_wants : (kind : AMQPFrameType) → kind ≡ kinds.Method → IsTrue (is_method_type kind)

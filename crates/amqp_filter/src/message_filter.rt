@@ -6,8 +6,10 @@ use amqp_select::Rules;
 use amqp_stream::{
     Decision, FrameWriter, OutputBuffer, RunError, Sink, StreamError, payload_error, put_decided,
 };
-use amqp_turns::{ContentFault, Mark, Progress, step};
-use amqp_wire::{AMQPFrameType, AMQPRawFrame, FrameOutline, judge_frame, outline_front};
+use amqp_turns::{Mark, Progress, step};
+use amqp_wire::{
+    AMQPFrameType, AMQPRawFrame, FrameJudgement, FrameOutline, judge_frame, outline_raw,
+};
 use std::alloc::Global;
 
 /// Writes the canonical bytes of the messages whose openings rules keep, and of each other frame that they keep.
@@ -20,13 +22,13 @@ pub(crate) struct MessageFilter<'a> {
 impl<'a> MessageFilter<'a> {
     ghost use Rattle.std.specs.Prelude.{◌≡◌, Ok, Some, None, IsSome};
     ghost use Rattle.std.specs.FinMap as finite;
-    ghost use Rattle.amqp_wire.specs.Frames.{Frame, raw_of};
+    ghost use Rattle.amqp_wire.specs.Frames.{Frame, Raw, raw_of};
+    ghost use Rattle.amqp_wire.specs.Judgements.{IsJudged};
     ghost use Rattle.amqp_wire.specs.Outlines.{outline_of, outline_front};
     ghost use Rattle.amqp_wire.specs.Verdicts.{whole};
     ghost use Rattle.amqp_stream.specs.Decisions.{DecidesBy};
-    ghost use Rattle.amqp_stream.specs.Streaming.{error_ending};
     ghost use Rattle.amqp_filter.specs.Held.{held_with};
-    ghost use Rattle.amqp_filter.specs.Stepping.{filtering, held_at, with_held, JudgesKept, RefusesFrame, StepsTo};
+    ghost use Rattle.amqp_filter.specs.Stepping.{filtering, held_at, with_held, JudgesKept, StepsTo};
 
     /// A writer that has taken no frame.
     pub(crate) fn new(alloc: Global, rules: &'a Rules) -> MessageFilter<'a>
@@ -39,33 +41,29 @@ impl<'a> MessageFilter<'a> {
         }
     }
 
-    /// What is written for a whole frame: its canonical bytes, where it is kept. One that is dropped is judged all the same.
+    /// What is decided of a whole frame that was judged so: its canonical bytes are written, where it is kept.
     #[inline(always)]
-    fn judge(raw: AMQPRawFrame<'_>, kept: bool) -> Result<Decision, StreamError>
-        ensures { JudgesKept kept (raw_of raw.entry) result }
+    fn decision_of(judged: FrameJudgement, kept: bool) -> Decision
+        ensures { (raw : Raw) → IsJudged raw judged → JudgesKept kept raw (Ok result) }
     {
-        match judge_frame(raw) {
-            Ok(judged) if kept => Ok(Decision::Kept(judged)),
-            Ok(_) => Ok(Decision::Dropped),
-            Err(error) => Err(payload_error(error)),
-        }
-    }
-
-    /// Why a frame that is not in turn is refused: a fault of its payload comes first.
-    fn refuse(raw: AMQPRawFrame<'_>, fault: ContentFault) -> RunError<Refusal>
-        ensures { RefusesFrame (raw_of raw.entry) fault (error_ending result) }
-    {
-        match judge_frame(raw) {
-            Ok(_) => RunError::Refused(Refusal::BadContent(fault)),
-            Err(error) => RunError::Stream(payload_error(error)),
+        if kept {
+            Decision::Kept(judged)
+        } else {
+            Decision::Dropped
         }
     }
 
     /// Begins a message with its opening.
     #[inline(always)]
-    fn begin(&mut self, raw: AMQPRawFrame<'_>, kept: bool) -> Result<Decision, RunError<Refusal>>
+    fn begin(
+        &mut self,
+        raw: AMQPRawFrame<'_>,
+        kept: bool,
+        decision: Decision,
+    ) -> Result<Decision, RunError<Refusal>>
         requires method { raw.frame_type ≡ AMQPFrameType.Method }
         requires none { held_at self.old raw.channel_id ≡ None }
+        requires judged { JudgesKept kept (raw_of raw) (Ok decision) }
         requires steps { StepsTo self.old (with_held self.old raw.channel_id (held_with (Some Progress.Opened) kept)) (raw_of raw) kept }
         ensures { DecidesBy filtering self.old self.new (raw_of raw.entry) result }
     {
@@ -73,12 +71,9 @@ impl<'a> MessageFilter<'a> {
             progress: Progress::Opened,
             kept,
         };
-        match MessageFilter::judge(raw, kept) {
-            Err(error) => Err(RunError::Stream(error)),
-            Ok(decision) => match self.messages.begin(raw.channel_id, message) {
-                Err(_) => Err(RunError::Stream(StreamError::NoMemory)),
-                Ok(()) => Ok(decision),
-            },
+        match self.messages.begin(raw.channel_id, message) {
+            Err(_) => Err(RunError::Stream(StreamError::NoMemory)),
+            Ok(()) => Ok(decision),
         }
     }
 
@@ -89,28 +84,27 @@ impl<'a> MessageFilter<'a> {
         raw: AMQPRawFrame<'_>,
         progress: Option<Progress>,
         kept: bool,
+        decision: Decision,
     ) -> Result<Decision, RunError<Refusal>>
         requires there { IsSome (held_at self.old raw.channel_id) }
+        requires judged { JudgesKept kept (raw_of raw) (Ok decision) }
         requires steps { StepsTo self.old (with_held self.old raw.channel_id (held_with progress kept)) (raw_of raw) kept }
         ensures { DecidesBy filtering self.old self.new (raw_of raw.entry) result }
     {
-        match MessageFilter::judge(raw, kept) {
-            Err(error) => Err(RunError::Stream(error)),
-            Ok(decision) => {
-                self.messages
-                    .replace(raw.channel_id, message_with(progress, kept));
-                Ok(decision)
-            }
-        }
+        self.messages
+            .replace(raw.channel_id, message_with(progress, kept));
+        Ok(decision)
     }
 
-    /// Takes a frame by its mark.
+    /// Takes a whole frame by its mark.
     #[inline(always)]
     fn decide_outlined(
         &mut self,
         raw: AMQPRawFrame<'_>,
+        judged: FrameJudgement,
         outline: FrameOutline,
     ) -> Result<Decision, RunError<Refusal>>
+        requires judged { IsJudged (raw_of raw) judged }
         requires front { outline ≡ outline_front (raw_of raw) }
         requires whole { (frame : Frame) → whole (raw_of raw) ≡ Ok frame → Some outline ≡ Some (outline_of frame) }
         ensures { DecidesBy filtering self.old self.new (raw_of raw.entry) result }
@@ -118,31 +112,31 @@ impl<'a> MessageFilter<'a> {
         let held = self.messages.get(raw.channel_id);
         let stepped = step(u64::MAX, progress_of(held), outline);
         match stepped.0 {
-            Mark::Fault(fault) => Err(MessageFilter::refuse(raw, fault)),
-            Mark::Passed => match MessageFilter::judge(raw, self.rules.decide_outline(outline)) {
-                Ok(decision) => Ok(decision),
-                Err(error) => Err(RunError::Stream(error)),
-            },
+            Mark::Fault(fault) => Err(RunError::Refused(Refusal::BadContent(fault))),
+            Mark::Passed => {
+                let kept = self.rules.decide_outline(outline);
+                Ok(MessageFilter::decision_of(judged, kept))
+            }
             Mark::Opening => {
                 let kept = self.rules.decide_outline(outline);
-                self.begin(raw, kept)
+                self.begin(raw, kept, MessageFilter::decision_of(judged, kept))
             }
-            Mark::Header | Mark::Body { .. } => self.go_on(raw, stepped.1, is_kept(held)),
+            Mark::Header | Mark::Body { .. } => {
+                let kept = is_kept(held);
+                let decision = MessageFilter::decision_of(judged, kept);
+                self.go_on(raw, stepped.1, kept, decision)
+            }
         }
     }
 
-    /// Takes a frame.
+    /// Takes a frame: a fault of its payload comes first.
     #[inline(always)]
     fn decide(&mut self, raw: AMQPRawFrame<'_>) -> Result<Decision, RunError<Refusal>>
         ensures { DecidesBy filtering self.old self.new (raw_of raw.entry) result }
     {
-        match outline_front(raw) {
-            Some(outline) => self.decide_outlined(raw, outline),
-            // Only a payload that has a fault has no outline.
-            None => match judge_frame(raw) {
-                Err(error) => Err(RunError::Stream(payload_error(error))),
-                Ok(_) => unreachable!(),
-            },
+        match judge_frame(raw) {
+            Err(error) => Err(RunError::Stream(payload_error(error))),
+            Ok(judged) => self.decide_outlined(raw, judged, outline_raw(raw)),
         }
     }
 }

@@ -10,7 +10,7 @@ use amqp_canonical::{header_parts, method_parts};
 use amqp_types::{ChannelId, Identifier, ParserError, PayloadSize};
 use amqp_wire::{AMQPFrameType, AMQPRawFrame, ProtocolVersion, judge_frame};
 
-/// A frame whose payload is borrowed where it is more than numbers.
+/// A lent frame: it owns no memory, since its payload is borrowed where it is more than numbers.
 #[derive(Clone, Copy, Debug, PartialEq, Eq)]
 pub enum LentFrame<'a> {
     /// A protocol header, which has no channel.

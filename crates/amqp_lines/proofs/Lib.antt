@@ -2,8 +2,6 @@
 pub mod Digits
 pub mod Rendered
 pub mod RenderedSlots
-pub mod RenderedBack
-pub mod SlotsBack
 pub mod Lining
 pub mod Borrowed
 pub mod Dumps

@@ -16,6 +16,7 @@ use Rattle.amqp_types.specs.ValueSpelling.{SpellsEach, SpellsEntry, SpellsDecima
 use Rattle.amqp_laws.proofs.Conversions.{entries_of-pairs, pairs-entries_of}
 use Rattle.amqp_lines.specs.Words.{hex, quoted, parted}
 use Rattle.amqp_lines.specs.Values.{tag_text, truth_text, content_text, values_texts, entries_texts, value_text, table_text}
+use Rattle.amqp_lines.specs.Rendering.{entry_text}
 use Rattle.amqp_types.specs.Reading.{Reader, ◌>>=◌}
 use Rattle.amqp_lines.specs.Reading.{is_hex, is_digit, read_unsigned, read_truth, read_decimal, read_byte_array, listed, inside, or_comma, framed_long, read_entry, read_array, read_table, read_behind, read_tagged, read_nested, read_value}
 use Rattle.amqp_lines.proofs.ReadWords.{Ends, IsReadAs, Begins, begins_more, listed_end, listed_comma, listed_item, no_comma, bytes_behind, bytes_front, framed_back, long_content, number_back, signed_back, hex_back, long_string_back, short_string_back}
@@ -62,10 +63,6 @@ module _ {A : Type 0} (item : Reader (List ℕ)) (Spells : List ℕ → A → Ty
       let few : length words < fuel = omega (arith, length-append (words ++ close ∷ []) rest, length-append words (close ∷ [])) in
       ap (λ r. r >>= framed_long) (ap (listed (or_comma item) close fuel) (append_assoc words (close ∷ []) rest) ∙ each_back xs fuel inner rest (long_content bytes inner framed fits) each few)
       ∙ framed_back bytes inner rest framed
-
--- a key and its value
-unfoldable pub entry_text : Entry → List ℕ
-entry_text e = quoted e.0 ++ (codes "=" ++ value_text e.1)
 
 equals_ends : is_hex 61 ≡ false
 unfolding is_hex is_digit

@@ -26,7 +26,7 @@ use Rattle.amqp_types.specs.Reading.{◌>>=◌}
 use Rattle.amqp_lines.specs.Reading.{is_hex, is_digit, read_unsigned, read_signs, read_flags, read_short_string, read_long_string, read_table, read_value, read_form, read_slot, read_slots, strip, named, read_option, read_set, read_properties}
 use Rattle.amqp_lines.proofs.ReadWords.{Ends, IsReadAs, bytes_behind, bytes_front, number_back, long_string_back, short_string_back, signs_back}
 use Rattle.amqp_lines.proofs.ReadBack.{field_table_back}
-use Rattle.amqp_lines.proofs.SlotsBack.{one_text, plain_form}
+use Rattle.amqp_lines.proofs.RenderedSlots.{one_text, plain_form}
 use Rattle.amqp_laws.proofs.Options.{counted_one}
 
 -- ---- one field

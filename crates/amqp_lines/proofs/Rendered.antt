@@ -1,23 +1,36 @@
--- What bytes are rendered as, step by step.
-use Rattle.std.proofs.Common.{◌≡◌, ℕ, zero, suc, ◌+◌, ◌-◌, ◌<◌, ◌≤◌, List, [], ◌∷◌, ◌++◌, length, get_or, take, drop, Option, Some, None, Result, Ok, Err, refl, sym, ap, subst, ◌∙◌, append_assoc, append-nil, add-one, one-add, arith}
-use Rattle.std.specs.Prelude.{codes, nat_lt}
-use Rattle.std.specs.Str.{is_utf8}
-use Rattle.std.proofs.Math.Seq.{drop-nil}
-use Rattle.std.proofs.lemmas.Bool.Decides.{nat_tests}
-use Rattle.std.proofs.lemmas.List.{length-take-le, nil_from_length}
-use Rattle.amqp_types.proofs.Took.{guard_took, test_took, value_took, count_took}
-use Rattle.amqp_types.specs.declared.tag.FieldTag.TheVariants as tag
-use Rattle.amqp_types.specs.Judging.{Judged, Judge, Fault, took, past, fault, not_utf8, ◌>>=◌}
+-- What calls write of the canonical bytes of values, step by step.
+use Rattle.std.proofs.Common.{◌≡◌, ℕ, ℤ, zero, suc, ◌+◌, ◌-◌, ◌<◌, ◌≤◌, List, [], ◌∷◌, ◌++◌, length, get_or, drop, map, Bool, true, false, Option, Some, None, Result, Ok, Err, refl, sym, ap, subst, ◌∙◌, append_assoc, append-nil, arith, inl}
+use Rattle.std.specs.Prelude.{codes}
+use Rattle.std.specs.Fmt.{decimal, signed_decimal}
+use Rattle.std.proofs.lemmas.List.{length-append, take_at, drop_at, nil_from_length}
+use Rattle.amqp_types.specs.Levels.{plain, strict}
+use Rattle.amqp_types.specs.Judging.{Judged, Judge, IsExact, took, past, fault, ◌>>=◌}
 use Rattle.amqp_types.specs.Sequences.{judge_map}
-use Rattle.amqp_types.specs.Strings.{judge_short_string, judge_long_string}
-use Rattle.amqp_types.specs.ValueJudging.{filled, next_item, read_map, took_all}
-use Rattle.amqp_types.specs.Tags.{tag_at}
+use Rattle.amqp_types.specs.Numbers.{NumberWidth, bytes1, bytes2, bytes4, bytes8, judge_number, SpellsNumber}
+use Rattle.amqp_types.specs.Signed.{judge_signed, SpellsSigned}
+use Rattle.amqp_types.specs.Booleans.{judge_boolean, SpellsBoolean}
+use Rattle.amqp_types.specs.Strings.{judge_long_string, SpellsShortString, SpellsLongString}
+use Rattle.amqp_types.specs.Values.{FieldValue, Entry, short_short_int, short_int, long_int, long_long_int, short_short_uint, short_uint, long_uint, float, double, timestamp, long_string, byte_array, boolean_value, signed_value, unsigned_value, decimal_value, bytes_value, array_value, table_value, void_value, items, pairs, entries_of}
+use Rattle.amqp_types.specs.ValueJudging.{judge_decimal}
+use Rattle.amqp_types.specs.ValueSpelling.{SpellsEach, SpellsEntry, SpellsDecimal, SpellsArray, SpellsTable, SpellsBehind, SpellsTagged, SpellsValue}
+use Rattle.amqp_types.specs.Tags.{tag_at, tag_of}
 use Rattle.amqp_types.specs.declared.tag.FieldTag.{FieldTag}
-use Rattle.amqp_canonical.specs.Writes.{IsRead, key_in, after_key}
+use Rattle.amqp_types.specs.declared.tag.FieldTag.TheVariants as tag
 use Rattle.amqp_types.specs.declared.errors.NoMemory.{NoMemory}
-use Rattle.amqp_lines.specs.Words.{quoted, parted}
-use Rattle.amqp_lines.specs.Values.{tag_text}
-use Rattle.amqp_lines.specs.Rendering.{Renders, RendersAll, comma_before, rendered_after, rendered_behind, rendered_entry, rendered_items, rendered_nested, rendered_table, rendered_tagged, rendered_value}
+use Rattle.amqp_types.proofs.Booleans.{boolean_laws}
+use Rattle.amqp_types.proofs.Numbers.{number_exact}
+use Rattle.amqp_types.proofs.Texts.{signed_exact, long_string_exact}
+use Rattle.amqp_types.proofs.Sequences.{map_taken}
+use Rattle.amqp_types.proofs.Took.{value_took, count_took}
+use Rattle.amqp_laws.proofs.Conversions.{entries_of-pairs, pairs-entries_of}
+use Rattle.amqp_laws.proofs.Filled.{HasBytes, entry_some}
+use Rattle.amqp_laws.proofs.Exactly.{value_some, decimal_exact}
+use Rattle.amqp_laws.proofs.Tags.{tag_read}
+use Rattle.amqp_canonical.specs.Writes.{IsRead, key_in, after_key}
+use Rattle.amqp_lines.specs.Words.{hex, quoted, parted}
+use Rattle.amqp_lines.specs.Values.{tag_text, truth_text, content_text, entries_texts, value_text, table_text}
+use Rattle.amqp_lines.specs.Rendering.{Renders, WritesText, WritesEach, WritesAfter, array_text, comma_before, decimal_text, entry_text}
+use Rattle.amqp_lines.proofs.ReadBack.{values_are, entries_are}
 
 -- where nothing was read, nothing needs to be rendered
 pub unrendered : {A : Type 0} (j : Judged A) (f : A × ℕ → Judged (List ℕ)) (old new : List ℕ) (r : Result ℕ NoMemory) → (IsRead j → ⊥) → Renders (j >>= f) old new r
@@ -28,242 +41,224 @@ unrendered (fault bad) f old new r h = tt
 pub rendered_next : {A : Type 0} (j : Judged A) (f : A × ℕ → Judged (List ℕ)) (old new : List ℕ) (r : Result ℕ NoMemory) (x : A) (n : ℕ) → j ≡ took x n → Renders (f (x, n)) old new r → Renders (j >>= f) old new r
 rendered_next j f old new r x n e h = let P : Judged _ → Type 0 = λ k. Renders (k >>= f) old new r in subst P (sym e) h
 
--- ---- room for nesting
+-- what is rendered of what decodes exactly is its text
+pub exactly : {A : Type 0} (judge : Judge A) (Spells : List ℕ → A → Type 0) (text : A → List ℕ) → IsExact judge Spells → (i old new : List ℕ) (r : Result ℕ NoMemory) → Renders (judge_map text judge i) old new r → WritesText Spells text i old new r
+exactly judge Spells text exact i old new (Err error) h = tt
+exactly judge Spells text exact i old new (Ok n) h = λ bytes rest x is spelled.
+    let P : Judged (List ℕ) → Type 0 = λ j. Renders j old new (Ok n) in
+    subst P (ap (judge_map text judge) is ∙ map_taken text judge Spells exact bytes rest x spelled) h
 
-pub nested_none : (room : ℕ) → room ≡ 0 → rendered_nested room ≡ None
-unfolding rendered_nested
-nested_none zero h = refl
-nested_none (suc room) h = absurd (omega arith)
+-- ---- what follows a tag
 
-pub nested_more : (room : ℕ) → 0 < room → rendered_nested room ≡ Some (rendered_value (room - 1))
-unfolding rendered_nested rendered_value
-nested_more zero h = absurd (omega arith)
-nested_more (suc room) h = ap (λ n. Some (rendered_tagged (rendered_nested n))) {x = room} {y = suc room - 1} (omega arith)
+-- the text of a value's content is written, in place of these bytes
+WritesContent : List ℕ → FieldValue → List ℕ → List ℕ → ℕ → Type 0
+WritesContent bytes v old new n = (n ≡ length bytes) × (new ≡ old ++ content_text v)
+
+number_after : (width : NumberWidth) (bytes rest : List ℕ) (k : ℕ) (old new : List ℕ) (n : ℕ) → Renders (judge_map decimal (judge_number width) (bytes ++ rest)) old new (Ok n) → SpellsNumber width bytes k → (n ≡ length bytes) × (new ≡ old ++ decimal k)
+number_after width bytes rest k old new n h s = exactly (judge_number width) (SpellsNumber width) decimal (number_exact width) (bytes ++ rest) old new (Ok n) h bytes rest k refl s
+
+signed_after : (width : NumberWidth) (bytes rest : List ℕ) (k : ℤ) (old new : List ℕ) (n : ℕ) → Renders (judge_map signed_decimal (judge_signed width) (bytes ++ rest)) old new (Ok n) → SpellsSigned width bytes k → (n ≡ length bytes) × (new ≡ old ++ signed_decimal k)
+signed_after width bytes rest k old new n h s = exactly (judge_signed width) (SpellsSigned width) signed_decimal (signed_exact width) (bytes ++ rest) old new (Ok n) h bytes rest k refl s
+
+string_after : (text : List ℕ → List ℕ) (bytes rest content old new : List ℕ) (n : ℕ) → Renders (judge_map text judge_long_string (bytes ++ rest)) old new (Ok n) → SpellsLongString bytes content → (n ≡ length bytes) × (new ≡ old ++ text content)
+string_after text bytes rest content old new n h s = exactly judge_long_string SpellsLongString text long_string_exact (bytes ++ rest) old new (Ok n) h bytes rest content refl s
+
+after_tag : (room : ℕ) (v : FieldValue) (bytes rest old new : List ℕ) (n : ℕ) → WritesAfter room (tag_of v) (bytes ++ rest) old new (Ok n) → SpellsBehind strict room (SpellsValue strict (room - 1)) bytes v → WritesContent bytes v old new n
+unfolding WritesAfter WritesContent array_text table_text
+after_tag room (boolean_value b) bytes rest old new n h s = exactly judge_boolean (SpellsBoolean plain) truth_text boolean_laws.exact (bytes ++ rest) old new (Ok n) h bytes rest b refl (boolean_laws.tidy_is_plain bytes b (boolean_laws.strict_is_tidy bytes b s))
+after_tag room (signed_value short_short_int k) bytes rest old new n h s = signed_after bytes1 bytes rest k old new n h s
+after_tag room (signed_value short_int k) bytes rest old new n h s = signed_after bytes2 bytes rest k old new n h s
+after_tag room (signed_value long_int k) bytes rest old new n h s = signed_after bytes4 bytes rest k old new n h s
+after_tag room (signed_value long_long_int k) bytes rest old new n h s = signed_after bytes8 bytes rest k old new n h s
+after_tag room (unsigned_value short_short_uint k) bytes rest old new n h s = number_after bytes1 bytes rest k old new n h s
+after_tag room (unsigned_value short_uint k) bytes rest old new n h s = number_after bytes2 bytes rest k old new n h s
+after_tag room (unsigned_value long_uint k) bytes rest old new n h s = number_after bytes4 bytes rest k old new n h s
+after_tag room (unsigned_value float k) bytes rest old new n h s = number_after bytes4 bytes rest k old new n h s
+after_tag room (unsigned_value double k) bytes rest old new n h s = number_after bytes8 bytes rest k old new n h s
+after_tag room (unsigned_value timestamp k) bytes rest old new n h s = number_after bytes8 bytes rest k old new n h s
+after_tag room (decimal_value scale k) bytes rest old new n h s = exactly judge_decimal SpellsDecimal decimal_text decimal_exact (bytes ++ rest) old new (Ok n) h bytes rest (scale, k) refl s
+after_tag room (bytes_value long_string content) bytes rest old new n h s = string_after quoted bytes rest content old new n h s
+after_tag room (bytes_value byte_array content) bytes rest old new n h s = string_after hex bytes rest content old new n h s
+after_tag room (array_value vs) bytes rest old new n h s =
+    let w = h s.0 bytes rest (items vs) refl s.1 in
+    (w.0, w.1 ∙ ap (λ ts. old ++ (codes "[" ++ (parted ts ++ codes "]"))) (values_are vs))
+after_tag room (table_value es) bytes rest old new n h s =
+    let w = h s.0 bytes rest (pairs es) refl s.1 in
+    (w.0, w.1 ∙ ap (λ fs. old ++ (codes "{" ++ (parted (entries_texts fs) ++ codes "}"))) (entries_of-pairs es))
+after_tag room void_value bytes rest old new n h s = (h.0 ∙ sym (ap length s), h.1)
+
+-- what is written for an array or a table, where there is room for one or not
+pub no_array : (room : ℕ) (t : FieldTag) (i old new : List ℕ) (r : Result ℕ NoMemory) → room ≡ 0 → t ≡ tag.FieldArray → WritesAfter room t i old new r
+unfolding WritesAfter
+no_array room t i old new r none is = let P : FieldTag → Type 0 = λ u. WritesAfter room u i old new r in subst P (sym is) (λ some. absurd (omega (arith, none, some)))
+
+pub no_table : (room : ℕ) (t : FieldTag) (i old new : List ℕ) (r : Result ℕ NoMemory) → room ≡ 0 → t ≡ tag.FieldTable → WritesAfter room t i old new r
+unfolding WritesAfter
+no_table room t i old new r none is = let P : FieldTag → Type 0 = λ u. WritesAfter room u i old new r in subst P (sym is) (λ some. absurd (omega (arith, none, some)))
+
+pub array_after : (room : ℕ) (t : FieldTag) (i old new : List ℕ) (r : Result ℕ NoMemory) → t ≡ tag.FieldArray → WritesText (SpellsArray (SpellsValue strict (room - 1))) array_text i old new r → WritesAfter room t i old new r
+unfolding WritesAfter
+array_after room t i old new r is h = let P : FieldTag → Type 0 = λ u. WritesAfter room u i old new r in subst P (sym is) (λ some. h)
+
+pub table_after : (room : ℕ) (t : FieldTag) (i old new : List ℕ) (r : Result ℕ NoMemory) → t ≡ tag.FieldTable → WritesText (SpellsTable strict (SpellsValue strict (room - 1))) table_text i old new r → WritesAfter room t i old new r
+unfolding WritesAfter
+table_after room t i old new r is h = let P : FieldTag → Type 0 = λ u. WritesAfter room u i old new r in subst P (sym is) (λ some. h)
 
 -- ---- a tag and its value
 
-pub value_none : (room : ℕ) (i old new : List ℕ) (r : Result ℕ NoMemory) → length i < 1 → Renders (rendered_value room i) old new r
-unfolding rendered_value rendered_tagged
-value_none room [] old new r h = tt
-value_none room (byte ∷ bytes) old new r h = absurd (omega arith)
+-- where nothing may be nested, nothing is
+none_nested : (bytes : List ℕ) (v : FieldValue) → SpellsBehind strict 0 (λ _ _. ⊥) bytes v → SpellsBehind strict 0 (SpellsValue strict (0 - 1)) bytes v
+none_nested bytes (boolean_value b) h = h
+none_nested bytes (signed_value kind k) h = h
+none_nested bytes (unsigned_value kind k) h = h
+none_nested bytes (decimal_value scale k) h = h
+none_nested bytes (bytes_value kind content) h = h
+none_nested bytes (array_value vs) h = absurd (omega (arith, h.0))
+none_nested bytes (table_value es) h = absurd (omega (arith, h.0))
+none_nested bytes void_value h = h
 
-pub value_unknown : (room : ℕ) (i old new : List ℕ) (r : Result ℕ NoMemory) → 1 ≤ length i → tag_at (get_or i 0 0) ≡ None → Renders (rendered_value room i) old new r
-unfolding rendered_value rendered_tagged
-value_unknown room [] old new r h e = tt
-value_unknown room (byte ∷ bytes) old new r h e = let P : Option FieldTag → Type 0 = λ o. Renders (rendered_after (rendered_nested room) o bytes) old new r in subst P (sym e) tt
+tagged : (room : ℕ) (bytes : List ℕ) (v : FieldValue) → SpellsValue strict room bytes v → SpellsTagged strict (SpellsBehind strict room (SpellsValue strict (room - 1))) bytes v
+unfolding SpellsValue
+tagged zero bytes v h = record { byte = h.byte; behind = h.behind; bytes_are = h.bytes_are; tag_is = h.tag_is; value_is = none_nested h.behind v h.value_is }
+tagged (suc room) bytes v h =
+    let same : room ≡ suc room - 1 = omega arith in
+    subst (λ (k : ℕ). SpellsTagged strict (SpellsBehind strict (suc room) (SpellsValue strict k)) bytes v) same h
 
-with_tag : (j : Judged (List ℕ)) (t : FieldTag) (used : ℕ) (old mid new : List ℕ) → mid ≡ old ++ tag_text t → Renders j mid new (Ok used) → Renders (j >>= λ x. took (tag_text t ++ x.0) (1 + x.1)) old new (Ok (1 + used))
-with_tag (took text n) t used old mid new e h = (ap (λ k. 1 + k) h.0, h.1 ∙ ap (λ (xs : List ℕ). xs ++ text) e ∙ append_assoc old (tag_text t) text)
-with_tag past t used old mid new e h = tt
-with_tag (fault bad) t used old mid new e h = tt
+-- the tag that is read of the bytes of a value in front
+record IsTagged (room : ℕ) (i rest : List ℕ) (bytes : List ℕ) (v : FieldValue) : Type 0 where
+  behind : List ℕ
+  count : length bytes ≡ 1 + length behind
+  rest_is : drop 1 i ≡ behind ++ rest
+  tag_is : tag_at (get_or i 0 0) ≡ Some (tag_of v)
+  value_is : SpellsBehind strict room (SpellsValue strict (room - 1)) behind v
 
-pub value_rendered : (room used : ℕ) (i : List ℕ) (t : FieldTag) (old mid new : List ℕ) → 1 ≤ length i → tag_at (get_or i 0 0) ≡ Some t → mid ≡ old ++ tag_text t → Renders (rendered_behind (rendered_nested room) t (drop 1 i)) mid new (Ok used) → Renders (rendered_value room i) old new (Ok (1 + used))
-unfolding rendered_value rendered_tagged
-value_rendered room used [] t old mid new some is e h = tt
-value_rendered room used (byte ∷ bytes) t old mid new some is e h =
-    let P : Option FieldTag → Type 0 = λ o. Renders (rendered_after (rendered_nested room) o bytes) old new (Ok (1 + used)) in
-    subst P (sym is) (with_tag (rendered_behind (rendered_nested room) t bytes) t used old mid new e h)
-
--- no room is left
-pub too_deep_array : (room : ℕ) (t : FieldTag) (i old new : List ℕ) (r : Result ℕ NoMemory) → room ≡ 0 → t ≡ tag.FieldArray → Renders (rendered_behind (rendered_nested room) t i) old new r
-unfolding rendered_behind
-too_deep_array room t i old new r none is =
-    let P : Option (Judge (List ℕ)) → Type 0 = λ o. Renders (rendered_behind o tag.FieldArray i) old new r in
-    let Q : FieldTag → Type 0 = λ u. Renders (rendered_behind (rendered_nested room) u i) old new r in
-    subst Q (sym is) (subst P (sym (nested_none room none)) tt)
-
-pub too_deep_table : (room : ℕ) (t : FieldTag) (i old new : List ℕ) (r : Result ℕ NoMemory) → room ≡ 0 → t ≡ tag.FieldTable → Renders (rendered_behind (rendered_nested room) t i) old new r
-unfolding rendered_behind
-too_deep_table room t i old new r none is =
-    let P : Option (Judge (List ℕ)) → Type 0 = λ o. Renders (rendered_behind o tag.FieldTable i) old new r in
-    let Q : FieldTag → Type 0 = λ u. Renders (rendered_behind (rendered_nested room) u i) old new r in
-    subst Q (sym is) (subst P (sym (nested_none room none)) tt)
-
-pub array_behind : (room : ℕ) (t : FieldTag) (i old new : List ℕ) (r : Result ℕ NoMemory) → 0 < room → t ≡ tag.FieldArray → Renders (rendered_items (rendered_value (room - 1)) (codes "[") (codes "]") i) old new r → Renders (rendered_behind (rendered_nested room) t i) old new r
-unfolding rendered_behind
-array_behind room t i old new r some is h =
-    let P : Option (Judge (List ℕ)) → Type 0 = λ o. Renders (rendered_behind o tag.FieldArray i) old new r in
-    let Q : FieldTag → Type 0 = λ u. Renders (rendered_behind (rendered_nested room) u i) old new r in
-    subst Q (sym is) (subst P (sym (nested_more room some)) h)
-
-pub table_behind : (room : ℕ) (t : FieldTag) (i old new : List ℕ) (r : Result ℕ NoMemory) → 0 < room → t ≡ tag.FieldTable → Renders (rendered_table (rendered_value (room - 1)) i) old new r → Renders (rendered_behind (rendered_nested room) t i) old new r
-unfolding rendered_behind
-table_behind room t i old new r some is h =
-    let P : Option (Judge (List ℕ)) → Type 0 = λ o. Renders (rendered_behind o tag.FieldTable i) old new r in
-    let Q : FieldTag → Type 0 = λ u. Renders (rendered_behind (rendered_nested room) u i) old new r in
-    subst Q (sym is) (subst P (sym (nested_more room some)) h)
-
--- ---- what fills an array or a table
-
-joined : (texts : Result (List (List ℕ)) Fault) (used : ℕ) (before after old a b new : List ℕ) (done : Unit {0}) → a ≡ old ++ before → RendersAll parted texts a b (Ok done) → new ≡ b ++ after → Renders (took_all used (read_map (λ ts. before ++ (parted ts ++ after)) texts)) old new (Ok used)
-joined (Err bad) used before after old a b new done first h last = tt
-joined (Ok ts) used before after old a b new done first h last = (refl, last ∙ ap (λ (xs : List ℕ). xs ++ after) (h ∙ ap (λ (xs : List ℕ). xs ++ parted ts) first) ∙ append_assoc (old ++ before) (parted ts) after ∙ append_assoc old before (parted ts ++ after))
-
-pub items_rendered : (item : Judge (List ℕ)) (before after i content old a b new : List ℕ) (used : ℕ) (done : Unit {0}) → judge_long_string i ≡ took content used → a ≡ old ++ before → RendersAll parted (filled item 0 content) a b (Ok done) → new ≡ b ++ after → Renders (rendered_items item before after i) old new (Ok used)
-unfolding rendered_items
-items_rendered item before after i content old a b new used done is first h last = rendered_next (judge_long_string i) _ old new (Ok used) content used is (joined (filled item 0 content) used before after old a b new done first h last)
-
-pub items_unrendered : (item : Judge (List ℕ)) (before after i old new : List ℕ) (r : Result ℕ NoMemory) → (IsRead (judge_long_string i) → ⊥) → Renders (rendered_items item before after i) old new r
-unfolding rendered_items
-items_unrendered item before after i old new r h = unrendered (judge_long_string i) _ old new r h
-
-pub table_rendered : (value : Judge (List ℕ)) (i content old a b new : List ℕ) (used : ℕ) (done : Unit {0}) → judge_long_string i ≡ took content used → a ≡ old ++ codes "{" → RendersAll parted (filled (rendered_entry value) 0 content) a b (Ok done) → new ≡ b ++ codes "}" → Renders (rendered_table value i) old new (Ok used)
-unfolding rendered_table
-table_rendered value i content old a b new used done is first h last = items_rendered (rendered_entry value) (codes "{") (codes "}") i content old a b new used done is first h last
-
-pub table_unrendered : (value : Judge (List ℕ)) (i old new : List ℕ) (r : Result ℕ NoMemory) → (IsRead (judge_long_string i) → ⊥) → Renders (rendered_table value i) old new r
-unfolding rendered_table
-table_unrendered value i old new r h = items_unrendered (rendered_entry value) (codes "{") (codes "}") i old new r h
-
--- ---- a key and its value
-
--- what a short string is that was read
-record IsKey (i key : List ℕ) (used : ℕ) : Type 0 where
-  key_is : key ≡ key_in i
-  used_is : used ≡ 1 + length key
-  rest_is : drop used i ≡ after_key i
-
-key_took : (n : ℕ) (bytes key : List ℕ) (used : ℕ) → judge_short_string (n ∷ bytes) ≡ took key used → IsKey (n ∷ bytes) key used
-unfolding judge_short_string
-key_took n bytes key used h =
-    let within = guard_took (nat_lt (length bytes) n) _ key used h in
-    let few : n ≤ length bytes = let e = within.0 in grind (arith, nat_tests) in
-    let text = test_took (is_utf8 (take n bytes)) _ not_utf8 key used within.1 in
-    let is = value_took (take n bytes) key (1 + n) used text.1 in
-    let count = count_took (take n bytes) key (1 + n) used text.1 in
+tag_in : (room : ℕ) (i bytes rest : List ℕ) (v : FieldValue) → i ≡ bytes ++ rest → SpellsValue strict room bytes v → IsTagged room i rest bytes v
+tag_in room i bytes rest v is h =
+    let t = tagged room bytes v h in
+    let at : i ≡ t.byte ∷ (t.behind ++ rest) = is ∙ ap (λ (bs : List ℕ). bs ++ rest) t.bytes_are in
     record {
-      key_is = sym is;
-      used_is = sym count ∙ ap (λ k. 1 + k) (sym (length-take-le n bytes few) ∙ ap length is);
-      rest_is = ap (λ k. drop k (n ∷ bytes)) (sym count ∙ one-add n);
+      behind = t.behind;
+      count = ap length t.bytes_are ∙ omega arith;
+      rest_is = ap (drop 1) at;
+      tag_is = ap (λ (bs : List ℕ). tag_at (get_or bs 0 0)) at ∙ tag_read t.byte (tag_of v) (inl t.tag_is);
+      value_is = t.value_is;
     }
 
-is_key : (i key : List ℕ) (used : ℕ) → judge_short_string i ≡ took key used → IsKey i key used
-unfolding judge_short_string
-is_key [] key used h = absurd cc
-is_key (n ∷ bytes) key used h = key_took n bytes key used h
+pub value_none : (room n : ℕ) (i old new : List ℕ) → length i < 1 → WritesText (SpellsValue strict room) value_text i old new (Ok n)
+value_none room n i old new none = λ bytes rest v is h. absurd (omega (arith, none, value_some strict room bytes v h, ap length is, length-append bytes rest))
 
-drop_more : (k : ℕ) (bytes : List ℕ) → drop k (drop 1 bytes) ≡ drop (k + 1) bytes
-drop_more k bytes = rw add-one (by_cases k bytes)
-  where
-    by_cases : (k : ℕ) (bytes : List ℕ) → drop k (drop 1 bytes) ≡ drop (suc k) bytes
-    by_cases k [] = drop-nil k
-    by_cases k (byte ∷ bytes) = refl
+pub value_unknown : (room n : ℕ) (i old new : List ℕ) → tag_at (get_or i 0 0) ≡ None → WritesText (SpellsValue strict room) value_text i old new (Ok n)
+value_unknown room n i old new none = λ bytes rest v is h. absurd (let e = sym none ∙ (tag_in room i bytes rest v is h).tag_is in cc)
 
-entry_by : (value : Judge (List ℕ)) (i key key_now : List ℕ) (n used : ℕ) (old a b new : List ℕ) → IsKey i key n → key_now ≡ key_in i → a ≡ old ++ quoted key_now → b ≡ a ++ codes "=" → (j : Judged (List ℕ)) → Renders j b new (Ok used) → Renders (j >>= λ y. took (quoted key ++ (codes "=" ++ y.0)) (n + y.1)) old new (Ok (1 + length key_now + used))
-entry_by value i key key_now n used old a b new is now first second past h = tt
-entry_by value i key key_now n used old a b new is now first second (fault bad) h = tt
-entry_by value i key key_now n used old a b new is now first second (took text k) h =
-    let same : key_now ≡ key = now ∙ sym is.key_is in
-    (omega (arith, h.0, is.used_is, ap length same), h.1 ∙ ap (λ (xs : List ℕ). xs ++ text) (second ∙ ap (λ (xs : List ℕ). xs ++ codes "=") (first ∙ ap (λ (ks : List ℕ). old ++ quoted ks) same)) ∙ append_assoc (old ++ quoted key) (codes "=") text ∙ append_assoc old (quoted key) (codes "=" ++ text))
+pub value_rendered : (room used : ℕ) (i : List ℕ) (t : FieldTag) (old mid new : List ℕ) → tag_at (get_or i 0 0) ≡ Some t → mid ≡ old ++ tag_text t → WritesAfter room t (drop 1 i) mid new (Ok used) → WritesText (SpellsValue strict room) value_text i old new (Ok (1 + used))
+unfolding value_text WritesContent
+value_rendered room used i t old mid new is e w = λ bytes rest v at h.
+    let g = tag_in room i bytes rest v at h in
+    let same : t ≡ tag_of v = let x = sym is ∙ g.tag_is in cc in
+    let P : FieldTag → Type 0 = λ u. WritesAfter room u (g.behind ++ rest) mid new (Ok used) in
+    let Q : List ℕ → Type 0 = λ bs. WritesAfter room t bs mid new (Ok used) in
+    let one = after_tag room v g.behind rest mid new used (subst P same (subst Q g.rest_is w)) g.value_is in
+    (omega (arith, one.0, g.count), one.1 ∙ ap (λ (xs : List ℕ). xs ++ content_text v) (e ∙ ap (λ u. old ++ tag_text u) same) ∙ append_assoc old (tag_text (tag_of v)) (content_text v))
 
-entry_on : (value : Judge (List ℕ)) (i key_now rest : List ℕ) (used : ℕ) (old a b new : List ℕ) → key_now ≡ key_in i → rest ≡ after_key i → a ≡ old ++ quoted key_now → b ≡ a ++ codes "=" → Renders (value rest) b new (Ok used)
-    → (j : Judged (List ℕ)) → ((key : List ℕ) (n : ℕ) → j ≡ took key n → IsKey i key n) → Renders (j >>= λ x. value (drop x.1 i) >>= λ y. took (quoted x.0 ++ (codes "=" ++ y.0)) (x.1 + y.1)) old new (Ok (1 + length key_now + used))
-entry_on value i key_now rest used old a b new now behind first second h past is = tt
-entry_on value i key_now rest used old a b new now behind first second h (fault bad) is = tt
-entry_on value i key_now rest used old a b new now behind first second h (took key n) is =
-    let one = is key n refl in
-    let P : List ℕ → Type 0 = λ (xs : List ℕ). Renders (value xs) b new (Ok used) in
-    entry_by value i key key_now n used old a b new one now first second (value (drop n i)) (subst P (behind ∙ sym one.rest_is) h)
+-- ---- a length and what it covers
 
-pub entry_rendered : (value : Judge (List ℕ)) (i key rest : List ℕ) (used : ℕ) (old a b new : List ℕ) → key ≡ key_in i → rest ≡ after_key i → a ≡ old ++ quoted key → b ≡ a ++ codes "=" → Renders (value rest) b new (Ok used) → Renders (rendered_entry value i) old new (Ok (1 + length key + used))
-unfolding rendered_entry
-entry_rendered value i key rest used old a b new now behind first second h = entry_on value i key rest used old a b new now behind first second h (judge_short_string i) (is_key i)
+content_is : (i bytes rest inner content : List ℕ) (used : ℕ) → i ≡ bytes ++ rest → SpellsLongString bytes inner → judge_long_string i ≡ took content used → (inner ≡ content) × (used ≡ length bytes)
+content_is i bytes rest inner content used is framed found =
+    let same : took inner (length bytes) ≡ took content used = sym (long_string_exact.taken bytes rest inner framed) ∙ sym (ap judge_long_string is) ∙ found in
+    (value_took inner content (length bytes) used same, sym (count_took inner content (length bytes) used same))
+
+no_content : (i bytes rest inner : List ℕ) → i ≡ bytes ++ rest → SpellsLongString bytes inner → (IsRead (judge_long_string i) → ⊥) → ⊥
+no_content i bytes rest inner is framed none =
+    let P : Judged (List ℕ) → Type 0 = λ j. IsRead j in
+    none (subst P (sym (ap judge_long_string is ∙ long_string_exact.taken bytes rest inner framed)) tt)
+
+between : (old a b new before text after : List ℕ) → a ≡ old ++ before → b ≡ a ++ text → new ≡ b ++ after → new ≡ old ++ (before ++ (text ++ after))
+between old a b new before text after first middle last =
+    last ∙ ap (λ (xs : List ℕ). xs ++ after) (middle ∙ ap (λ (xs : List ℕ). xs ++ text) first) ∙ append_assoc (old ++ before) text after ∙ append_assoc old before (text ++ after)
+
+pub array_written : (room : ℕ) (i content old a b new : List ℕ) (used : ℕ) (done : Unit {0}) → judge_long_string i ≡ took content used → a ≡ old ++ codes "[" → WritesEach (SpellsValue strict room) value_text content a b (Ok done) → new ≡ b ++ codes "]" → WritesText (SpellsArray (SpellsValue strict room)) array_text i old new (Ok used)
+unfolding array_text
+array_written room i content old a b new used done found first each last = λ bytes rest vs is h.
+    let c = content_is i bytes rest h.inner content used is h.framed found in
+    (c.1, between old a b new (codes "[") (parted (map value_text vs)) (codes "]") first (each vs (subst (λ (bs : List ℕ). SpellsEach (SpellsValue strict room) bs vs) c.0 h.each)) last)
+
+pub array_unwritten : (room n : ℕ) (i old new : List ℕ) → (IsRead (judge_long_string i) → ⊥) → WritesText (SpellsArray (SpellsValue strict room)) array_text i old new (Ok n)
+array_unwritten room n i old new none = λ bytes rest vs is h. absurd (no_content i bytes rest h.inner is h.framed none)
+
+table_is : (es : List Entry) → codes "{" ++ (parted (map entry_text es) ++ codes "}") ≡ table_text es
+unfolding table_text
+table_is es = ap (λ ts. codes "{" ++ (parted ts ++ codes "}")) (ap (map entry_text) (sym (pairs-entries_of es)) ∙ entries_are (entries_of es))
+
+pub table_written : (room : ℕ) (i content old a b new : List ℕ) (used : ℕ) (done : Unit {0}) → judge_long_string i ≡ took content used → a ≡ old ++ codes "{" → WritesEach (SpellsEntry (SpellsValue strict room)) entry_text content a b (Ok done) → new ≡ b ++ codes "}" → WritesText (SpellsTable strict (SpellsValue strict room)) table_text i old new (Ok used)
+table_written room i content old a b new used done found first each last = λ bytes rest es is h.
+    let c = content_is i bytes rest h.inner content used is h.framed found in
+    let filled = subst (λ (bs : List ℕ). SpellsEach (SpellsEntry (SpellsValue strict room)) bs es) c.0 (subst (λ fs. SpellsEach (SpellsEntry (SpellsValue strict room)) h.inner fs) h.once h.each) in
+    (c.1, between old a b new (codes "{") (parted (map entry_text es)) (codes "}") first (each es filled) last ∙ ap (λ (xs : List ℕ). old ++ xs) (table_is es))
+
+pub table_unwritten : (room n : ℕ) (i old new : List ℕ) → (IsRead (judge_long_string i) → ⊥) → WritesText (SpellsTable strict (SpellsValue strict room)) table_text i old new (Ok n)
+table_unwritten room n i old new none = λ bytes rest es is h. absurd (no_content i bytes rest h.inner is h.framed none)
+
+-- ---- a short string, and a key and its value
+
+key_is : (i bytes rest text : List ℕ) → i ≡ bytes ++ rest → SpellsShortString bytes text → (key_in i ≡ text) × (after_key i ≡ rest)
+key_is i bytes rest text is h =
+    let at : i ≡ length text ∷ (text ++ rest) = is ∙ ap (λ (bs : List ℕ). bs ++ rest) h.bytes_are in
+    (ap key_in at ∙ take_at text rest (length text) refl, ap after_key at ∙ drop_at text rest (length text) refl)
+
+pub short_written : (i text old new : List ℕ) → text ≡ key_in i → new ≡ old ++ quoted text → WritesText SpellsShortString quoted i old new (Ok (1 + length text))
+short_written i text old new is e = λ bytes rest x at h.
+    let same : text ≡ x = is ∙ (key_is i bytes rest x at h).0 in
+    (omega (arith, ap length same, ap length h.bytes_are), e ∙ ap (λ (xs : List ℕ). old ++ quoted xs) same)
+
+pub entry_written : (room : ℕ) (i key after : List ℕ) (used : ℕ) (old a b new : List ℕ) → key ≡ key_in i → after ≡ after_key i → a ≡ old ++ quoted key → b ≡ a ++ codes "=" → WritesText (SpellsValue strict room) value_text after b new (Ok used) → WritesText (SpellsEntry (SpellsValue strict room)) entry_text i old new (Ok (1 + length key + used))
+unfolding entry_text
+entry_written room i key after used old a b new is behind first second value = λ bytes rest e at h.
+    let k = key_is i h.front (h.behind ++ rest) h.one (at ∙ ap (λ (bs : List ℕ). bs ++ rest) h.bytes_are ∙ append_assoc h.front h.behind rest) h.first_is in
+    let same : key ≡ h.one = is ∙ k.0 in
+    let w = value h.behind rest h.two (behind ∙ k.1) h.second_is in (
+      omega (arith, w.0, ap length same, ap length h.bytes_are, length-append h.front h.behind, ap length h.first_is.bytes_are),
+      w.1 ∙ ap (λ (xs : List ℕ). xs ++ value_text h.two) (second ∙ ap (λ (xs : List ℕ). xs ++ codes "=") (first ∙ ap (λ (ks : List ℕ). old ++ quoted ks) same))
+          ∙ append_assoc (old ++ quoted h.one) (codes "=") (value_text h.two) ∙ append_assoc old (quoted h.one) (codes "=" ++ value_text h.two) ∙ ap (λ (x : Entry). old ++ entry_text x) (sym h.joined),
+    )
 
 -- ---- things that fill some bytes, one after another
 
--- the rest has texts that, after what is written so far, complete the whole
-pub record IsLeft (item : Judge (List ℕ)) (old rest now : List ℕ) (texts : List (List ℕ)) : Type 0 where
-  pub more : List (List ℕ)
-  pub fills : filled item 0 rest ≡ Ok more
-  pub joins : now ++ parted more ≡ old ++ parted texts
+-- where things fill all of the content, others fill the rest, whose texts after what is written so far complete the whole
+pub record GoesOn {A : Type 0} (Spells : List ℕ → A → Type 0) (text : A → List ℕ) (content old rest now : List ℕ) : Type 0 where
+  pub left : (xs : List A) → SpellsEach Spells content xs → (ys : List A) × SpellsEach Spells rest ys × (now ++ parted (map text ys) ≡ old ++ parted (map text xs))
 
--- so it is where all of the content has texts
-pub record GoesOn (item : Judge (List ℕ)) (content old rest now : List ℕ) : Type 0 where
-  pub left : (texts : List (List ℕ)) → filled item 0 content ≡ Ok texts → IsLeft item old rest now texts
+pub begins : {A : Type 0} {Spells : List ℕ → A → Type 0} {text : A → List ℕ} {content old : List ℕ} → GoesOn Spells text content old content old
+begins = record { left = λ xs h. (xs, h, refl) }
 
-pub begins : {item : Judge (List ℕ)} {content old : List ℕ} → GoesOn item content old content old
-begins = record { left = λ texts e. record { more = texts; fills = e; joins = refl } }
+module _ {A : Type 0} (Spells : List ℕ → A → Type 0) (text : A → List ℕ) (some : HasBytes Spells) where
+  -- a comma comes before others
+  comma_parts : (rest : List ℕ) (y : A) (ys : List A) → SpellsEach Spells rest ys → parted (text y ∷ map text ys) ≡ text y ++ (comma_before rest ++ parted (map text ys))
+  unfolding parted
+  comma_parts [] y [] h = sym (append-nil (text y))
+  comma_parts (byte ∷ rest) y [] h = absurd cc
+  comma_parts [] y (z ∷ zs) h = absurd (omega (arith, some h.0 z h.3, ap length h.2, length-append h.0 h.1))
+  comma_parts (byte ∷ rest) y (z ∷ zs) h = refl
 
-filled_drop : (item : Judge (List ℕ)) (k : ℕ) (bytes : List ℕ) → filled item k bytes ≡ filled item 0 (drop k bytes)
-unfolding filled
-filled_drop item zero bytes = refl
-filled_drop item (suc k) [] = refl
-filled_drop item (suc k) (byte ∷ bytes) = filled_drop item k bytes
+  pub goes_on : {content old rest now : List ℕ} (mid next new : List ℕ) (used : ℕ) → GoesOn Spells text content old rest now → 0 < length rest → WritesText Spells text rest now mid (Ok used) → next ≡ drop used rest → new ≡ mid ++ comma_before next → GoesOn Spells text content old next new
+  goes_on {content = content} {old = old} {rest = rest} {now = now} mid next new used g up w is comma = record { left = λ xs h. let l = g.left xs h in on xs l.0 l.1 l.2 }
+    where
+      on : (xs ys : List A) → SpellsEach Spells rest ys → now ++ parted (map text ys) ≡ old ++ parted (map text xs) → (zs : List A) × SpellsEach Spells next zs × (new ++ parted (map text zs) ≡ old ++ parted (map text xs))
+      on xs [] h joins = absurd (omega (arith, up, ap length h))
+      on xs (y ∷ ys) h joins =
+          let one = w h.0 h.1 y h.2 h.3 in
+          let next_is : next ≡ h.1 = is ∙ ap (λ (bs : List ℕ). drop used bs) h.2 ∙ drop_at h.0 h.1 used (sym one.0) in
+          let others : SpellsEach Spells next ys = subst (λ (bs : List ℕ). SpellsEach Spells bs ys) (sym next_is) h.4 in
+          let more = parted (map text ys) in (
+            ys,
+            others,
+            ap (λ (bs : List ℕ). bs ++ more) (comma ∙ ap (λ (bs : List ℕ). bs ++ comma_before next) one.1) ∙ append_assoc (now ++ text y) (comma_before next) more ∙ append_assoc now (text y) (comma_before next ++ more)
+                ∙ ap (λ (bs : List ℕ). now ++ bs) (sym (comma_parts next y ys others)) ∙ joins,
+          )
 
--- the text of what comes next, and the texts after it
-record IsNext (item : Judge (List ℕ)) (rest : List ℕ) (more : List (List ℕ)) : Type 0 where
-  text : List ℕ
-  count : ℕ
-  others : List (List ℕ)
-  is : item rest ≡ took text count
-  fills : filled item (count - 1) (drop 1 rest) ≡ Ok others
-  all : more ≡ text ∷ others
-
-next_map : {A : Type 0} (x : A) (r : Result (List A) Fault) (ys : List A) → read_map (λ xs. x ∷ xs) r ≡ Ok ys → (xs : List A) × (r ≡ Ok xs) × (ys ≡ x ∷ xs)
-next_map x (Ok xs) ys h = (xs, refl, cc)
-next_map x (Err bad) ys h = absurd cc
-
-next_of : (item : Judge (List ℕ)) (byte : ℕ) (bytes : List ℕ) (more : List (List ℕ)) (j : Judged (List ℕ)) → item (byte ∷ bytes) ≡ j → next_item j (λ n. filled item (n - 1) bytes) ≡ Ok more → IsNext item (byte ∷ bytes) more
-next_of item byte bytes more past is h = absurd cc
-next_of item byte bytes more (fault bad) is h = absurd cc
-next_of item byte bytes more (took text n) is h =
-    let one = next_map text (filled item (n - 1) bytes) more h in
-    record { text = text; count = n; others = one.0; is = is; fills = one.1; all = one.2 }
-
-next_in : (item : Judge (List ℕ)) (rest : List ℕ) (more : List (List ℕ)) → 0 < length rest → filled item 0 rest ≡ Ok more → IsNext item rest more
-unfolding filled
-next_in item [] more some h = absurd (omega arith)
-next_in item (byte ∷ bytes) more some h = next_of item byte bytes more (item (byte ∷ bytes)) refl h
-
--- a comma comes before others
-comma_parts : (item : Judge (List ℕ)) (rest text : List ℕ) (others : List (List ℕ)) → filled item 0 rest ≡ Ok others → parted (text ∷ others) ≡ text ++ (comma_before rest ++ parted others)
-unfolding filled parted
-comma_parts item [] text [] h = sym (append-nil text)
-comma_parts item [] text (other ∷ others) h = absurd cc
-comma_parts item (byte ∷ bytes) text (other ∷ others) h = refl
-comma_parts item (byte ∷ bytes) text [] h = let one = next_of item byte bytes [] (item (byte ∷ bytes)) refl h in absurd (let e = one.all in cc)
-
-step : (item : Judge (List ℕ)) (old rest now mid next new : List ℕ) (used : ℕ) (texts : List (List ℕ)) → (left : IsLeft item old rest now texts) → IsNext item rest left.more → Renders (item rest) now mid (Ok used) → 0 < used → next ≡ drop used rest → new ≡ mid ++ comma_before next → IsLeft item old next new texts
-step item old rest now mid next new used texts left one rendered some e h =
-    let P : Judged (List ℕ) → Type 0 = λ j. Renders j now mid (Ok used) in
-    let wrote : (used ≡ one.count) × (mid ≡ now ++ one.text) = subst P one.is rendered in
-    let dropped : drop (one.count - 1) (drop 1 rest) ≡ next = drop_more (one.count - 1) rest ∙ ap (λ k. drop k rest) {x = one.count - 1 + 1} {y = used} (omega (arith, wrote.0)) ∙ sym e in
-    let fills : filled item 0 next ≡ Ok one.others = ap (filled item 0) (sym dropped) ∙ sym (filled_drop item (one.count - 1) (drop 1 rest)) ∙ one.fills in
-    record {
-      more = one.others;
-      fills = fills;
-      joins =
-          ap (λ (xs : List ℕ). xs ++ parted one.others) (h ∙ ap (λ (xs : List ℕ). xs ++ comma_before next) wrote.1)
-          ∙ append_assoc (now ++ one.text) (comma_before next) (parted one.others) ∙ append_assoc now one.text (comma_before next ++ parted one.others)
-          ∙ ap (λ (xs : List ℕ). now ++ xs) (sym (comma_parts item next one.text one.others fills)) ∙ ap (λ ts. now ++ parted ts) (sym one.all) ∙ left.joins;
-    }
-
-pub goes_on : {item : Judge (List ℕ)} {content old rest now : List ℕ} (mid next new : List ℕ) (used : ℕ) → GoesOn item content old rest now → 0 < length rest → Renders (item rest) now mid (Ok used) → 0 < used → next ≡ drop used rest → new ≡ mid ++ comma_before next → GoesOn item content old next new
-goes_on {item = item} {old = old} {rest = rest} {now = now} mid next new used h some rendered up e comma = record {
-  left = λ texts is. let left = h.left texts is in step item old rest now mid next new used texts left (next_in item rest left.more some left.fills) rendered up e comma;
-}
-
-done_by : (item : Judge (List ℕ)) (old rest now : List ℕ) (done : Unit {0}) (rendered : Result (List (List ℕ)) Fault) → ((texts : List (List ℕ)) → rendered ≡ Ok texts → IsLeft item old rest now texts) → rest ≡ [] → RendersAll parted rendered old now (Ok done)
-unfolding filled parted
-done_by item old rest now done (Err bad) h none = tt
-done_by item old rest now done (Ok texts) h none =
-    let left = h texts refl in
-    let e : Ok [] ≡ Ok left.more = sym (ap (filled item 0) none) ∙ left.fills in
-    let nothing : [] ≡ left.more = cc in
-    sym (append-nil now) ∙ ap (λ ts. now ++ parted ts) nothing ∙ left.joins
-
-pub done : {item : Judge (List ℕ)} {content old rest now : List ℕ} (unit : Unit {0}) → GoesOn item content old rest now → length rest ≡ 0 → RendersAll parted (filled item 0 content) old now (Ok unit)
-done {item = item} {content = content} {old = old} {rest = rest} {now = now} unit h none = done_by item old rest now unit (filled item 0 content) h.left (nil_from_length rest none)
-
--- ---- a short string
-
-pub short_rendered : (i text old new : List ℕ) → text ≡ key_in i → new ≡ old ++ quoted text → Renders (judge_map quoted judge_short_string i) old new (Ok (1 + length text))
-short_rendered i text old new is h = by_key (judge_short_string i) (is_key i)
-  where
-    by_key : (j : Judged (List ℕ)) → ((key : List ℕ) (n : ℕ) → j ≡ took key n → IsKey i key n) → Renders (j >>= λ x. took (quoted x.0) x.1) old new (Ok (1 + length text))
-    by_key past one = tt
-    by_key (fault bad) one = tt
-    by_key (took key n) one =
-        let k = one key n refl in
-        let same : text ≡ key = is ∙ sym k.key_is in
-        (omega (arith, k.used_is, ap length same), h ∙ ap (λ (xs : List ℕ). old ++ quoted xs) same)
+  pub done : {content old rest now : List ℕ} (unit : Unit {0}) → GoesOn Spells text content old rest now → length rest ≡ 0 → WritesEach Spells text content old now (Ok unit)
+  unfolding parted
+  done {old = old} {rest = rest} {now = now} unit g none = λ xs h. let l = g.left xs h in on xs l.0 l.1 l.2
+    where
+      on : (xs ys : List A) → SpellsEach Spells rest ys → now ++ parted (map text ys) ≡ old ++ parted (map text xs) → now ≡ old ++ parted (map text xs)
+      on xs [] h joins = sym (append-nil now) ∙ joins
+      on xs (y ∷ ys) h joins = absurd (omega (arith, none, some h.0 y h.3, ap length h.2, length-append h.0 h.1))

@@ -80,6 +80,7 @@ ended {m = m} {turns = turns} {left = left} {a = a} {b = b} {k = k} {l = l} {hel
     frames = g.frames;
     rest = held;
     text = is_longest m (lines g.frames ++ held) g.frames held g.good refl (at_clean m held g.clean);
+    no_line = holds_none held g.clean;
     written_begins = (written, refl);
   };
 }

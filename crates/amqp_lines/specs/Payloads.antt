@@ -1,17 +1,18 @@
--- Frames by their outline and canonical payload, and what the fields in a payload are as text.
-use Rattle.std.specs.Prelude.{◌≡◌, ℕ, List, [], ◌∷◌, ◌++◌, drop, codes, unwrap_or}
+-- Frames by their outline and canonical payload, and what is written for the fields in a payload.
+use Rattle.std.specs.Prelude.{◌≡◌, ℕ, List, [], ◌∷◌, ◌++◌, codes, unwrap_or, Result}
 use Rattle.std.specs.Fmt.{decimal}
 use Rattle.amqp_types.specs.Levels.{strict}
-use Rattle.amqp_types.specs.Judging.{Judge}
-use Rattle.amqp_types.specs.Sequences.{judge_map}
+use Rattle.amqp_types.specs.Slots.{Slot}
 use Rattle.amqp_types.specs.Rows.{slots_at}
+use Rattle.amqp_types.specs.Methods.{Method}
 use Rattle.amqp_types.specs.MethodSpelling.{SpellsPayload}
-use Rattle.amqp_types.specs.ContentHeaders.{SpellsContentHeader}
+use Rattle.amqp_types.specs.ContentHeaders.{ContentHeader, SpellsContentHeader}
+use Rattle.amqp_types.specs.declared.errors.NoMemory.{NoMemory}
 use Rattle.amqp_wire.specs.declared.outline.FrameOutline.{FrameOutline}
 use Rattle.amqp_wire.specs.Frames.{Frame, Proto, Meth, Head, Body, Beat, BadBeat}
 use Rattle.amqp_wire.specs.Outlines.{outline_of}
-use Rattle.amqp_lines.specs.Lines.{spaced}
-use Rattle.amqp_lines.specs.Rendering.{rendered_properties, rendered_slots}
+use Rattle.amqp_lines.specs.Lines.{spaced, words}
+use Rattle.amqp_lines.specs.Rendering.{AppendsText}
 
 -- ---- canonical payloads
 
@@ -39,10 +40,14 @@ ids_words channel class id = codes "method" ++ (spaced channel ++ (spaced class 
 abbrev pub sizes_words : ℕ → ℕ → ℕ → List ℕ
 sizes_words channel class size = codes "header" ++ (spaced channel ++ (spaced class ++ spaced size))
 
--- the words of a method with these ids, out of its payload, where 4 bytes of ids stand in front of the fields
-unfoldable pub rendered_method : ℕ → ℕ → ℕ → Judge (List ℕ)
-rendered_method channel class id payload = judge_map (λ text. ids_words channel class id ++ text) (rendered_slots (unwrap_or (slots_at class id) [])) (drop 4 payload)
+-- the fields that the table has for a method; a method that it has not has none
+abbrev pub fields_at : ℕ → ℕ → List Slot
+fields_at class id = unwrap_or (slots_at class id) []
 
--- the words of a content header of this class and size, out of its payload, where class, weight and size take 12 bytes
-unfoldable pub rendered_header : ℕ → ℕ → ℕ → Judge (List ℕ)
-rendered_header channel class size payload = judge_map (λ text. sizes_words channel class size ++ text) rendered_properties (drop 12 payload)
+-- what is written for a method with these ids, out of its payload
+abbrev pub SaysMethod : ℕ → ℕ → ℕ → List ℕ → List ℕ → List ℕ → Result (Unit {0}) NoMemory → Type 0
+SaysMethod channel class id payload old new r = (m : Method) → class ≡ m.class → id ≡ m.id → SpellsPayload strict payload m → AppendsText old new (words (Meth channel m)) r
+
+-- what is written for a content header of this class and size, out of its payload
+abbrev pub SaysHeader : ℕ → ℕ → ℕ → List ℕ → List ℕ → List ℕ → Result (Unit {0}) NoMemory → Type 0
+SaysHeader channel class size payload old new r = (header : ContentHeader) → class ≡ header.class_id → size ≡ header.body_size → SpellsContentHeader strict payload header → AppendsText old new (words (Head channel header)) r

@@ -42,7 +42,8 @@ HasCauseUndumped turns taken rest a b k l (Err errors.NoMemory) = Unit {0}
 abbrev pub read_size : ℕ
 read_size = 65536
 
--- At the end at most 65,536 of the bytes taken, as many as a read takes, come after text whose frames were written.
+-- The last of the bytes taken are at most 65,536, as many as a read takes. Of those before them, the frames of the longest text were
+-- written, and no newline comes after that text: they are lines that were written and then a part of one line.
 pub record IsOneReadBehind (m : ℕ) (taken written : List ℕ) : Type 0 where
   pub before : List ℕ
   pub last : List ℕ
@@ -51,6 +52,7 @@ pub record IsOneReadBehind (m : ℕ) (taken written : List ℕ) : Type 0 where
   pub frames : List Frame
   pub rest : List ℕ
   pub text : IsLongestText m before frames rest
+  pub no_line : HoldsNewline rest → ⊥
   pub written_begins : IsPrefix (canon_frames frames) written
 
 -- what was written of some bytes: all of them, or a part of their front where a write or memory failed

@@ -1,11 +1,13 @@
 //! Lines: what a frame is as text, out of its outline and its canonical payload.
 
-ghost use Rattle.std.specs.Prelude.{◌≡◌, ◌∷◌, ◌++◌, [], ℕ, codes, unwrap_or};
-ghost use Rattle.amqp_types.specs.Rows.{slots_at};
+ghost use Rattle.std.specs.Prelude.{◌≡◌, ◌∷◌, ◌++◌, [], ℕ, codes};
+ghost use Rattle.amqp_types.specs.Levels.{strict};
+ghost use Rattle.amqp_types.specs.SlotSpelling.{SpellsSlots};
 ghost use Rattle.amqp_wire.specs.Frames.{Frame, Proto, Body};
-ghost use Rattle.amqp_lines.specs.Rendering.{Says, AppendsText, rendered_slots};
+ghost use Rattle.amqp_lines.specs.Slots.{slots_text};
+ghost use Rattle.amqp_lines.specs.Rendering.{AppendsText, Says};
 ghost use Rattle.amqp_lines.specs.Lines.{beat_words, line, spaced, words};
-ghost use Rattle.amqp_lines.specs.Payloads.{IsIn, ids_words, sizes_words, rendered_header, rendered_method};
+ghost use Rattle.amqp_lines.specs.Payloads.{IsIn, SaysHeader, SaysMethod, fields_at, ids_words, sizes_words};
 
 use crate::slots::{write_properties, write_slots};
 use crate::words::{write_bytes, write_decimal, write_hex};
@@ -57,14 +59,14 @@ fn write_ids(
 }
 
 /// The fields of a method with these ids.
-#[tactic(auto, using(crate::proofs::Lining::fields_some, crate::proofs::Lining::fields_none))]
+#[tactic(auto, using(crate::proofs::Lining::fields_some))]
 fn write_fields(
     out: &mut Vec<u8>,
     class_id: Identifier,
     method_id: Identifier,
     i: &[u8],
 ) -> Result<(), NoMemory>
-    ensures { Says (rendered_slots (unwrap_or (slots_at class_id method_id) []) i.now) out.old.items out.new.items result }
+    ensures { Says (SpellsSlots strict (fields_at class_id method_id)) (slots_text (fields_at class_id method_id)) i.now out.old.items out.new.items result }
 {
     match shapes_of(class_id, method_id) {
         Some(shapes) => write_slots(out, shapes, i),
@@ -73,7 +75,6 @@ fn write_fields(
 }
 
 /// A method with these ids, and the fields in its payload.
-#[tactic(auto, using(crate::proofs::Lining::method_said))]
 fn write_method(
     out: &mut Vec<u8>,
     channel_id: ChannelId,
@@ -81,7 +82,7 @@ fn write_method(
     method_id: Identifier,
     payload: &[u8],
 ) -> Result<(), NoMemory>
-    ensures { Says (rendered_method channel_id class_id method_id payload.now) out.old.items out.new.items result }
+    ensures { SaysMethod channel_id class_id method_id payload.now out.old.items out.new.items result }
 {
     write_ids(out, channel_id, class_id, method_id)?;
     write_fields(out, class_id, method_id, bytes_from(payload, 4))
@@ -103,7 +104,6 @@ fn write_sizes(
 }
 
 /// A content header of this class and size, and the properties in its payload.
-#[tactic(auto, using(crate::proofs::Lining::header_said))]
 fn write_header(
     out: &mut Vec<u8>,
     channel_id: ChannelId,
@@ -111,7 +111,7 @@ fn write_header(
     body_size: PayloadSize,
     payload: &[u8],
 ) -> Result<(), NoMemory>
-    ensures { Says (rendered_header channel_id class_id body_size payload.now) out.old.items out.new.items result }
+    ensures { SaysHeader channel_id class_id body_size payload.now out.old.items out.new.items result }
 {
     write_sizes(out, channel_id, class_id, body_size)?;
     write_properties(out, bytes_from(payload, 12))

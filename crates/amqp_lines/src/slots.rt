@@ -1,13 +1,17 @@
 //! The fields of methods and the properties of messages as text, out of their canonical bytes.
 
 ghost use Rattle.std.specs.Prelude.{◌≡◌, ◌++◌, codes, map};
+ghost use Rattle.amqp_types.specs.Levels.{strict};
 ghost use Rattle.amqp_types.specs.Flags.{judge_flags};
+ghost use Rattle.amqp_types.specs.Properties.{properties};
+ghost use Rattle.amqp_types.specs.PropertySpelling.{SpellsProperties};
 ghost use Rattle.amqp_types.specs.Sequences.{judge_map};
-ghost use Rattle.amqp_types.specs.Strings.{judge_short_string};
+ghost use Rattle.amqp_types.specs.SlotSpelling.{SpellsSlot, SpellsSlots};
+ghost use Rattle.amqp_types.specs.Strings.{SpellsShortString};
 ghost use Rattle.amqp_canonical.specs.Shapes.{form_of, property_of, slot_of, slots_of};
 ghost use Rattle.amqp_lines.specs.Words.{quoted, signs};
-ghost use Rattle.amqp_lines.specs.Slots.{property_name};
-ghost use Rattle.amqp_lines.specs.Rendering.{Says, Renders, AppendsText, rendered_form, rendered_properties, rendered_set, rendered_slot, rendered_slots};
+ghost use Rattle.amqp_lines.specs.Slots.{property_name, set_text, slots_text};
+ghost use Rattle.amqp_lines.specs.Rendering.{AppendsText, Renders, Says, SpellsOnes, WritesForm, WritesText, slot_text};
 
 use crate::values::{
     write_long_long_uint, write_long_string, write_long_uint, write_short_short_uint,
@@ -32,9 +36,9 @@ fn write_flags(out: &mut Vec<u8>, count: u8, i: &[u8]) -> Result<usize, NoMemory
 }
 
 /// A short string.
-#[tactic(auto, using(crate::proofs::Rendered::short_rendered))]
+#[tactic(auto, using(crate::proofs::Rendered::short_written))]
 fn write_short_string(out: &mut Vec<u8>, i: &[u8]) -> Result<usize, NoMemory>
-    ensures { Renders (judge_map quoted judge_short_string i.now) out.old.items out.new.items result }
+    ensures { WritesText SpellsShortString quoted i.now out.old.items out.new.items result }
 {
     let (text, _) = split_key(i);
     write_quoted(out, text)?;
@@ -42,9 +46,9 @@ fn write_short_string(out: &mut Vec<u8>, i: &[u8]) -> Result<usize, NoMemory>
 }
 
 /// What stands at the front, encoded so.
-#[tactic(auto, unfolding(crate::specs::Rendering::rendered_form))]
+#[tactic(auto, unfolding(crate::specs::Rendering::WritesForm))]
 fn write_form(out: &mut Vec<u8>, form: Form, i: &[u8]) -> Result<usize, NoMemory>
-    ensures { Renders (rendered_form (form_of form) i.now) out.old.items out.new.items result }
+    ensures { WritesForm (form_of form) i.now out.old.items out.new.items result }
 {
     match form {
         Form::Octet => write_short_short_uint(out, i),
@@ -59,9 +63,9 @@ fn write_form(out: &mut Vec<u8>, form: Form, i: &[u8]) -> Result<usize, NoMemory
 }
 
 /// A field: a space and a word, or nothing where it is reserved.
-#[tactic(auto, using(crate::proofs::RenderedSlots::reserved_rendered, crate::proofs::RenderedSlots::kept_rendered))]
+#[tactic(auto, using(crate::proofs::RenderedSlots::kept_written))]
 fn write_slot(out: &mut Vec<u8>, slot: Slot, i: &[u8]) -> Result<usize, NoMemory>
-    ensures { Renders (rendered_slot (slot_of slot) i.now) out.old.items out.new.items result }
+    ensures { WritesText (SpellsSlot strict (slot_of slot)) (slot_text (slot_of slot)) i.now out.old.items out.new.items result }
 {
     match slot {
         Slot::Reserved(form, _) => Ok(form_size(form, i)),
@@ -73,9 +77,8 @@ fn write_slot(out: &mut Vec<u8>, slot: Slot, i: &[u8]) -> Result<usize, NoMemory
 }
 
 /// Appends the text of fields of these shapes, one after another.
-#[tactic(auto, using(crate::proofs::RenderedSlots::slots_rendered, crate::proofs::RenderedSlots::no_slots))]
 pub(crate) fn write_slots(out: &mut Vec<u8>, shapes: &[Slot], i: &[u8]) -> Result<(), NoMemory>
-    ensures { Says (rendered_slots (slots_of shapes.now) i.now) out.old.items out.new.items result }
+    ensures { Says (SpellsSlots strict (slots_of shapes.now)) (slots_text (slots_of shapes.now)) i.now out.old.items out.new.items result }
 {
     match shapes {
         [] => Ok(()),
@@ -121,9 +124,8 @@ fn write_name(out: &mut Vec<u8>, bit: u16) -> Result<(), NoMemory>
 }
 
 /// The properties of these bits and shapes that the mask has, one after another.
-#[tactic(auto, using(crate::proofs::RenderedSlots::option_rendered, crate::proofs::RenderedSlots::option_past, crate::proofs::RenderedSlots::no_options))]
 fn write_set(out: &mut Vec<u8>, mask: u16, shapes: &[(u16, Form)], i: &[u8]) -> Result<(), NoMemory>
-    ensures { Says (rendered_set mask (map property_of shapes.now) i.now) out.old.items out.new.items result }
+    ensures { Says (SpellsOnes mask (map property_of shapes.now)) (set_text (map property_of shapes.now)) i.now out.old.items out.new.items result }
 {
     match shapes {
         [] => Ok(()),
@@ -139,9 +141,9 @@ fn write_set(out: &mut Vec<u8>, mask: u16, shapes: &[(u16, Form)], i: &[u8]) -> 
 }
 
 /// Appends the text of the properties that are set.
-#[tactic(auto, using(crate::proofs::RenderedSlots::properties_rendered), unfolding(crate::specs::Rendering::rendered_properties))]
+#[tactic(auto, using(crate::proofs::RenderedSlots::no_properties))]
 pub(crate) fn write_properties(out: &mut Vec<u8>, i: &[u8]) -> Result<(), NoMemory>
-    ensures { Says (rendered_properties i.now) out.old.items out.new.items result }
+    ensures { Says (SpellsProperties strict) (set_text properties) i.now out.old.items out.new.items result }
 {
     match i {
         [a, b, rest @ ..] => write_set(out, u16::from_be_bytes([*a, *b]), property_shapes(), rest),

@@ -1,16 +1,17 @@
 //! Values, arrays and tables as text, out of their canonical bytes.
-#![tactic(auto, using(crate::proofs::Rendered::unrendered, crate::proofs::Rendered::rendered_next), unfolding(crate::specs::Rendering::rendered_behind, amqp_types::specs::ValueJudging::judge_decimal))]
+#![tactic(auto, using(crate::proofs::Rendered::unrendered, crate::proofs::Rendered::rendered_next), unfolding(crate::specs::Rendering::WritesAfter, amqp_types::specs::ValueJudging::judge_decimal))]
 
-ghost use Rattle.std.specs.Prelude.{◌≤◌, ◌<◌, ◌+◌, ◌++◌, codes, length, IfOk, IfSome};
-ghost use Rattle.std.specs.Fmt.{decimal};
+ghost use Rattle.std.specs.Prelude.{◌≤◌, ◌<◌, ◌+◌, length, IfOk, IfSome};
+ghost use Rattle.amqp_types.specs.Levels.{strict};
 ghost use Rattle.amqp_types.specs.Numbers.{bytes1, bytes2, bytes4, bytes8};
 ghost use Rattle.amqp_types.specs.Booleans.{judge_boolean};
 ghost use Rattle.amqp_types.specs.Sequences.{judge_map};
 ghost use Rattle.amqp_types.specs.Strings.{judge_long_string};
-ghost use Rattle.amqp_types.specs.ValueJudging.{filled, judge_decimal};
-ghost use Rattle.amqp_lines.specs.Words.{hex, parted, quoted};
-ghost use Rattle.amqp_lines.specs.Values.{tag_text, truth_text};
-ghost use Rattle.amqp_lines.specs.Rendering.{FindsContent, Renders, RendersAll, AppendsText, comma_before, rendered_behind, rendered_entry, rendered_items, rendered_nested, rendered_number, rendered_signed, rendered_table, rendered_value};
+ghost use Rattle.amqp_types.specs.ValueJudging.{judge_decimal};
+ghost use Rattle.amqp_types.specs.ValueSpelling.{SpellsArray, SpellsEntry, SpellsTable, SpellsValue};
+ghost use Rattle.amqp_lines.specs.Words.{hex, quoted};
+ghost use Rattle.amqp_lines.specs.Values.{tag_text, table_text, truth_text, value_text};
+ghost use Rattle.amqp_lines.specs.Rendering.{AppendsText, FindsContent, Renders, WritesAfter, WritesEach, WritesText, array_text, comma_before, decimal_text, entry_text, rendered_number, rendered_signed};
 
 use crate::words::{write_bytes, write_decimal, write_hex, write_quoted, write_signed};
 use amqp_canonical::{bytes_from, split_key};
@@ -160,7 +161,7 @@ fn write_boolean(out: &mut Vec<u8>, i: &[u8]) -> Result<usize, NoMemory>
 
 /// A scale and an unsigned number.
 fn write_decimal_value(out: &mut Vec<u8>, i: &[u8]) -> Result<usize, NoMemory>
-    ensures rendered { Renders (judge_map (λ d. decimal d.0 ++ (codes "/" ++ decimal d.1)) judge_decimal i.now) out.old.items out.new.items result }
+    ensures rendered { Renders (judge_map decimal_text judge_decimal i.now) out.old.items out.new.items result }
     ensures used { IfOk result (λ n. n ≤ length i.now) }
 {
     match i {
@@ -232,7 +233,7 @@ fn write_tag(out: &mut Vec<u8>, tag: FieldTag) -> Result<(), NoMemory>
 /// deep in it.
 #[cycle(render)]
 pub(crate) fn write_value(out: &mut Vec<u8>, i: &[u8], depth_left: usize) -> Result<usize, NoMemory>
-    ensures rendered { Renders (rendered_value depth_left i.now) out.old.items out.new.items result }
+    ensures written { WritesText (SpellsValue strict depth_left) value_text i.now out.old.items out.new.items result }
     ensures used { IfOk result (λ n. (0 < n) × (n ≤ length i.now + 1)) }
 {
     match i {
@@ -256,7 +257,7 @@ fn write_after_tag(
     i: &[u8],
     depth_left: usize,
 ) -> Result<usize, NoMemory>
-    ensures rendered { Renders (rendered_behind (rendered_nested depth_left) tag i.now) out.old.items out.new.items result }
+    ensures written { WritesAfter depth_left tag i.now out.old.items out.new.items result }
     ensures used { IfOk result (λ n. n ≤ length i.now) }
 {
     match tag {
@@ -283,7 +284,7 @@ fn write_after_tag(
 /// An array.
 #[cycle(render)]
 fn write_array(out: &mut Vec<u8>, i: &[u8], depth_left: usize) -> Result<usize, NoMemory>
-    ensures rendered { Renders (rendered_items (rendered_value depth_left) (codes "[") (codes "]") i.now) out.old.items out.new.items result }
+    ensures written { WritesText (SpellsArray (SpellsValue strict depth_left)) array_text i.now out.old.items out.new.items result }
     ensures used { IfOk result (λ n. n ≤ length i.now) }
 {
     match split_long(i) {
@@ -301,7 +302,7 @@ fn write_array(out: &mut Vec<u8>, i: &[u8], depth_left: usize) -> Result<usize, 
 /// deep in its values.
 #[cycle(render)]
 pub(crate) fn write_table(out: &mut Vec<u8>, i: &[u8], depth_left: usize) -> Result<usize, NoMemory>
-    ensures rendered { Renders (rendered_table (rendered_value depth_left) i.now) out.old.items out.new.items result }
+    ensures written { WritesText (SpellsTable strict (SpellsValue strict depth_left)) table_text i.now out.old.items out.new.items result }
     ensures used { IfOk result (λ n. n ≤ length i.now) }
 {
     match split_long(i) {
@@ -318,7 +319,7 @@ pub(crate) fn write_table(out: &mut Vec<u8>, i: &[u8], depth_left: usize) -> Res
 /// The values that fill an array.
 #[cycle(render)]
 fn write_values(out: &mut Vec<u8>, content: &[u8], depth_left: usize) -> Result<(), NoMemory>
-    ensures { RendersAll parted (filled (rendered_value depth_left) 0 content.now) out.old.items out.new.items result }
+    ensures { WritesEach (SpellsValue strict depth_left) value_text content.now out.old.items out.new.items result }
 {
     let mut rest = content;
     while !rest.is_empty() {
@@ -332,7 +333,7 @@ fn write_values(out: &mut Vec<u8>, content: &[u8], depth_left: usize) -> Result<
 /// The entries that fill a table.
 #[cycle(render)]
 fn write_entries(out: &mut Vec<u8>, content: &[u8], depth_left: usize) -> Result<(), NoMemory>
-    ensures { RendersAll parted (filled (rendered_entry (rendered_value depth_left)) 0 content.now) out.old.items out.new.items result }
+    ensures { WritesEach (SpellsEntry (SpellsValue strict depth_left)) entry_text content.now out.old.items out.new.items result }
 {
     let mut rest = content;
     while !rest.is_empty() {
@@ -346,7 +347,7 @@ fn write_entries(out: &mut Vec<u8>, content: &[u8], depth_left: usize) -> Result
 /// An entry: its key, `=` and its value.
 #[cycle(render)]
 fn write_entry(out: &mut Vec<u8>, i: &[u8], depth_left: usize) -> Result<usize, NoMemory>
-    ensures rendered { Renders (rendered_entry (rendered_value depth_left) i.now) out.old.items out.new.items result }
+    ensures written { WritesText (SpellsEntry (SpellsValue strict depth_left)) entry_text i.now out.old.items out.new.items result }
     ensures used { IfOk result (λ n. (0 < n) × (n ≤ length i.now + 2)) }
 {
     let (key, value) = split_key(i);

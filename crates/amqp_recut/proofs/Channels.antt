@@ -23,8 +23,10 @@ use Rattle.amqp_turns.proofs.Telling.{joined-push, length-joined}
 use Rattle.amqp_turns.specs.InTurn.{greatest}
 use Rattle.amqp_recut.specs.Cuts.{frame_recut}
 use Rattle.amqp_recut.specs.Held.{Held, progress_in, kept_in, held_with}
-use Rattle.amqp_recut.specs.Stepping.{left_over, written_marked, mark_held, held_after}
-use Rattle.amqp_recut.proofs.Cutting.{given_last, given_more, left-more}
+use Rattle.amqp_turns.specs.Splits.{left_over}
+use Rattle.amqp_recut.specs.Stepping.{written_marked, mark_held, held_after}
+use Rattle.amqp_turns.proofs.Pieces.{left-more}
+use Rattle.amqp_recut.proofs.Cutting.{brought}
 
 -- what is kept of a channel on which this has come
 abbrev pub held_of_state : ℕ → State Frame → Option Held
@@ -82,13 +84,13 @@ on_body size opening header bodies channel content true true h some fit done =
     let n = size_in (outline_of header) in
     let seen = length-joined bodies in
     let total : bytes_in outline_of bodies + length content ≡ n = grind (arith, nat_tests) in
-    let pieces = given_last size n (joined bodies) content h (omega arith) (omega arith) in
+    let pieces = brought size true (joined bodies) content h in
     goes (marks.Body (bytes_in outline_of bodies) (bytes_in outline_of bodies + length content) n) (rw fit refl) (λ bad same. absurd cc) (rw done (ap (λ ps. canon_frames (map (λ piece. Body channel piece) ps)) (sym pieces))) (rw fit (rw done refl)) (rw fit (rw done (at_state Nothing)))
 on_body size opening header bodies channel content true false h some fit done =
     let n = size_in (outline_of header) in
     let seen = length-joined bodies in
     let less : bytes_in outline_of bodies + length content < n = grind (arith, nat_tests) in
-    let pieces = given_more size n (joined bodies) content h (omega arith) in
+    let pieces = brought size false (joined bodies) content h in
     let kept : left_over size (left_over size (joined bodies) ++ content) ≡ left_over size (joined (bodies ++ Body channel content ∷ [])) = left-more size (joined bodies) content h ∙ ap (left_over size) (sym (joined-push bodies (Body channel content))) in
     let count : bytes_in outline_of bodies + length content ≡ bytes_in outline_of (bodies ++ Body channel content ∷ []) = sym (bytes_in-push outline_of bodies (Body channel content)) in
     goes (marks.Body (bytes_in outline_of bodies) (bytes_in outline_of bodies + length content) n) (rw fit refl) (λ bad same. absurd cc) (rw done (ap (λ ps. canon_frames (map (λ piece. Body channel piece) ps)) (sym pieces))) (rw fit (rw done (ap₂ (λ (seen : ℕ) (k : List ℕ). Some (record { progress = progresses.Headed n seen; kept = k })) count kept))) (rw fit (rw done (at_state (Headed opening header (bodies ++ Body channel content ∷ [])))))

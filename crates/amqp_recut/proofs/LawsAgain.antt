@@ -1,9 +1,9 @@
 -- Frames recut again: bodies that are cut stay, and the last of two sizes counts.
-use Rattle.std.proofs.Common.{◌≡◌, ℕ, ◌+◌, ◌*◌, ◌/◌, ◌<◌, ◌≤◌, Bool, true, false, eqb, leb, ltb, List, [], ◌∷◌, ◌++◌, length, map, drop, refl, sym, ap, ap₂, subst, ◌∙◌, arith, inl, inr}
+use Rattle.std.proofs.Common.{◌≡◌, ℕ, ◌+◌, ◌*◌, ◌/◌, ◌<◌, ◌≤◌, Bool, true, false, eqb, leb, List, [], ◌∷◌, ◌++◌, length, map, refl, sym, ap, ap₂, subst, ◌∙◌, arith, inl, inr}
 use Rattle.std.specs.List.{flat_map}
-use Rattle.std.proofs.lemmas.Bool.{cases_eq}
+use Rattle.std.proofs.lemmas.Bool.{cases_eq, eqb-false}
 use Rattle.std.proofs.lemmas.Bool.Decides.{nat_tests}
-use Rattle.std.proofs.lemmas.List.{append_assoc, drop_all, take_all}
+use Rattle.std.proofs.lemmas.List.{append_assoc, drop_all}
 use Rattle.amqp_types.specs.Methods.{Method}
 use Rattle.amqp_types.specs.ContentHeaders.{ContentHeader}
 use Rattle.amqp_wire.specs.Frames.{Frame, Proto, Meth, Head, Body, Beat, BadBeat, channel_id_of}
@@ -12,18 +12,16 @@ use Rattle.amqp_turns.specs.Units.{is_content, is_opening_id, of_channel, Nothin
 use Rattle.amqp_turns.specs.Stands.{State, At, Lost}
 use Rattle.amqp_turns.specs.Steps.{step, run_state}
 use Rattle.amqp_turns.specs.Messages.{joined}
-use Rattle.amqp_turns.specs.Splits.{pieces}
-use Rattle.amqp_turns.proofs.Pieces.{pieces-none, pieces-more}
+use Rattle.amqp_turns.specs.Splits.{pieces, whole_pieces, left_over}
+use Rattle.amqp_turns.proofs.Pieces.{given-ended, left-more, left-none, one-whole}
 use Rattle.amqp_turns.proofs.Running.{turn_runs, stands_run}
-use Rattle.amqp_turns.proofs.Telling.{joined-push, length-joined}
+use Rattle.amqp_turns.proofs.Telling.{joined-push}
 use Rattle.amqp_turns.specs.InTurn.{greatest, AreInTurn, NoneIsOpen, state_on}
-use Rattle.amqp_recut.specs.Cuts.{cuts_of, frame_recut, recut_after, recut}
-use Rattle.amqp_recut.specs.Stepping.{whole_pieces, left_over}
+use Rattle.amqp_recut.specs.Cuts.{pieces_brought, frame_recut, recut_after, recut}
 use Rattle.amqp_recut.specs.Laws.{IsPiece, AreCut}
-use Rattle.amqp_recut.proofs.Cutting.{given_last, given_more, left-more, given-more, given-nothing}
+use Rattle.amqp_recut.proofs.Cutting.{brought}
 use Rattle.amqp_turns.proofs.Turns.{state_on-own, state_on-other, state_on-outside}
 use Rattle.amqp_recut.proofs.LawsChannels.{IsCut}
-use Rattle.amqp_recut.proofs.LawsPieces.{left_none}
 use Rattle.amqp_recut.proofs.LawsUnits.{unit_recut, begun_recut}
 use Rattle.amqp_recut.proofs.LawsOnce.{by_units, is_remade, bodies_are_cut}
 
@@ -36,29 +34,16 @@ IsWhole size (At Nothing) = Unit {0}
 IsWhole size (At (Opened opening)) = Unit {0}
 IsWhole size Lost = Unit {0}
 
-one_whole : (size : ℕ) (bytes : List ℕ) → 1 ≤ size → length bytes ≡ size → whole_pieces size bytes ≡ bytes ∷ []
-one_whole size bytes some e =
-    let none : length (drop size bytes) ≡ 0 = ap length (drop_all size bytes (omega arith)) in
-    given-more size false bytes some (omega arith) ∙ ap₂ (λ p ps. p ∷ ps) (take_all size bytes (omega arith)) (given-nothing size false (drop size bytes) some none)
-
-one_piece : (size : ℕ) (bytes : List ℕ) → 1 ≤ size → 1 ≤ length bytes → length bytes ≤ size → pieces size bytes ≡ bytes ∷ []
-one_piece size bytes some more fits =
-    pieces-more size bytes some more ∙ ap₂ (λ p ps. p ∷ ps) (take_all size bytes fits) (ap (pieces size) (drop_all size bytes fits) ∙ pieces-none size some)
-
-piece_stays : (size : ℕ) (opening header : Frame) (bodies : List Frame) (content : List ℕ) (goes : Bool) → 1 ≤ size → left_over size (joined bodies) ≡ [] → IsPiece size (At (Headed opening header bodies)) content → ltb (bytes_in outline_of bodies + length content) (size_in (outline_of header)) ≡ goes → cuts_of size (size_in (outline_of header)) (joined bodies) content ≡ content ∷ []
+piece_stays : (size : ℕ) (opening header : Frame) (bodies : List Frame) (content : List ℕ) (ends : Bool) → 1 ≤ size → left_over size (joined bodies) ≡ [] → IsPiece size (At (Headed opening header bodies)) content → eqb (bytes_in outline_of bodies + length content) (size_in (outline_of header)) ≡ ends → pieces_brought size ends (joined bodies) content ≡ content ∷ []
 piece_stays size opening header bodies content true some none piece e =
-    let less : bytes_in outline_of bodies + length content < size_in (outline_of header) = grind (arith, nat_tests) in
-    given_more size (size_in (outline_of header)) (joined bodies) content some (omega (arith, less, length-joined bodies))
-    ∙ ap (λ l. whole_pieces size (l ++ content)) none
-    ∙ one_whole size content some (omega (arith, piece.1, less))
+    brought size true (joined bodies) content some ∙ ap (λ l. pieces size (l ++ content)) none ∙ given-ended size content some piece.0 (omega (arith, piece.1))
 piece_stays size opening header bodies content false some none piece e =
-    let over : size_in (outline_of header) ≤ bytes_in outline_of bodies + length content = grind (arith, nat_tests) in
-    given_last size (size_in (outline_of header)) (joined bodies) content some (omega (arith, piece.0, piece.1, length-joined bodies)) (omega (arith, piece.0, piece.1, over, length-joined bodies))
-    ∙ ap (λ l. pieces size (l ++ content)) none
-    ∙ one_piece size content some piece.0 (omega (arith, piece.1))
+    let goes : (bytes_in outline_of bodies + length content ≡ size_in (outline_of header)) → ⊥ = eqb-false (bytes_in outline_of bodies + length content) (size_in (outline_of header)) e in
+    let long : length content ≡ size = grind (arith, piece.0, piece.1, goes) in
+    brought size false (joined bodies) content some ∙ ap (λ l. whole_pieces size (l ++ content)) none ∙ one-whole size content some long
 
 frame_stays : (size : ℕ) (state : State Frame) (frame : Frame) → 1 ≤ size → IsWhole size state → IsCut size state frame → frame_recut size state frame ≡ frame ∷ []
-frame_stays size (At (Headed opening header bodies)) (Body channel content) some whole cut = ap (λ ps. map (λ part. Body channel part) ps) (piece_stays size opening header bodies content (ltb (bytes_in outline_of bodies + length content) (size_in (outline_of header))) some whole cut refl)
+frame_stays size (At (Headed opening header bodies)) (Body channel content) some whole cut = ap (λ ps. map (λ part. Body channel part) ps) (piece_stays size opening header bodies content (eqb (bytes_in outline_of bodies + length content) (size_in (outline_of header))) some whole cut refl)
 frame_stays size (At Nothing) (Body channel content) some whole cut = refl
 frame_stays size (At (Opened opening)) (Body channel content) some whole cut = refl
 frame_stays size Lost (Body channel content) some whole cut = refl
@@ -83,7 +68,7 @@ left_whole size bodies channel content some none long =
     ap (left_over size) (joined-push bodies (Body channel content))
     ∙ sym (left-more size (joined bodies) content some)
     ∙ ap (λ l. left_over size (l ++ content)) none
-    ∙ left_none size content some long
+    ∙ left-none size content some long
 
 whole_body : (size : ℕ) (opening header : Frame) (bodies : List Frame) (channel : ℕ) (content : List ℕ) (fits all : Bool) → 1 ≤ size → left_over size (joined bodies) ≡ [] → IsPiece size (At (Headed opening header bodies)) content → leb (bytes_in outline_of bodies + length content) (size_in (outline_of header)) ≡ fits → eqb (bytes_in outline_of bodies + length content) (size_in (outline_of header)) ≡ all → IsWhole size (step outline_of greatest (At (Headed opening header bodies)) (Body channel content)).1
 whole_body size opening header bodies channel content false all some none piece fit done = rw fit tt

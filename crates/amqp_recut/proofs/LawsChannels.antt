@@ -1,9 +1,9 @@
 -- The frames of a channel are recut by themselves, whatever comes on other channels.
-use Rattle.std.proofs.Common.{◌≡◌, ℕ, Bool, true, false, eqb, List, [], ◌∷◌, ◌++◌, map, refl, sym, ap, ap₂, subst, ◌∙◌}
+use Rattle.std.proofs.Common.{◌≡◌, ℕ, ◌+◌, Bool, true, false, eqb, List, [], ◌∷◌, ◌++◌, length, map, refl, sym, ap, ap₂, subst, ◌∙◌}
 use Rattle.std.proofs.lemmas.List.Elements.{filter-append}
 use Rattle.amqp_wire.specs.Frames.{Frame, Proto, Meth, Head, Body, Beat, BadBeat, channel_id_of}
 use Rattle.amqp_wire.specs.Outlines.{outline_of}
-use Rattle.amqp_turns.specs.Units.{Nothing, Opened, Headed, is_of_channel, of_channel, size_in}
+use Rattle.amqp_turns.specs.Units.{Nothing, Opened, Headed, is_of_channel, of_channel, size_in, bytes_in}
 use Rattle.amqp_turns.specs.Stands.{State, At, Lost}
 use Rattle.amqp_turns.specs.Steps.{step, run_state}
 use Rattle.amqp_turns.specs.Messages.{joined}
@@ -11,7 +11,7 @@ use Rattle.amqp_turns.proofs.Running.{run_state-append}
 use Rattle.amqp_turns.proofs.Apart.{of_channel-in, of_channel-out, of_own}
 use Rattle.amqp_turns.proofs.Messages.{channel_is}
 use Rattle.amqp_turns.specs.InTurn.{greatest, state_on}
-use Rattle.amqp_recut.specs.Cuts.{cuts_of, frame_recut, recut_after, recut}
+use Rattle.amqp_recut.specs.Cuts.{pieces_brought, frame_recut, recut_after, recut}
 use Rattle.amqp_recut.specs.Laws.{IsPiece, AreCut}
 
 -- the frames of one channel recut, after what has come on it
@@ -44,7 +44,7 @@ own size channel state Beat h = alone_in channel Beat h
 own size channel state (BadBeat other) h = alone_in channel (BadBeat other) h
 own size channel (At Nothing) (Body other content) h = alone_in channel (Body other content) h
 own size channel (At (Opened opening)) (Body other content) h = alone_in channel (Body other content) h
-own size channel (At (Headed opening header bodies)) (Body other content) h = bodies_in channel other (cuts_of size (size_in (outline_of header)) (joined bodies) content) h
+own size channel (At (Headed opening header bodies)) (Body other content) h = bodies_in channel other (pieces_brought size (eqb (bytes_in outline_of bodies + length content) (size_in (outline_of header))) (joined bodies) content) h
 own size channel Lost (Body other content) h = alone_in channel (Body other content) h
 
 none : (size channel : ℕ) (state : State Frame) (frame : Frame) → is_of_channel outline_of channel frame ≡ false → of_channel outline_of channel (frame_recut size state frame) ≡ []
@@ -55,7 +55,7 @@ none size channel state Beat h = alone_out channel Beat h
 none size channel state (BadBeat other) h = alone_out channel (BadBeat other) h
 none size channel (At Nothing) (Body other content) h = alone_out channel (Body other content) h
 none size channel (At (Opened opening)) (Body other content) h = alone_out channel (Body other content) h
-none size channel (At (Headed opening header bodies)) (Body other content) h = bodies_out channel other (cuts_of size (size_in (outline_of header)) (joined bodies) content) h
+none size channel (At (Headed opening header bodies)) (Body other content) h = bodies_out channel other (pieces_brought size (eqb (bytes_in outline_of bodies + length content) (size_in (outline_of header))) (joined bodies) content) h
 none size channel Lost (Body other content) h = alone_out channel (Body other content) h
 
 -- ---- frames one after another

@@ -1,8 +1,8 @@
 -- Bodies of one message after another, recut: the pieces of their joined bytes.
-use Rattle.std.proofs.Common.{◌≡◌, ℕ, ◌+◌, ◌-◌, ◌*◌, ◌/◌, ◌<◌, ◌≤◌, zero, suc, Bool, true, false, ltb, List, [], ◌∷◌, ◌++◌, length, map, take, drop, refl, sym, ap, ap₂, subst, ◌∙◌, arith}
+use Rattle.std.proofs.Common.{◌≡◌, ℕ, ◌+◌, ◌<◌, ◌≤◌, zero, suc, Bool, true, false, eqb, ltb, List, [], ◌∷◌, ◌++◌, length, map, take, drop, refl, sym, ap, ap₂, subst, ◌∙◌, arith}
 use Rattle.std.specs.List.{AllByRecursion, flat_map}
 use Rattle.std.proofs.lemmas.Bool.Decides.{nat_tests}
-use Rattle.std.proofs.lemmas.List.{append-nil, append_assoc, drop-drop, take-append-le, drop-append-le, length-drop, length-take-le, length-append, drop_all, map-append}
+use Rattle.std.proofs.lemmas.List.{append-nil, append_assoc, length-drop, length-take-le, length-append, map-append}
 use Rattle.amqp_wire.specs.Frames.{Frame, Body}
 use Rattle.amqp_wire.specs.Outlines.{outline_of}
 use Rattle.amqp_turns.specs.Units.{Nothing, Headed, size_in, bytes_in, IsBody}
@@ -10,62 +10,16 @@ use Rattle.amqp_turns.specs.Answers.{Answer}
 use Rattle.amqp_turns.specs.Stands.{State, At}
 use Rattle.amqp_turns.specs.Steps.{step}
 use Rattle.amqp_turns.specs.Messages.{joined}
-use Rattle.amqp_turns.specs.Splits.{pieces}
+use Rattle.amqp_turns.specs.Splits.{pieces, whole_pieces, left_over, pieces_given}
+use Rattle.amqp_turns.proofs.Pieces.{given_after, given-more, given-ended, given-nothing, left-more, left_short, whole-none}
 use Rattle.amqp_turns.proofs.Moving.{bytes_in-push}
 use Rattle.amqp_turns.proofs.Running.{body_step, last_step}
 use Rattle.amqp_turns.proofs.Telling.{joined-push, length-joined}
 use Rattle.amqp_turns.specs.InTurn.{greatest}
-use Rattle.amqp_recut.specs.Cuts.{cuts_of}
-use Rattle.amqp_recut.specs.Stepping.{whole_pieces, left_over, pieces_given}
+use Rattle.amqp_recut.specs.Cuts.{pieces_brought}
 use Rattle.amqp_recut.specs.Laws.{IsPiece}
-use Rattle.amqp_recut.proofs.Cutting.{given_last, given_more, whole-none, left-all, left-more, given-more, given-ended, given-nothing, quotient_next, whole_count}
+use Rattle.amqp_recut.proofs.Cutting.{brought}
 use Rattle.amqp_recut.proofs.LawsChannels.{channel_recut, AreCutAfter}
-
--- ---- bytes
-
-itself_once : (m : ℕ) → 1 ≤ m → m / m ≡ 1
-itself_once m h = grind arith
-
-left_short : (size : ℕ) (bytes : List ℕ) → 1 ≤ size → length (left_over size bytes) < size
-left_short size bytes h =
-    let next = quotient_next (length bytes) size h in
-    omega (arith, next, length-drop ((length bytes / size) * size) bytes)
-
--- nothing is left over of one piece
-pub left_none : (size : ℕ) (bytes : List ℕ) → 1 ≤ size → length bytes ≡ size → left_over size bytes ≡ []
-left_none size bytes h e =
-    let once : length bytes / size ≡ 1 = ap (λ n. n / size) e ∙ itself_once size h in
-    let all : (length bytes / size) * size ≡ size = ap (λ n. n * size) once ∙ omega arith in
-    drop_all ((length bytes / size) * size) bytes (omega arith)
-
--- what is left over is that of the bytes after the first piece
-left_later : (size : ℕ) (bytes : List ℕ) → 1 ≤ size → size ≤ length bytes → left_over size bytes ≡ left_over size (drop size bytes)
-left_later size bytes h fits =
-    let count = whole_count (length bytes) size h fits in
-    let place : (length bytes / size) * size ≡ size + ((length bytes - size) / size) * size = ap (λ n. n * size) count ∙ omega arith in
-    ap (λ n. drop n bytes) place
-    ∙ sym (drop-drop (((length bytes - size) / size) * size) size bytes)
-    ∙ ap (λ n. drop ((n / size) * size) (drop size bytes)) (sym (length-drop size bytes))
-
--- pieces of some bytes, and then those of what is left over with the bytes after them
-given_within : (size : ℕ) (ends : Bool) (fuel : ℕ) (xs ys : List ℕ) → 1 ≤ size → length xs ≤ fuel → whole_pieces size xs ++ pieces_given size ends (left_over size xs ++ ys) ≡ pieces_given size ends (xs ++ ys)
-given_within size ends zero xs ys h enough = ap₂ (λ ps l. ps ++ pieces_given size ends (l ++ ys)) (whole-none size xs (omega arith)) (left-all size xs (omega arith))
-given_within size ends (suc fuel) xs ys h enough = by_length (ltb (length xs) size) refl (λ rest. given_within size ends fuel (drop size xs) ys h rest)
-  where
-    by_length : (less : Bool) → ltb (length xs) size ≡ less → (length (drop size xs) ≤ fuel → whole_pieces size (drop size xs) ++ pieces_given size ends (left_over size (drop size xs) ++ ys) ≡ pieces_given size ends (drop size xs ++ ys)) → whole_pieces size xs ++ pieces_given size ends (left_over size xs ++ ys) ≡ pieces_given size ends (xs ++ ys)
-    by_length true e rest =
-        let short : length xs < size = grind (arith, nat_tests) in
-        ap₂ (λ ps l. ps ++ pieces_given size ends (l ++ ys)) (whole-none size xs short) (left-all size xs short)
-    by_length false e rest =
-        let fits : size ≤ length xs = grind (arith, nat_tests) in
-        let more = rest (omega (arith, length-drop size xs)) in
-        ap₂ (λ ps l. ps ++ pieces_given size ends (l ++ ys)) (given-more size false xs h fits) (left_later size xs h fits)
-        ∙ ap (λ ps. take size xs ∷ ps) more
-        ∙ ap₂ (λ p r. p ∷ pieces_given size ends r) (sym (take-append-le size xs ys fits)) (sym (drop-append-le size xs ys fits))
-        ∙ sym (given-more size ends (xs ++ ys) h (omega (arith, length-append xs ys)))
-
-given_after : (size : ℕ) (ends : Bool) (xs ys : List ℕ) → 1 ≤ size → whole_pieces size xs ++ pieces_given size ends (left_over size xs ++ ys) ≡ pieces_given size ends (xs ++ ys)
-given_after size ends xs ys h = given_within size ends (length xs) xs ys h (omega arith)
 
 -- ---- bodies with these bytes
 
@@ -90,24 +44,6 @@ pub flat_push : (parts : List (List ℕ)) (part : List ℕ) → flat (parts ++ p
 flat_push [] part = append-nil part
 flat_push (p ∷ ps) part = ap (λ bs. p ++ bs) (flat_push ps part) ∙ sym (append_assoc p (flat ps) part)
 
--- the whole pieces of some bytes have no more
-whole_fit_within : (size fuel : ℕ) (bytes : List ℕ) → 1 ≤ size → length bytes ≤ fuel → length (flat (whole_pieces size bytes)) ≤ length bytes
-whole_fit_within size zero bytes h enough = let none : length (flat (whole_pieces size bytes)) ≡ 0 = ap (λ ps. length (flat ps)) (whole-none size bytes (omega arith)) in omega arith
-whole_fit_within size (suc fuel) bytes h enough = by_length (ltb (length bytes) size) refl (λ rest. whole_fit_within size fuel (drop size bytes) h rest)
-  where
-    by_length : (less : Bool) → ltb (length bytes) size ≡ less → (length (drop size bytes) ≤ fuel → length (flat (whole_pieces size (drop size bytes))) ≤ length (drop size bytes)) → length (flat (whole_pieces size bytes)) ≤ length bytes
-    by_length true e rest =
-        let none : length (flat (whole_pieces size bytes)) ≡ 0 = ap (λ ps. length (flat ps)) (whole-none size bytes (grind (arith, nat_tests))) in
-        omega arith
-    by_length false e rest =
-        let fits : size ≤ length bytes = grind (arith, nat_tests) in
-        let first : length (flat (whole_pieces size bytes)) ≡ length (take size bytes ++ flat (whole_pieces size (drop size bytes))) = ap (λ ps. length (flat ps)) (given-more size false bytes h fits) in
-        let more = rest (omega (arith, length-drop size bytes)) in
-        omega (arith, first, more, length-drop size bytes, length-take-le size bytes fits, length-append (take size bytes) (flat (whole_pieces size (drop size bytes))))
-
-pub whole_fit : (size : ℕ) (bytes : List ℕ) → 1 ≤ size → length (flat (whole_pieces size bytes)) ≤ length bytes
-whole_fit size bytes h = whole_fit_within size (length bytes) bytes h (omega arith)
-
 -- ---- bodies recut
 
 module _ (size channel : ℕ) (opening header : Frame) (some : 1 ≤ size) where
@@ -124,8 +60,8 @@ module _ (size channel : ℕ) (opening header : Frame) (some : 1 ≤ size) where
   -- a body before the last
   one_more : (before : List Frame) (part : List ℕ) (frames : List Frame) → bytes_in outline_of before + length part < size_in (outline_of header) → channel_recut size (headed before) (Body channel part ∷ frames) ≡ bodies_with channel (whole_pieces size (left_over size (joined before) ++ part)) ++ channel_recut size (headed (before ++ Body channel part ∷ [])) frames
   one_more before part frames less =
-      let cuts : cuts_of size (size_in (outline_of header)) (joined before) part ≡ whole_pieces size (left_over size (joined before) ++ part) = given_more size (size_in (outline_of header)) (joined before) part some (omega (arith, length-joined before)) in
-      ap₂ (λ ps s. bodies_with channel ps ++ channel_recut size s frames) cuts (grown before part less)
+      let goes : eqb (bytes_in outline_of before + length part) (size_in (outline_of header)) ≡ false = grind (arith, nat_tests) in
+      ap₂ (λ ps s. bodies_with channel ps ++ channel_recut size s frames) (ap (λ ends. pieces_brought size ends (joined before) part) goes ∙ brought size false (joined before) part some) (grown before part less)
 
   -- its pieces, and those of the bytes after it
   pieces_more : (ends : Bool) (before : List Frame) (part bytes : List ℕ) → bodies_with channel (whole_pieces size (left_over size (joined before) ++ part)) ++ bodies_with channel (pieces_given size ends (left_over size (joined (before ++ Body channel part ∷ [])) ++ bytes)) ≡ bodies_with channel (pieces_given size ends (left_over size (joined before) ++ (part ++ bytes)))
@@ -152,8 +88,9 @@ module _ (size channel : ℕ) (opening header : Frame) (some : 1 ≤ size) where
   -- bodies of a message up to its last
   pub closed_bodies : (before : List Frame) (parts : List (List ℕ)) (last : List ℕ) (frames : List Frame) → bytes_in outline_of before + length (flat parts) < size_in (outline_of header) → bytes_in outline_of before + length (flat parts) + length last ≡ size_in (outline_of header) → channel_recut size (headed before) (bodies_with channel parts ++ Body channel last ∷ frames) ≡ bodies_with channel (pieces size (left_over size (joined before) ++ (flat parts ++ last))) ++ channel_recut size (At Nothing) frames
   closed_bodies before [] last frames less all =
-      let cuts : cuts_of size (size_in (outline_of header)) (joined before) last ≡ pieces size (left_over size (joined before) ++ last) = given_last size (size_in (outline_of header)) (joined before) last some (omega (arith, length-joined before)) (omega (arith, length-joined before)) in
-      ap₂ (λ ps s. bodies_with channel ps ++ channel_recut size s frames) cuts (ended before last (omega arith))
+      let sum : bytes_in outline_of before + length last ≡ size_in (outline_of header) = omega arith in
+      let ends : eqb (bytes_in outline_of before + length last) (size_in (outline_of header)) ≡ true = grind (arith, nat_tests) in
+      ap₂ (λ ps s. bodies_with channel ps ++ channel_recut size s frames) (ap (λ b. pieces_brought size b (joined before) last) ends ∙ brought size true (joined before) last some) (ended before last sum)
   closed_bodies before (part ∷ parts) last frames less all =
       let total = length-append part (flat parts) in
       let grown = bytes_in-push outline_of before (Body channel part) in
@@ -182,7 +119,7 @@ module _ (size channel : ℕ) (opening header : Frame) (some : 1 ≤ size) where
   cut_short : (ends : Bool) (before : List Frame) (bytes : List ℕ) → length bytes < size → 1 ≤ length bytes → Fits ends (bytes_in outline_of before + length bytes) → AreCutAfter size (headed before) (bodies_with channel (pieces_given size ends bytes))
   cut_short true before bytes less one h =
       let piece : IsPiece size (headed before) bytes = (omega arith, omega arith) in
-      subst (λ (ps : List (List ℕ)). AreCutAfter size (headed before) (bodies_with channel ps)) (sym (given-ended size bytes some one less)) (piece, tt)
+      subst (λ (ps : List (List ℕ)). AreCutAfter size (headed before) (bodies_with channel ps)) (sym (given-ended size bytes some one (omega arith))) (piece, tt)
   cut_short false before bytes less one h = subst (λ (ps : List (List ℕ)). AreCutAfter size (headed before) (bodies_with channel ps)) (sym (whole-none size bytes less)) tt
 
   -- what comes after a piece of the whole size

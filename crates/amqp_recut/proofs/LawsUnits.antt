@@ -12,16 +12,15 @@ use Rattle.amqp_turns.specs.Answers.{Answer, finished_answers}
 use Rattle.amqp_turns.specs.Stands.{State, At}
 use Rattle.amqp_turns.specs.Steps.{step, run_state}
 use Rattle.amqp_turns.specs.Messages.{method_in, header_in, bytes_of, joined}
-use Rattle.amqp_turns.specs.Splits.{pieces}
-use Rattle.amqp_turns.proofs.Pieces.{ArePieces, pieces_are}
+use Rattle.amqp_turns.specs.Splits.{pieces, whole_pieces, left_over}
+use Rattle.amqp_turns.proofs.Pieces.{ArePieces, pieces_are, whole_fit}
 use Rattle.amqp_turns.proofs.Running.{empty_step, finished_runs, run_state-append}
 use Rattle.amqp_turns.proofs.Telling.{joined-push, length-joined}
 use Rattle.amqp_turns.proofs.Messages.{IsOn, all_front, all_back, opened, headed_by, done_by, done_by_append, full_done}
 use Rattle.amqp_turns.specs.InTurn.{greatest}
 use Rattle.amqp_recut.specs.Cuts.{frame_recut}
-use Rattle.amqp_recut.specs.Stepping.{whole_pieces, left_over}
 use Rattle.amqp_recut.proofs.LawsChannels.{channel_recut, IsCut, AreCutAfter, cut_append}
-use Rattle.amqp_recut.proofs.LawsPieces.{bodies_with, flat, joined_bodies, bytes_bodies, all_bodies, flat_push, whole_fit, open_bodies, closed_bodies, cut_given}
+use Rattle.amqp_recut.proofs.LawsPieces.{bodies_with, flat, joined_bodies, bytes_bodies, all_bodies, flat_push, open_bodies, closed_bodies, cut_given}
 
 -- a unit recut: the body of a message in pieces
 abbrev pub unit_recut : (size channel : ℕ) → Finished Frame → List Frame

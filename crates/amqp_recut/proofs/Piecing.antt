@@ -9,9 +9,8 @@ use Rattle.amqp_wire.specs.Canonical.{canon, canon_frames}
 use Rattle.amqp_stream.specs.Ends.{Store}
 use Rattle.amqp_stream.specs.declared.sink.SinkFault.{SinkFault}
 use Rattle.amqp_stream.specs.Writing.{Gathered, GatherFails, Gathers}
-use Rattle.amqp_turns.proofs.Pieces.{short_take, short_drop}
-use Rattle.amqp_recut.specs.Stepping.{frames_given}
-use Rattle.amqp_recut.proofs.Cutting.{given-more, given-ended, given-nothing, whole-none}
+use Rattle.amqp_turns.specs.Splits.{frames_given}
+use Rattle.amqp_turns.proofs.Pieces.{given-more, given-ended, given-nothing, short_take, short_drop, whole-none}
 use Rattle.amqp_recut.proofs.Gathering.{gather_fails_later, gathers_then, gathers_less, gathers_as}
 use Rattle.amqp_stream.proofs.Transcribing.{gathered_then}
 
@@ -103,7 +102,7 @@ given_of_two {a = a} {b = b} {c = c} {x = x} {y = y} {z = z} {all = all} size ch
 -- what is given of fewer bytes than a piece has
 pub given_last_piece : (size channel : ℕ) (bytes : List ℕ) → 1 ≤ size → 1 ≤ length bytes → length bytes < size → canon_frames (frames_given size channel true bytes) ≡ framed 3 channel bytes
 unfolding canon
-given_last_piece size channel bytes h some less = ap (λ ps. canon_frames (map (λ piece. Body channel piece) ps)) (given-ended size bytes h some less) ∙ append-nil (framed 3 channel bytes)
+given_last_piece size channel bytes h some less = ap (λ ps. canon_frames (map (λ piece. Body channel piece) ps)) (given-ended size bytes h some (omega arith)) ∙ append-nil (framed 3 channel bytes)
 
 pub given_no_piece : (size channel : ℕ) (ends : Bool) (bytes : List ℕ) → 1 ≤ size → length bytes ≡ 0 → canon_frames (frames_given size channel ends bytes) ≡ []
 given_no_piece size channel ends bytes h none = ap (λ ps. canon_frames (map (λ piece. Body channel piece) ps)) (given-nothing size ends bytes h none)

@@ -32,7 +32,8 @@ use Rattle.amqp_recut.specs.declared.errors.Refusal.TheVariants as refusals
 use Rattle.amqp_recut.specs.declared.recutter.Recutter.{Recutter}
 use Rattle.amqp_turns.specs.InTurn.{greatest}
 use Rattle.amqp_recut.specs.Held.{Held, progress_in, kept_in, held_with, set_at}
-use Rattle.amqp_recut.specs.Stepping.{frames_given, left_over, bytes_kept, mark_held, held_at, step_marked, step_recutting, recutting, is_content_type, body_raw, RefusesFrame}
+use Rattle.amqp_turns.specs.Splits.{frames_given, left_over}
+use Rattle.amqp_recut.specs.Stepping.{bytes_kept, mark_held, held_at, step_marked, step_recutting, recutting, is_content_type, body_raw, RefusesFrame}
 use Rattle.amqp_turns.proofs.Holding.{set_at-same}
 use Rattle.amqp_recut.proofs.Channels.{passed_mark, passed_keeps}
 

@@ -1,9 +1,8 @@
 -- What the writer returns for a frame, by what its calls return.
-use Rattle.std.proofs.Common.{◌≡◌, ◌≢◌, ℕ, ◌+◌, ◌-◌, ◌*◌, ◌/◌, ◌%◌, ◌≤◌, Bool, true, false, eqb, List, [], ◌∷◌, ◌++◌, map, length, drop, refl, sym, ap, ap₂, subst, ◌∙◌, inl, inr, arith, append-nil, Some, None, Ok, Err}
+use Rattle.std.proofs.Common.{◌≡◌, ◌≢◌, ℕ, ◌%◌, ◌≤◌, Bool, true, false, eqb, List, [], ◌∷◌, ◌++◌, map, length, refl, sym, ap, subst, ◌∙◌, arith, append-nil, Some, None, Ok, Err}
 use Rattle.std.specs.FinMap as finite
-use Rattle.std.proofs.lemmas.Bool.{cases_lt, ne_eqb}
-use Rattle.std.proofs.lemmas.List.{length-append, take_all, drop_all}
-use Rattle.std.proofs.Math.Nat.{div_self}
+use Rattle.std.proofs.lemmas.Bool.{ne_eqb}
+use Rattle.std.proofs.lemmas.List.{length-append}
 use Rattle.std.proofs.lemmas.Nat.{div-add-mod'}
 use Rattle.amqp_types.specs.Levels.{plain}
 use Rattle.amqp_types.specs.Answers.{RefusesWhole}
@@ -38,8 +37,9 @@ use Rattle.amqp_turns.specs.Steps.{progress_after}
 use Rattle.amqp_turns.specs.InTurn.{greatest}
 use Rattle.amqp_recut.specs.Held.{progress_in, kept_in}
 use Rattle.amqp_recut.specs.declared.errors.Refusal.TheVariants as refusals
-use Rattle.amqp_recut.specs.Stepping.{pieces_given, frames_given, recutting, step_recutting, left_over, mark_held, held_at, IsFaultyBy, JudgesWhole, RefusesFrame}
-use Rattle.amqp_recut.proofs.Cutting.{given-more, given-ended, given-nothing}
+use Rattle.amqp_turns.specs.Splits.{frames_given, left_over}
+use Rattle.amqp_turns.proofs.Pieces.{given-ended, left-none, one-whole}
+use Rattle.amqp_recut.specs.Stepping.{recutting, step_recutting, mark_held, held_at, IsFaultyBy, JudgesWhole, RefusesFrame}
 use Rattle.amqp_recut.proofs.Stepping.{refused_as, typed_wants, body_ends, body_goes_on}
 
 -- ---- a payload that is none
@@ -49,11 +49,6 @@ not_memory error some e = some cc
 
 no_frame : (raw : Raw) (error : ParserError) → IsPayloadFault error → RefusesWhole error (whole raw) → IsNone raw (cause_of (payload_fault error))
 no_frame raw error fault h = is_none raw error fault.0 (not_memory error fault.1) h
-
-pub refuses_faulty : (raw : Raw) (other : ContentFault) (error : ParserError) → IsPayloadFault error → RefusesWhole error (whole raw) → RefusesFrame raw other (stopped_by (cause_of (payload_fault error)))
-refuses_faulty raw other error fault h =
-    let none = no_frame raw error fault h in
-    subst (λ cause. RefusesFrame raw other (stopped_by cause)) none.tells (is_faulty plain raw none.bad none.is_whole none.other)
 
 pub faulty_by : (raw : Raw) (error : ParserError) → IsPayloadFault error → RefusesWhole error (whole raw) → IsFaultyBy raw (cause_of (payload_fault error))
 faulty_by raw error fault h = let none = no_frame raw error fault h in subst (IsFaultyBy raw) none.tells (is_faulty plain raw none.bad none.is_whole none.other)
@@ -100,24 +95,11 @@ body_kept s t raw is steps =
     subst P (sym is) own
 
 -- the whole of a body that is no longer than a piece
-pub one_piece : (size channel : ℕ) (ends : Bool) (payload : List ℕ) → 1 ≤ size → length payload ≡ size → canon_frames (frames_given size channel ends payload) ≡ canon (Body channel payload)
-one_piece size channel ends payload some full =
-    let none : drop size payload ≡ [] = drop_all size payload (omega (arith, full)) in
-    let pieces : pieces_given size ends payload ≡ payload ∷ [] =
-    given-more size ends payload some (omega (arith, full)) ∙ ap₂ (λ (x : List ℕ) (xs : List (List ℕ)). x ∷ xs) (take_all size payload (omega (arith, full))) (given-nothing size ends (drop size payload) some (ap length none)) in
-    ap (λ (ps : List (List ℕ)). canon_frames (map (λ piece. Body channel piece) ps)) pieces ∙ append-nil (canon (Body channel payload))
+pub one_piece : (size channel : ℕ) (payload : List ℕ) → 1 ≤ size → length payload ≡ size → canon_frames (frames_given size channel false payload) ≡ canon (Body channel payload)
+one_piece size channel payload some full = ap (λ (ps : List (List ℕ)). canon_frames (map (λ piece. Body channel piece) ps)) (one-whole size payload some full) ∙ append-nil (canon (Body channel payload))
 
 pub last_piece : (size channel : ℕ) (payload : List ℕ) → 1 ≤ length payload → length payload ≤ size → canon_frames (frames_given size channel true payload) ≡ canon (Body channel payload)
-last_piece size channel payload some few = elim (cases_lt (length payload) size) [
-  | inl less ↦ ap (λ (ps : List (List ℕ)). canon_frames (map (λ piece. Body channel piece) ps)) (given-ended size payload (omega arith) some less) ∙ append-nil (canon (Body channel payload))
-  | inr full ↦ one_piece size channel true payload (omega arith) (omega (arith, full))
-]
-
-pub none_left : (size : ℕ) (payload : List ℕ) → 1 ≤ size → length payload ≡ size → left_over size payload ≡ []
-none_left size payload some full =
-    let one : length payload / size ≡ 1 = ap (λ n. n / size) full ∙ div_self some in
-    let all : (length payload / size) * size ≡ size = ap (λ k. k * size) one ∙ omega arith in
-    drop_all ((length payload / size) * size) payload (omega (arith, full, all))
+last_piece size channel payload some few = ap (λ (ps : List (List ℕ)). canon_frames (map (λ piece. Body channel piece) ps)) (given-ended size payload (omega arith) some few) ∙ append-nil (canon (Body channel payload))
 
 -- no bytes
 pub empty_is : (xs : List ℕ) (empty : Bool) → empty ≡ eqb (length xs) 0 → empty ≡ true → xs ≡ []
@@ -142,11 +124,11 @@ pub body_midst : (s t : Recutter) (channel : ℕ) (payload : List ℕ) (before a
     → t ≡ record s { messages = finite.insert s.messages channel (record { progress = progress; kept = kept_in (held_at s channel) ++ [] }) } → step_recutting s (Body channel payload) ≡ Ok (canon (Body channel payload), t)
 body_midst s t channel payload before after n progress mark some_left empty some full is =
     let with_kept : List ℕ → Recutter = λ kept. record s { messages = finite.insert s.messages channel (record { progress = progress; kept = kept }) } in
-    let left : left_over s.size (kept_in (held_at s channel) ++ payload) ≡ [] = ap (λ (k : List ℕ). left_over s.size (k ++ payload)) empty ∙ none_left s.size payload (omega (arith, some, full)) full in
+    let left : left_over s.size (kept_in (held_at s channel) ++ payload) ≡ [] = ap (λ (k : List ℕ). left_over s.size (k ++ payload)) empty ∙ left-none s.size payload (omega (arith, some, full)) full in
     let state : with_kept [] ≡ t = ap with_kept (sym (ap (λ (k : List ℕ). k ++ []) empty)) ∙ sym is in
     body_goes_on s channel payload before after n progress mark some_left
     ∙ ap (λ (k : List ℕ). Ok (canon_frames (frames_given s.size channel false (k ++ payload)), with_kept (left_over s.size (kept_in (held_at s channel) ++ payload)))) empty
-    ∙ ap (λ (bytes : List ℕ). Ok (bytes, with_kept (left_over s.size (kept_in (held_at s channel) ++ payload)))) (one_piece s.size channel false payload (omega (arith, some, full)) full)
+    ∙ ap (λ (bytes : List ℕ). Ok (bytes, with_kept (left_over s.size (kept_in (held_at s channel) ++ payload)))) (one_piece s.size channel payload (omega (arith, some, full)) full)
     ∙ ap (λ (kept : List ℕ). Ok (canon (Body channel payload), with_kept kept)) left
     ∙ ap (λ v. Ok (canon (Body channel payload), v)) state
 
@@ -169,15 +151,6 @@ error_few s t raw a b x y (runs.Stream error) h = stopped_few s t raw a b x y (c
 error_few s t raw a b x y (runs.Refused why) h = kept_few a b x y h.1
 
 -- ---- what is left over
-
-pub left_is : (size count : ℕ) (front back : List ℕ) → count ≡ (length front + length back) % size → drop ((length front + length back) - count) (front ++ back) ≡ left_over size (front ++ back)
-left_is size count front back e =
-    let all = front ++ back in
-    let total : length front + length back ≡ length all = sym (length-append front back) in
-    let rest : length all / size * size + length all % size ≡ length all = div-add-mod' (length all) size in
-    let part : count ≡ length all % size = e ∙ ap (λ n. n % size) total in
-    let place : (length front + length back) - count ≡ length all / size * size = omega (arith, total, rest, part) in
-    ap (λ n. drop n all) place
 
 pub left_few : (n m : ℕ) → n % m ≤ n
 left_few n m = omega (arith, div-add-mod' n m)

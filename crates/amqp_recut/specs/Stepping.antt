@@ -1,11 +1,10 @@
 -- How recutting goes from frame to frame: what is written for a frame, and what is kept after it.
-use Rattle.std.specs.Prelude.{◌≡◌, ℕ, ◌*◌, ◌/◌, ◌==◌, Bool, true, false, List, [], ◌++◌, map, take, drop, length, Option, Some, None, Result, Ok, Err, if◌then◌else◌}
-use Rattle.std.specs.List.{range_with_len}
+use Rattle.std.specs.Prelude.{◌≡◌, ℕ, ◌==◌, Bool, true, false, List, [], ◌++◌, Option, Some, None, Result, Ok, Err, if◌then◌else◌}
 use Rattle.std.specs.FinMap as finite
 use Rattle.amqp_types.specs.Levels.{plain}
 use Rattle.amqp_wire.specs.declared.frame_type.AMQPFrameType.{AMQPFrameType}
 use Rattle.amqp_wire.specs.declared.frame_type.AMQPFrameType.TheVariants as kinds
-use Rattle.amqp_wire.specs.Frames.{Raw, Frame, Body, channel_id_of}
+use Rattle.amqp_wire.specs.Frames.{Raw, Frame, channel_id_of}
 use Rattle.amqp_wire.specs.Outlines.{outline_of}
 use Rattle.amqp_wire.specs.Canonical.{canon, canon_frames}
 use Rattle.amqp_wire.specs.Judgements.{IsJudged}
@@ -14,7 +13,7 @@ use Rattle.amqp_turns.specs.declared.fault.ContentFault.{ContentFault}
 use Rattle.amqp_turns.specs.declared.mark.Mark.{Mark}
 use Rattle.amqp_turns.specs.declared.mark.Mark.TheVariants as marks
 use Rattle.amqp_turns.specs.Messages.{bytes_of}
-use Rattle.amqp_turns.specs.Splits.{pieces}
+use Rattle.amqp_turns.specs.Splits.{frames_given, left_over}
 use Rattle.amqp_turns.specs.Steps.{mark_after, progress_after}
 use Rattle.amqp_stream.specs.declared.decision.Decision.{Decision}
 use Rattle.amqp_stream.specs.declared.decision.Decision.TheVariants as decisions
@@ -28,25 +27,6 @@ use Rattle.amqp_recut.specs.declared.errors.Refusal.TheVariants as refusals
 use Rattle.amqp_recut.specs.declared.recutter.Recutter.{Recutter}
 use Rattle.amqp_turns.specs.InTurn.{greatest}
 use Rattle.amqp_recut.specs.Held.{Held, progress_in, kept_in, held_with, set_at}
-
--- ---- pieces
-
--- the pieces of some bytes that have the whole size
-abbrev pub whole_pieces : ℕ → List ℕ → List (List ℕ)
-whole_pieces size bytes = map (λ k. take size (drop (k * size) bytes)) (range_with_len 0 (length bytes / size))
-
--- the bytes after them
-abbrev pub left_over : ℕ → List ℕ → List ℕ
-left_over size bytes = drop ((length bytes / size) * size) bytes
-
--- the pieces that are written: all of them at the end of a body, and else those that have the whole size
-abbrev pub pieces_given : ℕ → Bool → List ℕ → List (List ℕ)
-pieces_given size true bytes = pieces size bytes
-pieces_given size false bytes = whole_pieces size bytes
-
--- the body frames on a channel with the pieces that are written, in order
-abbrev pub frames_given : ℕ → ℕ → Bool → List ℕ → List Frame
-frames_given size channel ends bytes = map (λ piece. Body channel piece) (pieces_given size ends bytes)
 
 -- ---- one frame
 

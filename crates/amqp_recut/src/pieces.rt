@@ -4,7 +4,7 @@ ghost use Rattle.std.specs.Prelude.{◌≡◌, ◌+◌, ◌-◌, ◌++◌, ◌^�
 ghost use Rattle.amqp_wire.specs.Canonical.{canon_frames};
 ghost use Rattle.amqp_wire.specs.Spelling.{framed};
 ghost use Rattle.amqp_stream.specs.Writing.{Gathers};
-ghost use Rattle.amqp_recut.specs.Stepping.{frames_given};
+ghost use Rattle.amqp_turns.specs.Splits.{frames_given};
 ghost use Rattle.amqp_types.specs.Constants.{body_byte};
 
 use amqp_stream::{OutputBuffer, SMALL_BODY, Sink, SinkFault, flush, gather};

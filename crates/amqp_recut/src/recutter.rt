@@ -9,10 +9,10 @@ use amqp_stream::{
     Decision, FrameWriter, OutputBuffer, RunError, Sink, StreamError, as_run, payload_error,
     put_decided, write_canonical,
 };
-use amqp_turns::{ContentFault, Mark, Progress, step};
+use amqp_turns::{Mark, Progress, step};
 use amqp_types::{ChannelId, NoMemory};
 use amqp_wire::{
-    AMQPFrameType, AMQPRawFrame, FrameJudgement, FrameOutline, judge_frame, outline_front,
+    AMQPFrameType, AMQPRawFrame, FrameJudgement, FrameOutline, judge_frame, outline_raw,
 };
 use std::alloc::Global;
 
@@ -31,11 +31,13 @@ impl Recutter {
     ghost use Rattle.std.specs.FinMap as finite;
     ghost use Rattle.amqp_wire.specs.Frames.{Frame, Body, raw_of, IsTyped};
     ghost use Rattle.amqp_wire.specs.Canonical.{canon, canon_frames};
+    ghost use Rattle.amqp_wire.specs.Judgements.{IsJudged};
     ghost use Rattle.amqp_wire.specs.Verdicts.{whole};
     ghost use Rattle.amqp_stream.specs.Decisions.{DecidesBy};
-    ghost use Rattle.amqp_stream.specs.Streaming.{WritesBy, ending_of, error_ending};
+    ghost use Rattle.amqp_stream.specs.Streaming.{WritesBy, ending_of};
     ghost use Rattle.amqp_recut.specs.Held.{held_with, set_at, kept_in};
-    ghost use Rattle.amqp_recut.specs.Stepping.{recutting, step_recutting, held_at, frames_given, left_over, body_raw, JudgesWhole, RefusesFrame};
+    ghost use Rattle.amqp_turns.specs.Splits.{frames_given, left_over};
+    ghost use Rattle.amqp_recut.specs.Stepping.{recutting, step_recutting, held_at, body_raw, JudgesWhole};
 
     /// A writer that has taken no frame.
     pub(crate) fn new(alloc: Global, size: u32) -> Recutter
@@ -108,62 +110,57 @@ impl Recutter {
         }
     }
 
-    /// Why a frame that is not in turn is refused: a fault of its payload comes first.
-    fn refuse(raw: AMQPRawFrame<'_>, fault: ContentFault) -> RunError<Refusal>
-        ensures { RefusesFrame (raw_of raw.entry) fault (error_ending result) }
-    {
-        match judge_frame(raw) {
-            Ok(_) => RunError::Refused(Refusal::BadContent(fault)),
-            Err(error) => RunError::Stream(payload_error(error)),
-        }
-    }
-
     /// Takes a method or content header that is part of a message.
     #[inline(always)]
     fn decide_part(
         &mut self,
         raw: AMQPRawFrame<'_>,
         progress: Option<Progress>,
+        judged: FrameJudgement,
     ) -> Result<Decision, RunError<Refusal>>
         requires typed { IsTyped raw.frame_type }
+        requires judged { IsJudged (raw_of raw) judged }
         requires steps { (frame : Frame) → whole (raw_of raw) ≡ Ok frame
             → step_recutting self.old frame ≡ Ok (canon frame, record self.old { messages = set_at self.old.messages raw.channel_id (held_with progress []) }) }
         ensures { DecidesBy recutting self.old self.new (raw_of raw.entry) result }
     {
-        match Recutter::judge(raw) {
-            Err(error) => Err(RunError::Stream(error)),
-            Ok(decision) => match self.keep(raw.channel_id, progress) {
-                Err(_) => Err(RunError::Stream(StreamError::NoMemory)),
-                Ok(()) => Ok(decision),
-            },
+        match self.keep(raw.channel_id, progress) {
+            Err(_) => Err(RunError::Stream(StreamError::NoMemory)),
+            Ok(()) => Ok(Decision::Kept(judged)),
         }
     }
 
-    /// Takes a method or content header.
+    /// Takes a whole method or content header by its mark.
+    #[inline(always)]
+    fn decide_judged(
+        &mut self,
+        raw: AMQPRawFrame<'_>,
+        judged: FrameJudgement,
+    ) -> Result<Decision, RunError<Refusal>>
+        requires typed { IsTyped raw.frame_type }
+        requires judged { IsJudged (raw_of raw) judged }
+        ensures { DecidesBy recutting self.old self.new (raw_of raw.entry) result }
+    {
+        let outline = outline_raw(raw);
+        let stepped = step(u64::MAX, self.messages.progress(raw.channel_id), outline);
+        match stepped.0 {
+            Mark::Fault(fault) => Err(RunError::Refused(Refusal::BadContent(fault))),
+            Mark::Passed => Ok(Decision::Kept(judged)),
+            Mark::Opening => self.decide_part(raw, stepped.1, judged),
+            Mark::Header => self.decide_part(raw, stepped.1, judged),
+            Mark::Body { .. } => self.decide_part(raw, stepped.1, judged),
+        }
+    }
+
+    /// Takes a method or content header: a fault of its payload comes first.
     #[inline(always)]
     fn decide_typed(&mut self, raw: AMQPRawFrame<'_>) -> Result<Decision, RunError<Refusal>>
         requires typed { IsTyped raw.frame_type }
         ensures { DecidesBy recutting self.old self.new (raw_of raw.entry) result }
     {
-        match outline_front(raw) {
-            // Only a payload that has a fault has no outline.
-            None => match judge_frame(raw) {
-                Err(error) => Err(RunError::Stream(payload_error(error))),
-                Ok(_) => unreachable!(),
-            },
-            Some(outline) => {
-                let stepped = step(u64::MAX, self.messages.progress(raw.channel_id), outline);
-                match stepped.0 {
-                    Mark::Fault(fault) => Err(Recutter::refuse(raw, fault)),
-                    Mark::Passed => match Recutter::judge(raw) {
-                        Ok(decision) => Ok(decision),
-                        Err(error) => Err(RunError::Stream(error)),
-                    },
-                    Mark::Opening => self.decide_part(raw, stepped.1),
-                    Mark::Header => self.decide_part(raw, stepped.1),
-                    Mark::Body { .. } => self.decide_part(raw, stepped.1),
-                }
-            }
+        match judge_frame(raw) {
+            Err(error) => Err(RunError::Stream(payload_error(error))),
+            Ok(judged) => self.decide_judged(raw, judged),
         }
     }
 

@@ -4,6 +4,7 @@ use Rattle.std.proofs.lemmas.Bool.{cases_lt}
 use Rattle.std.proofs.lemmas.List.{length-append, get_or_append_left, get_or-append-add}
 use Rattle.amqp_types.specs.Judging.{IsBytes}
 use Rattle.amqp_stream.specs.Ends.{Supply, Takes, Reported, Nothing, Number, Bytes, Store, Gains, Rises, prepended, counted, grown, last}
+use Rattle.amqp_stream.specs.Resuming.{ahead}
 
 -- ---- counts of faults
 
@@ -38,6 +39,28 @@ Takes-then a b c p q n k f g = record {
 
 pub Takes-none : (a : Supply) → Takes a a [] 0
 Takes-none a = record { bytes = prepended-nil a.left; counts = sym (counted-zero a.reads); faults = omega arith }
+
+-- bytes that are held already, and then these were taken
+pub Takes-ahead : (a b : Supply) (held piece all : List ℕ) (n : ℕ) → all ≡ held ++ piece → Takes a b piece n → Takes (ahead held a) b all n
+Takes-ahead a b held piece all n e f = record {
+  bytes = ap (prepended held) f.bytes ∙ prepended-prepended held piece b.left ∙ ap (λ (xs : List ℕ). prepended xs b.left) (sym e);
+  counts = f.counts;
+  faults = f.faults;
+}
+
+-- nothing is held already
+pub ahead_of_none : (held : List ℕ) (a : Supply) → held ≡ [] → ahead held a ≡ a
+ahead_of_none held a e = ap (λ (xs : List ℕ). ahead xs a) e ∙ ap (λ left. record { left = left; reads = a.reads; faults = a.faults }) (sym (prepended-nil a.left))
+
+-- ---- counts of bytes
+
+-- none came
+pub counted_none : (count : ℕ) (piece : List ℕ) → length piece ≡ 0 → Some count ≡ counted (length piece) (Some count)
+counted_none count piece e = ap Some (omega (arith, e))
+
+-- more came
+pub counted_more : (first second third : ℕ) (p q : List ℕ) → Some second ≡ counted (length p) (Some first) → Some third ≡ counted (length q) (Some second) → Some third ≡ counted (length (p ++ q)) (Some first)
+counted_more first second third p q f g = g ∙ ap (counted (length q)) f ∙ counted-counted (length p) (length q) (Some first) ∙ ap (λ k. counted k (Some first)) (sym (length-append p q))
 
 -- ---- sinks
 

@@ -1,5 +1,5 @@
 -- The engine's loop: what was taken, what was written, and what is pending.
-use Rattle.std.proofs.Common.{◌≡◌, ◌≢◌, ℕ, ◌+◌, ◌-◌, ◌*◌, ◌<◌, ◌≤◌, List, [], ◌∷◌, ◌++◌, length, take, drop, Some, Result, Ok, IsTrue, sym, ap, subst, ◌∙◌, arith, append_assoc, append-nil}
+use Rattle.std.proofs.Common.{◌≡◌, ◌≢◌, ℕ, ◌+◌, ◌-◌, ◌*◌, ◌<◌, ◌≤◌, List, [], ◌∷◌, ◌++◌, length, take, drop, Some, Result, Ok, IsTrue, refl, sym, ap, subst, ◌∙◌, arith, append_assoc, append-nil}
 use Rattle.std.proofs.lemmas.List.{length-append, length-drop, take-append-drop}
 use Rattle.std.proofs.Math.Nat.{mul-le-mul_right}
 use Rattle.amqp_types.specs.Levels.{Level}
@@ -15,15 +15,16 @@ use Rattle.amqp_wire.proofs.OuterLook.{outer-in_bounds}
 use Rattle.amqp_wire.proofs.Encoded.{outer-beside}
 use Rattle.amqp_wire.proofs.Cuts.{ComesBefore-none, ComesBefore-more, verdict-whole}
 use Rattle.amqp_stream.specs.declared.source.SourceFault.{SourceFault}
-use Rattle.amqp_stream.specs.Ends.{Supply, Store, Takes, Gains}
+use Rattle.amqp_stream.specs.Ends.{Supply, Store, Takes, Gains, counted}
 use Rattle.amqp_stream.specs.Reading.{ReadsMore, Lies}
 use Rattle.amqp_stream.specs.Writing.{WritesAll, Keeps, frame_length, length_around}
 use Rattle.amqp_stream.specs.Steps.{Manner}
 use Rattle.amqp_stream.specs.Streaming.{IsStep, Writes}
-use Rattle.amqp_stream.proofs.Adding.{Takes-then, Takes-none, Gains-none, Gains-then, IsBytes-append, IsBytes-nil}
+use Rattle.amqp_stream.proofs.Adding.{Takes-then, Takes-none, counted_none, counted_more, Gains-none, Gains-then, IsBytes-append}
 use Rattle.amqp_stream.proofs.Passing.{Passes, Passes-none, Passes-then, Passes-one}
 
--- How a run starts: the manner and the state of its writer, the limit, the read budget, and the two ends.
+-- How a run starts: the manner and the state of its writer, the limit, the read budget, the two ends, the bytes that are held already,
+-- and how many came before.
 pub record Start (S E : Type 0) : Type 0 where
   pub w : Manner S E
   pub s : S
@@ -31,6 +32,8 @@ pub record Start (S E : Type 0) : Type 0 where
   pub turns : ℕ
   pub source : Supply
   pub sink : Store
+  pub held : List ℕ
+  pub came : ℕ
 
 -- These bytes are a sequence of frames, whatever follows, and this text is written for them from the state s to t.
 pub record Spans {S E : Type 0} (w : Manner S E) (m : ℕ) (s t : S) (bytes text : List ℕ) : Type 0 where
@@ -58,27 +61,30 @@ Spans-one {w = w} {s = s} {t = t} {raw = raw} {bytes = bytes} m held n found is 
   passes = Passes-one w s t is.frame bytes is.steps;
 }
 
--- What was taken so far, with what is held at its end. At most `idle` reads gave nothing.
-pub record Taken {S E : Type 0} (r : Start S E) (left : ℕ) (b : Supply) (bytes : List ℕ) (idle : ℕ) : Type 0 where
-  pub takes : Takes r.source b bytes (r.turns - left)
+-- What was held at first and taken so far, with what is held at its end. At most `idle` reads gave nothing.
+pub record Taken {S E : Type 0} (r : Start S E) (left came : ℕ) (b : Supply) (bytes : List ℕ) (idle : ℕ) : Type 0 where
+  pub piece : List ℕ
+  pub parts : bytes ≡ r.held ++ piece
+  pub takes : Takes r.source b piece (r.turns - left)
+  pub counts : Some came ≡ counted (length piece) (Some r.came)
   pub fall : left ≤ r.turns
-  pub few : r.turns ≤ left + length bytes + idle
+  pub few : r.turns ≤ left + length piece + idle
   pub are_bytes : IsBytes bytes
 
-Taken-as : {S E : Type 0} {r : Start S E} {left : ℕ} {b : Supply} {xs ys : List ℕ} {idle : ℕ} → xs ≡ ys → Taken r left b xs idle → Taken r left b ys idle
-Taken-as {r = r} {left = left} {b = b} {idle = idle} e h = subst (λ (zs : List ℕ). Taken r left b zs idle) e h
+Taken-as : {S E : Type 0} {r : Start S E} {left came : ℕ} {b : Supply} {xs ys : List ℕ} {idle : ℕ} → xs ≡ ys → Taken r left came b xs idle → Taken r left came b ys idle
+Taken-as {r = r} {left = left} {came = came} {b = b} {idle = idle} e h = subst (λ (zs : List ℕ). Taken r left came b zs idle) e h
 
 -- Nothing is pending: for what was used all is written, and the writer is in the state u. The rest is held.
-pub record Clear {S E : Type 0} (r : Start S E) (u : S) (left : ℕ) (b : Supply) (l : Store) (held : List ℕ) (idle : ℕ) : Type 0 where
+pub record Clear {S E : Type 0} (r : Start S E) (u : S) (left came : ℕ) (b : Supply) (l : Store) (held : List ℕ) (idle : ℕ) : Type 0 where
   pub used : List ℕ
   pub text : List ℕ
   pub spans : Spans r.w r.m r.s u used text
   pub gains : Gains r.sink l text
-  pub taken : Taken r left b (used ++ held) idle
+  pub taken : Taken r left came b (used ++ held) idle
   pub room : length held ≤ r.m + 8
 
 -- What the loop keeps. All is written for what was used before the last read; what is pending belongs to what was used since then.
-pub record Going {S E : Type 0} (r : Start S E) (u : S) (left : ℕ) (b : Supply) (l : Store) (held pending : List ℕ) : Type 0 where
+pub record Going {S E : Type 0} (r : Start S E) (u : S) (left came : ℕ) (b : Supply) (l : Store) (held pending : List ℕ) : Type 0 where
   pub used : List ℕ
   pub text : List ℕ
   pub between : S
@@ -89,27 +95,30 @@ pub record Going {S E : Type 0} (r : Start S E) (u : S) (left : ℕ) (b : Supply
   pub written : List ℕ
   pub gains : Gains r.sink l (text ++ written)
   pub parts : written ++ pending ≡ text_since
-  pub taken : Taken r left b (used ++ (since ++ held)) 0
+  pub taken : Taken r left came b (used ++ (since ++ held)) 0
   pub room : length (since ++ held) ≤ r.m + 8
   pub compact : IsTrue r.w.compact → length pending ≤ length since
 
-pub Clear-none : {S E : Type 0} (r : Start S E) (held : List ℕ) → held ≡ [] → Clear r r.s r.turns r.source r.sink held 0
-Clear-none r held e = record {
+pub Clear-held : {S E : Type 0} (r : Start S E) (held : List ℕ) → held ≡ r.held → IsBytes held → length held ≤ r.m + 8 → Clear r r.s r.turns r.came r.source r.sink held 0
+Clear-held r held e fits few = record {
   used = [];
   text = [];
   spans = Spans-none r.w r.m r.s;
   gains = Gains-none r.sink;
   taken = record {
-    takes = subst (λ (xs : List ℕ). Takes r.source r.source xs (r.turns - r.turns)) (sym e) (subst (Takes r.source r.source []) {x = 0} (omega arith) (Takes-none r.source));
+    piece = [];
+    parts = e ∙ sym (append-nil r.held);
+    takes = subst (Takes r.source r.source []) {x = 0} (omega arith) (Takes-none r.source);
+    counts = counted_none r.came [] refl;
     fall = omega arith;
     few = omega arith;
-    are_bytes = subst IsBytes (sym e) IsBytes-nil;
+    are_bytes = fits;
   };
-  room = omega (arith, ap length e);
+  room = few;
 }
 
 -- the loop goes on, with nothing pending
-pub Going-clear : {S E : Type 0} {r : Start S E} {u : S} {left : ℕ} {b : Supply} {l : Store} {held pending : List ℕ} → Clear r u left b l held 0 → pending ≡ [] → Going r u left b l held pending
+pub Going-clear : {S E : Type 0} {r : Start S E} {u : S} {left came : ℕ} {b : Supply} {l : Store} {held pending : List ℕ} → Clear r u left came b l held 0 → pending ≡ [] → Going r u left came b l held pending
 Going-clear {r = r} {u = u} {l = l} h none = record {
   used = h.used;
   text = h.text;
@@ -127,7 +136,7 @@ Going-clear {r = r} {u = u} {l = l} h none = record {
 }
 
 -- what was pending was written
-pub Clear-flushed : {S E : Type 0} {r : Start S E} {u : S} {left : ℕ} {b : Supply} {l l' : Store} {held pending : List ℕ} {done : Unit {0}} → Going r u left b l held pending → WritesAll l l' pending (Ok done) → Clear r u left b l' held 0
+pub Clear-flushed : {S E : Type 0} {r : Start S E} {u : S} {left came : ℕ} {b : Supply} {l l' : Store} {held pending : List ℕ} {done : Unit {0}} → Going r u left came b l held pending → WritesAll l l' pending (Ok done) → Clear r u left came b l' held 0
 Clear-flushed {r = r} {l = l} {l' = l'} {held = held} {pending = pending} g all =
     let wrote : (g.text ++ g.written) ++ pending ≡ g.text ++ g.text_since = append_assoc g.text g.written pending ∙ ap (λ (xs : List ℕ). g.text ++ xs) g.parts in
     record {
@@ -140,7 +149,7 @@ Clear-flushed {r = r} {l = l} {l' = l'} {held = held} {pending = pending} g all 
     }
 
 -- nothing of a frame was gathered
-pub Going-kept : {S E : Type 0} {r : Start S E} {u : S} {left : ℕ} {b : Supply} {l l' : Store} {held before after : List ℕ} → Going r u left b l held before → Keeps l l' before after → Going r u left b l' held after
+pub Going-kept : {S E : Type 0} {r : Start S E} {u : S} {left came : ℕ} {b : Supply} {l l' : Store} {held before after : List ℕ} → Going r u left came b l held before → Keeps l l' before after → Going r u left came b l' held after
 Going-kept {r = r} {l = l} {l' = l'} {before = before} {after = after} g k =
     let parts : k.written ++ after ≡ before = k.parts ∙ append-nil before in
     record {
@@ -168,7 +177,7 @@ pub frame_fits : (m : ℕ) (held : List ℕ) (raw : Raw) (n : ℕ) → outer (So
 frame_fits m held raw n found = around_fits raw.kind (length raw.payload) n (outer-in_bounds (Some m) held raw n found).least (λ e. outer-beside (Some m) held raw n found e)
 
 -- a frame that lies at the front of what is held is used, and what is written for it was gathered
-pub Going-frame : {S E : Type 0} {r : Start S E} {u v : S} {left : ℕ} {b : Supply} {l l' : Store} {held before after : List ℕ} {layout : FrameLayout} → Going r u left b l held before → Lies r.m held layout → Writes r.w u v (laid_out layout held) l l' before after → (IsTrue r.w.compact → length after ≤ length before + layout.frame_len) → Going r v left b l' (drop layout.frame_len held) after
+pub Going-frame : {S E : Type 0} {r : Start S E} {u v : S} {left came : ℕ} {b : Supply} {l l' : Store} {held before after : List ℕ} {layout : FrameLayout} → Going r u left came b l held before → Lies r.m held layout → Writes r.w u v (laid_out layout held) l l' before after → (IsTrue r.w.compact → length after ≤ length before + layout.frame_len) → Going r v left came b l' (drop layout.frame_len held) after
 Going-frame {r = r} {l = l} {l' = l'} {held = held} {before = before} {after = after} {layout = layout} g lies w compact =
     let n = layout.frame_len in
     let k = w.gathered in
@@ -191,23 +200,27 @@ Going-frame {r = r} {l = l} {l' = l'} {held = held} {before = before} {after = a
     }
 
 -- what is pending for a compact writer and the next frame fit a buffer for the largest frame
-pub fits_room : {S E : Type 0} {r : Start S E} {u : S} {left : ℕ} {b : Supply} {l : Store} {held pending : List ℕ} {layout : FrameLayout} → Going r u left b l held pending → Lies r.m held layout → IsTrue r.w.compact → length pending + frame_length (laid_out layout held) ≤ r.m + 8
+pub fits_room : {S E : Type 0} {r : Start S E} {u : S} {left came : ℕ} {b : Supply} {l : Store} {held pending : List ℕ} {layout : FrameLayout} → Going r u left came b l held pending → Lies r.m held layout → IsTrue r.w.compact → length pending + frame_length (laid_out layout held) ≤ r.m + 8
 fits_room {r = r} {held = held} {layout = layout} g lies is = omega (arith, g.compact is, g.room, length-append g.since held, frame_fits r.m held (laid_out layout held) layout.frame_len lies.found, lies.inside)
 
 -- one read, after which nothing is pending still
-pub Clear-read : {S E : Type 0} {r : Start S E} {u : S} {left : ℕ} {b c : Supply} {l : Store} {held after : List ℕ} {q : Result ℕ SourceFault} (idle : ℕ) → Clear r u left b l held 0 → 0 < left → (h : ReadsMore b c held after q) → 1 ≤ length h.piece + idle → length after ≤ r.m + 8 → Clear r u (left - 1) c l after idle
-Clear-read {r = r} {left = left} {b = b} {c = c} {held = held} {after = after} idle k some h enough room =
+pub Clear-read : {S E : Type 0} {r : Start S E} {u : S} {left came later : ℕ} {b c : Supply} {l : Store} {held after : List ℕ} {q : Result ℕ SourceFault} (idle : ℕ) → Clear r u left came b l held 0 → 0 < left → (h : ReadsMore b c held after q) → 1 ≤ length h.piece + idle → Some later ≡ counted (length h.piece) (Some came) → length after ≤ r.m + 8 → Clear r u (left - 1) later c l after idle
+Clear-read {r = r} {left = left} {came = came} {later = later} {b = b} {c = c} {held = held} {after = after} idle k some h enough counts room =
     let t = k.taken in
     let parts : (k.used ++ held) ++ h.piece ≡ k.used ++ after = append_assoc k.used held h.piece ∙ ap (λ (xs : List ℕ). k.used ++ xs) (sym h.held) in
+    let pieces : (k.used ++ held) ++ h.piece ≡ r.held ++ (t.piece ++ h.piece) = ap (λ (xs : List ℕ). xs ++ h.piece) t.parts ∙ append_assoc r.held t.piece h.piece in
     record {
       used = k.used;
       text = k.text;
       spans = k.spans;
       gains = k.gains;
       taken = Taken-as parts (record {
-        takes = subst (Takes r.source c ((k.used ++ held) ++ h.piece)) {x = (r.turns - left) + 1} (omega (arith, t.fall)) (Takes-then r.source b c (k.used ++ held) h.piece (r.turns - left) 1 t.takes h.takes);
+        piece = t.piece ++ h.piece;
+        parts = pieces;
+        takes = subst (Takes r.source c (t.piece ++ h.piece)) {x = (r.turns - left) + 1} (omega (arith, t.fall)) (Takes-then r.source b c t.piece h.piece (r.turns - left) 1 t.takes h.takes);
+        counts = counted_more r.came came later t.piece h.piece t.counts counts;
         fall = omega (arith, t.fall);
-        few = omega (arith, t.few, length-append (k.used ++ held) h.piece);
+        few = omega (arith, t.few, length-append t.piece h.piece);
         are_bytes = IsBytes-append (k.used ++ held) h.piece t.are_bytes h.are_bytes;
       });
       room = room;

@@ -7,9 +7,12 @@ pub mod Passing
 pub mod Going
 pub mod Finishing
 pub mod Standing
+pub mod Resuming
+pub mod Joining
 pub mod Turning
 pub mod Exactly
 pub mod Transcribing
+pub mod Forwarding
 pub mod Tidying
 pub mod Putting
 pub mod Deciding

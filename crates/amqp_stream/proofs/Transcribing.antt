@@ -184,6 +184,16 @@ canonicalizes {level = level} {m = m} call =
     let begun = begins call in
     record { run = call; no_longer = omega (arith, ap length begun.1, length-append call.written begun.0, canon_front-short level (Some m) call.taken call.are_bytes) }
 
+-- a run as a call of canonical bytes, with what it took
+pub record CanonicalizesAs {S E : Type 0} {w : Manner S E} {s t : S} {m turns : ℕ} {a b : Supply} {k l : Store} (r : Result (Unit {0}) StreamError) (run : Streams w s t m turns a b k l (ending_of (as_run r))) : Type 0 where
+  pub call : Canonicalizes w.level m turns a b k l r
+  pub taken : call.run.taken ≡ run.taken
+  pub reads : call.run.reads ≡ run.reads
+
+pub canonicalizes_as : {S E : Type 0} {w : Manner S E} {s t : S} {m turns : ℕ} {a b : Supply} {k l : Store} {r : Result (Unit {0}) StreamError} → Transcriber w s canon_frames → (run : Streams w s t m turns a b k l (ending_of (as_run r))) → CanonicalizesAs r run
+unfolding transcribes canonicalizes
+canonicalizes_as is run = record { call = canonicalizes (transcribes is run); taken = refl; reads = refl }
+
 -- what is known where memory ran out is replaced in the cause of an error
 pub caused_by : (level : Level) (m turns : ℕ) (taken : List ℕ) (a b : Supply) (k l : Store) {P Q : Type 0} (cause : Cause) → (P → Q) → IsCausedBy level m turns taken a b k l P cause → IsCausedBy level m turns taken a b k l Q cause
 caused_by level m turns taken a b k l (faulty bad) f h = h

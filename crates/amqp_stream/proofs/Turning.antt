@@ -2,7 +2,7 @@
 use Rattle.std.proofs.Common.{◌≡◌, ◌≢◌, ℕ, ◌+◌, ◌-◌, ◌*◌, ◌<◌, ◌≤◌, List, [], ◌++◌, length, take, drop, Option, Some, None, Ok, Err, IsTrue, sym, ap, subst, ◌∙◌, ◌⊎◌, inl, inr, arith}
 use Rattle.std.proofs.lemmas.List.{length-append, length-take-le}
 use Rattle.std.proofs.Math.Seq.{drop-nil}
-use Rattle.amqp_types.specs.Judging.{past}
+use Rattle.amqp_types.specs.Judging.{past, IsBytes}
 use Rattle.amqp_wire.specs.declared.looking.FrameLayout.{FrameLayout}
 use Rattle.amqp_wire.specs.Outer.{outer}
 use Rattle.amqp_wire.specs.Looks.{laid_out}
@@ -14,19 +14,21 @@ use Rattle.amqp_stream.specs.declared.errors.RunError.TheVariants as ends
 use Rattle.amqp_stream.specs.declared.sink.SinkFault.{SinkFault}
 use Rattle.amqp_stream.specs.declared.source.SourceFault.{SourceFault}
 use Rattle.amqp_stream.specs.Errors.{stream_error, turns_spent, read_failed, write_failed}
-use Rattle.amqp_stream.specs.Ends.{Supply, Store}
+use Rattle.amqp_stream.specs.Ends.{Supply, Store, counted}
 use Rattle.amqp_stream.specs.Reading.{Holding, ReadsMore, Lies, Finds}
 use Rattle.amqp_stream.specs.Buffers.{Buffered}
 use Rattle.amqp_stream.specs.Writing.{WritesAll, frame_length}
-use Rattle.amqp_stream.specs.Streaming.{Ending, stopped_by, error_ending, end_with, EndsWith, Streams}
+use Rattle.amqp_stream.specs.Streaming.{Ending, stopped_by, error_ending, end_with, EndsWith}
 use Rattle.amqp_stream.specs.Taking.{gathered, IsTaken, IsUnflushed, IsStopped}
-use Rattle.amqp_stream.proofs.Going.{Start, Clear, Going, Clear-none, Going-clear, Going-frame, Going-kept, Clear-flushed, Clear-read, fits_room, frame_falls}
-use Rattle.amqp_stream.proofs.Finishing.{finish_header, finish_spent, finish_unread, finish_end, finish_unflushed, finish_stopped}
+use Rattle.amqp_stream.proofs.Going.{Start, Clear, Going, Clear-held, Going-clear, Going-frame, Going-kept, Clear-flushed, Clear-read, fits_room, frame_falls}
+use Rattle.amqp_stream.proofs.Finishing.{Ended, finish_header, finish_spent, finish_unread, finish_end, finish_unflushed, finish_stopped}
 
--- What the loop works on: the writer, the reads that are left, the two ends, the reader, the output buffer, and how many held bytes passed.
+-- What the loop works on: the writer, the reads that are left, how many bytes came, the two ends, the reader, the output buffer, and how
+-- many held bytes passed.
 pub record Loop (S : Type 0) : Type 0 where
   pub writer : S
   pub left : ℕ
+  pub came : ℕ
   pub source : Supply
   pub sink : Store
   pub reader : Holding
@@ -38,11 +40,7 @@ pub record Turn {S E : Type 0} (r : Start S E) (room : ℕ) (x : Loop S) : Type 
   pub limit : x.reader.limit ≡ r.m
   pub room_is : x.out.room ≡ room
   pub within : x.passed ≤ length x.reader.held
-  pub going : Going r x.writer x.left x.source x.sink (drop x.passed x.reader.held) (gathered x.out.bytes x.passed x.reader.held)
-
--- the run ended so, with its writer, source and sink like this
-abbrev Ended : {S E : Type 0} → Start S E → S → Supply → Store → Ending E → Type 0
-Ended r t b l ending = Streams r.w r.s t r.m r.turns r.source b r.sink l ending
+  pub going : Going r x.writer x.left x.came x.source x.sink (drop x.passed x.reader.held) (gathered x.out.bytes x.passed x.reader.held)
 
 abbrev nothing_in : ℕ → Buffered
 nothing_in room = record { room = room; bytes = [] }
@@ -55,22 +53,28 @@ all_held held none = ap (λ k. drop k held) none
 
 -- the loop before its first iteration
 abbrev begun : {S E : Type 0} → Start S E → Holding → Buffered → ℕ → Loop S
-begun r reader out passed = record { writer = r.s; left = r.turns; source = r.source; sink = r.sink; reader = reader; out = out; passed = passed }
+begun r reader out passed = record { writer = r.s; left = r.turns; came = r.came; source = r.source; sink = r.sink; reader = reader; out = out; passed = passed }
 
-pub first_turn : {S E : Type 0} {room passed : ℕ} {reader : Holding} {out : Buffered} (r : Start S E) → reader.limit ≡ r.m → reader.held ≡ [] → out ≡ nothing_in room → passed ≡ 0 → Turn r room (begun r reader out passed)
-first_turn {passed = passed} {reader = reader} r limit none empty zero = record {
-  limit = limit;
-  room_is = ap (λ o. o.room) empty;
-  within = omega (arith, zero);
-  going = Going-clear (Clear-none r (drop passed reader.held) (all_held reader.held zero ∙ none)) (empty_gathered reader.held empty zero);
-}
+pub first_turn : {S E : Type 0} {room passed : ℕ} {reader : Holding} {out : Buffered} (r : Start S E) → reader.limit ≡ r.m → reader.held ≡ r.held → IsBytes reader.held → length reader.held ≤ r.m + 8 → out ≡ nothing_in room → passed ≡ 0 → Turn r room (begun r reader out passed)
+first_turn {passed = passed} {reader = reader} r limit same fits few empty zero =
+    let all = all_held reader.held zero in
+    record {
+      limit = limit;
+      room_is = ap (λ o. o.room) empty;
+      within = omega (arith, zero);
+      going = Going-clear (Clear-held r (drop passed reader.held) (all ∙ same) (subst IsBytes (sym all) fits) (omega (arith, few, ap length all))) (empty_gathered reader.held empty zero);
+    }
+
+-- what is held at the end is this
+held_as : {S E : Type 0} {r : Start S E} {t : S} {came : ℕ} {b : Supply} {l : Store} {held other : List ℕ} {ending : Ending E} → held ≡ other → Ended r t came b l other ending → Ended r t came b l held ending
+held_as {r = r} {t = t} {came = came} {b = b} {l = l} {ending = ending} same run = subst (λ (xs : List ℕ). Ended r t came b l xs ending) (sym same) run
 
 -- ---- a fault
 
-pub ends_at_fault : {S E : Type 0} {r : Start S E} {room : ℕ} {x : Loop S} (error : ReadError) {told : StreamError} {result : RunError E} {l : Store} → Turn r room x → Finds x.reader.limit (drop x.passed x.reader.held) (Err error) → told ≡ stream_error error → EndsWith x.sink l (gathered x.out.bytes x.passed x.reader.held) (ends.Stream told) (Err result) → Ended r x.writer x.source l (error_ending result)
-ends_at_fault error turn finds same stop =
+pub ends_at_fault : {S E : Type 0} {r : Start S E} {room : ℕ} {x : Loop S} (error : ReadError) {told : StreamError} {result : RunError E} {l : Store} {held : List ℕ} → Turn r room x → Finds x.reader.limit (drop x.passed x.reader.held) (Err error) → told ≡ stream_error error → EndsWith x.sink l (gathered x.out.bytes x.passed x.reader.held) (ends.Stream told) (Err result) → held ≡ drop x.passed x.reader.held → Ended r x.writer x.came x.source l held (error_ending result)
+ends_at_fault error turn finds same stop rest =
     let found = rw turn.limit at finds in
-    finish_header found.0 error turn.going found.1 found.2 (rw same at stop)
+    held_as rest (finish_header found.0 error turn.going found.1 found.2 (rw same at stop))
 
 -- ---- a frame
 
@@ -84,22 +88,22 @@ pub frame_has_room : {S E : Type 0} {r : Start S E} {room : ℕ} {x : Loop S} {f
 frame_has_room {x = x} turn finds is enough compact =
     omega (arith, fits_room turn.going (frame_at turn finds is) compact, turn.room_is, length-append x.out.bytes (take x.passed x.reader.held), length-take-le x.passed x.reader.held turn.within)
 
-pub ends_at_frame : {S E : Type 0} {r : Start S E} {room : ℕ} {x : Loop S} {found : Option FrameLayout} {layout : FrameLayout} {t : S} {l : Store} {error : RunError E} → Turn r room x → Finds x.reader.limit (drop x.passed x.reader.held) (Ok found) → found ≡ Some layout → IsUnflushed x.sink l (gathered x.out.bytes x.passed x.reader.held) error ⊎ IsStopped r.w x.writer t (laid_out layout (drop x.passed x.reader.held)) x.sink l (gathered x.out.bytes x.passed x.reader.held) error → Ended r t x.source l (error_ending error)
+pub ends_at_frame : {S E : Type 0} {r : Start S E} {room : ℕ} {x : Loop S} {found : Option FrameLayout} {layout : FrameLayout} {t : S} {l : Store} {held : List ℕ} {error : RunError E} → Turn r room x → Finds x.reader.limit (drop x.passed x.reader.held) (Ok found) → found ≡ Some layout → IsUnflushed x.sink l (gathered x.out.bytes x.passed x.reader.held) error ⊎ (IsStopped r.w x.writer t (laid_out layout (drop x.passed x.reader.held)) x.sink l (gathered x.out.bytes x.passed x.reader.held) error × (held ≡ drop x.passed x.reader.held)) → Ended r t x.came x.source l held (error_ending error)
 ends_at_frame {t = t} turn finds is stops =
     let lies = frame_at turn finds is in
     elim stops [
       | inl h ↦ rw h.is (finish_unflushed t turn.going h.written)
-      | inr h ↦ finish_stopped (Going-kept turn.going h.keeps) lies.found h.writes h.ends
+      | inr h ↦ held_as h.1 (finish_stopped (Going-kept turn.going h.0.keeps) lies.found h.0.writes h.0.ends)
     ]
 
-pub turn_after_frame : {S E : Type 0} {r : Start S E} {room : ℕ} {x : Loop S} {found : Option FrameLayout} {layout : FrameLayout} {t : S} {l : Store} {reader : Holding} {out : Buffered} {longer : ℕ} → Turn r room x → Finds x.reader.limit (drop x.passed x.reader.held) (Ok found) → found ≡ Some layout → IsTaken r.w x.writer t layout x.sink l x.reader.held reader.held x.out.bytes out.bytes x.passed longer → out.room ≡ x.out.room → reader.limit ≡ x.reader.limit → Turn r room (record { writer = t; left = x.left; source = x.source; sink = l; reader = reader; out = out; passed = longer })
+pub turn_after_frame : {S E : Type 0} {r : Start S E} {room : ℕ} {x : Loop S} {found : Option FrameLayout} {layout : FrameLayout} {t : S} {l : Store} {reader : Holding} {out : Buffered} {longer : ℕ} → Turn r room x → Finds x.reader.limit (drop x.passed x.reader.held) (Ok found) → found ≡ Some layout → IsTaken r.w x.writer t layout x.sink l x.reader.held reader.held x.out.bytes out.bytes x.passed longer → out.room ≡ x.out.room → reader.limit ≡ x.reader.limit → Turn r room (record { writer = t; left = x.left; came = x.came; source = x.source; sink = l; reader = reader; out = out; passed = longer })
 turn_after_frame {r = r} {x = x} {t = t} {l = l} {reader = reader} {out = out} {longer = longer} turn finds is taken room_is limit =
     let going = Going-frame turn.going (frame_at turn finds is) taken.writes taken.compact in
     record {
       limit = limit ∙ turn.limit;
       room_is = room_is ∙ turn.room_is;
       within = taken.within;
-      going = subst (λ (held : List ℕ). Going r t x.left x.source l held (gathered out.bytes longer reader.held)) (sym taken.rest) going;
+      going = subst (λ (held : List ℕ). Going r t x.left x.came x.source l held (gathered out.bytes longer reader.held)) (sym taken.rest) going;
     }
 
 pub frame_shortens : {S E : Type 0} {r : Start S E} {room : ℕ} {x : Loop S} {found : Option FrameLayout} {layout : FrameLayout} {held : List ℕ} → Turn r room x → Finds x.reader.limit (drop x.passed x.reader.held) (Ok found) → found ≡ Some layout → held ≡ drop layout.frame_len (drop x.passed x.reader.held) → x.left * (r.m + 9) + length held < x.left * (r.m + 9) + length (drop x.passed x.reader.held)
@@ -107,12 +111,12 @@ frame_shortens {r = r} {x = x} {layout = layout} turn finds is same = rw same (f
 
 -- ---- neither, so that what is pending is written, and more bytes are needed
 
-pub ends_unflushed : {S E : Type 0} {r : Start S E} {room : ℕ} {x : Loop S} {l : Store} {bad : SinkFault} → Turn r room x → WritesAll x.sink l (gathered x.out.bytes x.passed x.reader.held) (Err bad) → Ended r x.writer x.source l (stopped_by write_failed)
+pub ends_unflushed : {S E : Type 0} {r : Start S E} {room : ℕ} {x : Loop S} {l : Store} {held : List ℕ} {bad : SinkFault} → Turn r room x → WritesAll x.sink l (gathered x.out.bytes x.passed x.reader.held) (Err bad) → Ended r x.writer x.came x.source l held (stopped_by write_failed)
 ends_unflushed turn failed = finish_unflushed _ turn.going failed
 
 -- Nothing is pending, and the held bytes are the front of a frame.
-record Idle {S E : Type 0} (r : Start S E) (u : S) (left : ℕ) (b : Supply) (l : Store) (held : List ℕ) : Type 0 where
-  clear : Clear r u left b l held 0
+record Idle {S E : Type 0} (r : Start S E) (u : S) (left came : ℕ) (b : Supply) (l : Store) (held : List ℕ) : Type 0 where
+  clear : Clear r u left came b l held 0
   more : outer (Some r.m) held ≡ past
 
 -- All that was gathered was written, and what passed is held no more.
@@ -123,36 +127,36 @@ pub record Flushed {S : Type 0} (x : Loop S) (found : Option FrameLayout) (l : S
   pub finds : Finds x.reader.limit (drop x.passed x.reader.held) (Ok found)
   pub none : found ≡ None
 
-idle : {S E : Type 0} {r : Start S E} {room : ℕ} {x : Loop S} {found : Option FrameLayout} {l : Store} {held : List ℕ} → Turn r room x → Flushed x found l held → Idle r x.writer x.left x.source l held
+idle : {S E : Type 0} {r : Start S E} {room : ℕ} {x : Loop S} {found : Option FrameLayout} {l : Store} {held : List ℕ} → Turn r room x → Flushed x found l held → Idle r x.writer x.left x.came x.source l held
 idle {r = r} {x = x} {l = l} turn f =
     let more : outer (Some r.m) (drop x.passed x.reader.held) ≡ past = rw (f.none, turn.limit) at f.finds in
     record {
-      clear = subst (λ (bytes : List ℕ). Clear r x.writer x.left x.source l bytes 0) (sym f.rest) (Clear-flushed turn.going f.written);
+      clear = subst (λ (bytes : List ℕ). Clear r x.writer x.left x.came x.source l bytes 0) (sym f.rest) (Clear-flushed turn.going f.written);
       more = ap (outer (Some r.m)) f.rest ∙ more;
     }
 
-pub ends_spent : {S E : Type 0} {r : Start S E} {room : ℕ} {x : Loop S} {found : Option FrameLayout} {l : Store} {held : List ℕ} → Turn r room x → Flushed x found l held → x.left ≡ 0 → Ended r x.writer x.source l (stopped_by turns_spent)
+pub ends_spent : {S E : Type 0} {r : Start S E} {room : ℕ} {x : Loop S} {found : Option FrameLayout} {l : Store} {held : List ℕ} → Turn r room x → Flushed x found l held → x.left ≡ 0 → Ended r x.writer x.came x.source l held (stopped_by turns_spent)
 ends_spent turn flushed zero = let at = idle turn flushed in finish_spent at.clear at.more zero
 
-pub ends_unread : {S E : Type 0} {r : Start S E} {room : ℕ} {x : Loop S} {found : Option FrameLayout} {l : Store} {held : List ℕ} {b : Supply} {after : List ℕ} {limit : ℕ} {bad : SourceFault} → Turn r room x → Flushed x found l held → x.left ≢ 0 → ReadsMore x.source b held after (Err bad) → limit ≡ x.reader.limit → length after ≤ limit + 8 → Ended r x.writer b l (stopped_by read_failed)
+pub ends_unread : {S E : Type 0} {r : Start S E} {room : ℕ} {x : Loop S} {found : Option FrameLayout} {l : Store} {held : List ℕ} {b : Supply} {after : List ℕ} {limit : ℕ} {bad : SourceFault} → Turn r room x → Flushed x found l held → x.left ≢ 0 → ReadsMore x.source b held after (Err bad) → limit ≡ x.reader.limit → length after ≤ limit + 8 → Ended r x.writer x.came b l after (stopped_by read_failed)
 ends_unread turn flushed some read same few =
     let at = idle turn flushed in
     finish_unread at.clear at.more (omega arith) read (omega (arith, turn.limit, same))
 
-pub ends_at_end : {S E : Type 0} {r : Start S E} {room : ℕ} {x : Loop S} {found : Option FrameLayout} {l : Store} {held : List ℕ} {b : Supply} {after : List ℕ} {n limit : ℕ} {ending : Ending E} → Turn r room x → Flushed x found l held → x.left ≢ 0 → ReadsMore x.source b held after (Ok n) → n ≡ 0 → limit ≡ x.reader.limit → length after ≤ limit + 8 → ending ≡ end_with after (r.w.end x.writer) → Ended r x.writer b l ending
+pub ends_at_end : {S E : Type 0} {r : Start S E} {room : ℕ} {x : Loop S} {found : Option FrameLayout} {l : Store} {held : List ℕ} {b : Supply} {after : List ℕ} {n limit : ℕ} {ending : Ending E} → Turn r room x → Flushed x found l held → x.left ≢ 0 → ReadsMore x.source b held after (Ok n) → n ≡ 0 → limit ≡ x.reader.limit → length after ≤ limit + 8 → ending ≡ end_with after (r.w.end x.writer) → Ended r x.writer x.came b l after ending
 ends_at_end turn flushed some read zero at_limit few same =
     let at = idle turn flushed in
     rw same (finish_end at.clear at.more (omega arith) read zero (omega (arith, turn.limit, at_limit)))
 
-pub turn_after_read : {S E : Type 0} {r : Start S E} {room : ℕ} {x : Loop S} {found : Option FrameLayout} {l : Store} {held : List ℕ} {b : Supply} {reader : Holding} {out : Buffered} {n passed limit : ℕ} → Turn r room x → Flushed x found l held → x.left ≢ 0 → ReadsMore x.source b held reader.held (Ok n) → n ≢ 0 → limit ≡ x.reader.limit → length reader.held ≤ limit + 8 → reader.limit ≡ limit → out ≡ nothing_in x.out.room → passed ≡ 0 → Turn r room (record { writer = x.writer; left = x.left - 1; source = b; sink = l; reader = reader; out = out; passed = passed })
-turn_after_read {r = r} {x = x} {l = l} {b = b} {reader = reader} {passed = passed} turn flushed some read gave at_limit few limit empty zero =
+pub turn_after_read : {S E : Type 0} {r : Start S E} {room : ℕ} {x : Loop S} {found : Option FrameLayout} {l : Store} {held : List ℕ} {b : Supply} {reader : Holding} {out : Buffered} {n passed limit came : ℕ} → Turn r room x → Flushed x found l held → x.left ≢ 0 → ReadsMore x.source b held reader.held (Ok n) → n ≢ 0 → Some came ≡ counted n (Some x.came) → limit ≡ x.reader.limit → length reader.held ≤ limit + 8 → reader.limit ≡ limit → out ≡ nothing_in x.out.room → passed ≡ 0 → Turn r room (record { writer = x.writer; left = x.left - 1; came = came; source = b; sink = l; reader = reader; out = out; passed = passed })
+turn_after_read {r = r} {x = x} {l = l} {b = b} {reader = reader} {passed = passed} {came = came} turn flushed some read gave counts at_limit few limit empty zero =
     let at = idle turn flushed in
-    let clear = Clear-read 0 at.clear (omega arith) read (omega (arith, read.ok)) (omega (arith, turn.limit, at_limit)) in
+    let clear = Clear-read 0 at.clear (omega arith) read (omega (arith, read.ok)) (counts ∙ ap (λ k. counted k (Some x.came)) (sym read.ok)) (omega (arith, turn.limit, at_limit)) in
     record {
       limit = limit ∙ at_limit ∙ turn.limit;
       room_is = ap (λ o. o.room) empty ∙ turn.room_is;
       within = omega (arith, zero);
-      going = Going-clear (subst (λ (bytes : List ℕ). Clear r x.writer (x.left - 1) b l bytes 0) (sym (all_held reader.held zero)) clear) (empty_gathered reader.held empty zero);
+      going = Going-clear (subst (λ (bytes : List ℕ). Clear r x.writer (x.left - 1) came b l bytes 0) (sym (all_held reader.held zero)) clear) (empty_gathered reader.held empty zero);
     }
 
 -- ---- no read budget, so that nothing is held

@@ -10,6 +10,8 @@ pub mod Transcribing
 pub mod Canonicalizing
 pub mod Steps
 pub mod Streaming
+pub mod Resuming
+pub mod Forwarding
 pub mod Decisions
 pub mod Taking
 pub mod Manners

@@ -45,4 +45,4 @@ pub record IsStopped {S E : Type 0} (w : Manner S E) (s t : S) (raw : Raw) (old 
 abbrev pub TakesFrame : {S E : Type 0} → Manner S E → S → S → FrameLayout → Store → Store → List ℕ → List ℕ → List ℕ → List ℕ → Stretch → Result Stretch (RunError E) → Type 0
 TakesFrame w s t layout old new held_old held_new before after stretch (Ok longer) = IsTaken w s t layout old new held_old held_new before after stretch.len longer.len
 TakesFrame w s t layout old new held_old held_new before after stretch (Err error) =
-    IsUnflushed old new (gathered before stretch.len held_old) error ⊎ IsStopped w s t (laid_out layout (drop stretch.len held_old)) old new (gathered before stretch.len held_old) error
+    IsUnflushed old new (gathered before stretch.len held_old) error ⊎ (IsStopped w s t (laid_out layout (drop stretch.len held_old)) old new (gathered before stretch.len held_old) error × (held_new ≡ drop stretch.len held_old))

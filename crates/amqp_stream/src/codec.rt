@@ -72,7 +72,15 @@ impl Codec {
             → IsDoneOrWanting (ending_of result) }
     {
         self.reader.clear();
-        run_with(&mut self.reader, &mut self.out, writer, source, sink, turns)
+        run_with(
+            &mut self.reader,
+            &mut self.out,
+            writer,
+            source,
+            sink,
+            turns,
+            &mut 0,
+        )
     }
 
     /// Writes the canonical bytes of each frame that is read in a profile, to the end of input or an

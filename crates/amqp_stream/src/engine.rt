@@ -5,7 +5,8 @@ ghost use Rattle.amqp_types.specs.Judging.{IsBytes};
 ghost use Rattle.amqp_wire.specs.Looks.{laid_out};
 ghost use Rattle.amqp_stream.specs.Reading.{Lies};
 ghost use Rattle.amqp_stream.specs.Writing.{frame_length};
-ghost use Rattle.amqp_stream.specs.Streaming.{Streams, ending_of, end_with};
+ghost use Rattle.amqp_stream.specs.Streaming.{ending_of, end_with};
+ghost use Rattle.amqp_stream.specs.Resuming.{Resumes};
 ghost use Rattle.amqp_stream.specs.Decisions.{PassesBy};
 ghost use Rattle.amqp_stream.specs.Taking.{TakesFrame};
 
@@ -71,7 +72,10 @@ fn write_decided<W: FrameWriter, K: Sink>(
             Ok(Stretch::empty())
         }
         None => match writer.write_frame(out, sink, raw) {
-            Err(error) => Err(stop(out, sink, error)),
+            Err(error) => {
+                reader.skip(stretch.len);
+                Err(stop(out, sink, error))
+            }
             Ok(()) => {
                 reader.skip(used);
                 Ok(Stretch::empty())
@@ -103,7 +107,9 @@ fn take_frame<W: FrameWriter, K: Sink>(
     match writer.pass(reader.frame_after(stretch.len, layout)) {
         Err(error) => {
             let bytes = reader.front(stretch.len);
-            Err(stop_after(out, sink, bytes, stretch.has_large(), error))
+            let error = stop_after(out, sink, bytes, stretch.has_large(), error);
+            reader.skip(stretch.len);
+            Err(error)
         }
         Ok(decision) => {
             if stands(decision) {
@@ -118,8 +124,9 @@ fn take_frame<W: FrameWriter, K: Sink>(
     }
 }
 
-/// Writes for each frame that is read, to the end of input. What is pending is written before each
-/// read, and at the end; frames that stand are written from where they lie.
+/// Writes for each frame that is held or read, to the end of input. What is pending is written before each
+/// read, and at the end; frames that stand are written from where they lie. What follows them is held afterwards.
+/// `came` counts the bytes that reads gave, and stays at its last value.
 pub(crate) fn run_with<W: FrameWriter, S: Source, K: Sink>(
     reader: &mut FrameReader,
     out: &mut OutputBuffer,
@@ -127,17 +134,19 @@ pub(crate) fn run_with<W: FrameWriter, S: Source, K: Sink>(
     source: &mut S,
     sink: &mut K,
     turns: u64,
+    came: &mut u64,
 ) -> Result<(), RunError<W::Refusal>>
-    requires none { reader.old.held ≡ [] }
     requires room { reader.old.limit + 8 ≤ out.old.room }
     ensures limit { reader.new.limit ≡ reader.old.limit }
     ensures room { out.new.room ≡ out.old.room }
-    ensures stream { Streams W.manner writer.old writer.new reader.old.limit turns (S.supply source.old) (S.supply source.new)
-        (K.store sink.old) (K.store sink.new) (ending_of result) }
+    ensures stream { Resumes W.manner writer.old writer.new reader.old.limit turns reader.old.held reader.new.held came.old came.new
+        (S.supply source.old) (S.supply source.new) (K.store sink.old) (K.store sink.new) (ending_of result) }
     ensures unread { turns ≡ 0 → source.new ≡ source.old }
-    ensures spent { turns ≡ 0 → result ≡ Err (RunError.Stream StreamError.TurnsSpent) }
-    ensures unwritten { turns ≡ 0 → sink.new ≡ sink.old }
+    ensures spent { reader.old.held ≡ [] → turns ≡ 0 → result ≡ Err (RunError.Stream StreamError.TurnsSpent) }
+    ensures unwritten { reader.old.held ≡ [] → turns ≡ 0 → sink.new ≡ sink.old }
 {
+    // What is held are bytes, and no more than the largest frame has.
+    reader.held();
     out.clear();
     let mut left = turns;
     let mut stretch = Stretch::empty();
@@ -146,7 +155,9 @@ pub(crate) fn run_with<W: FrameWriter, S: Source, K: Sink>(
             Err(error) => {
                 let error = RunError::Stream(StreamError::from(error));
                 let bytes = reader.front(stretch.len);
-                return Err(stop_after(out, sink, bytes, stretch.has_large(), error));
+                let error = stop_after(out, sink, bytes, stretch.has_large(), error);
+                reader.skip(stretch.len);
+                return Err(error);
             }
             Ok(Some(layout)) => match take_frame(reader, out, writer, sink, stretch, layout) {
                 Err(error) => return Err(error),
@@ -170,7 +181,7 @@ pub(crate) fn run_with<W: FrameWriter, S: Source, K: Sink>(
         match reader.fill(source) {
             Err(_) => return Err(RunError::Stream(StreamError::ReadFault)),
             Ok(0) => return end_of_input(reader, writer),
-            Ok(_) => {}
+            Ok(count) => *came = came.saturating_add(count as u64),
         }
     }
 }

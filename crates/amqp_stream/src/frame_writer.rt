@@ -19,7 +19,7 @@ pub trait FrameWriter {
     /// Why a whole frame, or the end of input, is refused.
     type Refusal: Drop;
 
-    /// How the writer writes: the level that frames are read at, the step from frame to frame, where
+    /// The manner of the writer, all that contracts see of how it writes: the level that frames are read at, the step from frame to frame, where
     /// the stream may end, where memory may run out, and whether it is compact.
     ghost manner: { Manner Self Self.Refusal };
 

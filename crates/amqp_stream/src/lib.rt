@@ -9,6 +9,8 @@ mod decision;
 mod engine;
 mod equality;
 mod errors;
+mod forwarder;
+mod forwarder_laws;
 mod frame_writer;
 mod made_laws;
 mod make_source;
@@ -29,6 +31,8 @@ pub use equality::{
     equal_read_errors, equal_sink_faults, equal_source_faults, equal_stream_errors,
 };
 pub use errors::{ReadError, RunError, StreamError};
+pub use forwarder::{Forwarded, Forwarder};
+pub use forwarder_laws::{pieces_are_whole, runs_add_up};
 pub use frame_writer::FrameWriter;
 pub use made_laws::made_is_a_sequence;
 pub use make_source::MakeSource;

@@ -30,7 +30,7 @@ impl Model for FrameReader {
 }
 
 impl FrameReader {
-    ghost use Rattle.std.specs.Prelude.{◌≡◌, ◌+◌, ◌^◌, ◌<◌, ◌≤◌, ◌↔◌, [], Some, IsTrue, IfOk, IfSome, length, take, drop};
+    ghost use Rattle.std.specs.Prelude.{◌≡◌, ◌≢◌, ◌+◌, ◌^◌, ◌<◌, ◌≤◌, ◌↔◌, [], Some, IsTrue, IfOk, IfSome, length, take, drop};
     ghost use Rattle.std.specs.Borrow.{sem};
     ghost use Rattle.std.specs.Io.BufRead.{Rests};
     ghost use Rattle.amqp_types.specs.Judging.{past, IsBytes};
@@ -183,6 +183,7 @@ impl FrameReader {
         ensures limit { self.new.limit ≡ self.old.limit }
         ensures pulls { PullsTo (LiesIn self.old.limit) self.old.limit (S.supply source.old) (S.supply source.new)
             turns.old turns.new self.old.held self.new.held result }
+        ensures unread { turns.new ≡ turns.old → source.new ≡ source.old }
     {
         'reads: loop {
             match self.buffered() {
@@ -212,6 +213,10 @@ impl FrameReader {
     ) -> Result<Option<AMQPRawFrame<'_>>, ReadError>
         ensures few { IfOk result (λ found. IfSome found (λ raw. length raw.payload.now < 2 ^ 32)) }
         ensures returns { Returns (S.supply source.old) (S.supply source.new) turns.old turns.new self.old result }
+
+        // A frame or a fault that is held is returned without a read.
+        ensures decided { outer (Some self.old.limit) self.old.held ≢ past → source.new ≡ source.old }
+        ensures unread { turns.old ≡ 0 → source.new ≡ source.old }
         ensures* after { sem 𝓛 (Rests the_row self.entry (λ new.
             HasNext (S.supply source.old) (S.supply source.new) turns.old turns.new self.old new result)) }
     {

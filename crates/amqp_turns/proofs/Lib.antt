@@ -12,3 +12,4 @@ pub mod Errors
 pub mod Entries
 pub mod LastEntry
 pub mod Holding
+pub mod Outlined

@@ -1,43 +1,149 @@
--- Pieces of bytes: one by one, joined again, and none of them empty.
-use Rattle.std.proofs.Common.{◌≡◌, ℕ, ◌+◌, ◌-◌, ◌*◌, ◌≤◌, min, ap₂, zero, suc, List, [], ◌∷◌, ◌++◌, length, map, take, drop, refl, sym, ap, ◌∙◌, arith}
-use Rattle.std.proofs.lemmas.List.{append-nil, append_assoc, drop-drop, take-append-drop, length-drop, length-take, take_min, drop_min, nil_from_length}
-use Rattle.std.specs.List.{range_with_len, flat_map, AllByRecursion}
-use Rattle.amqp_turns.specs.Splits.{piece_count, pieces}
+-- Pieces of bytes: one by one, joined again, none of them empty, and cut off again after more bytes.
+use Rattle.std.proofs.Common.{◌≡◌, ℕ, ◌+◌, ◌-◌, ◌*◌, ◌/◌, ◌%◌, ◌<◌, ◌≤◌, min, ap₂, zero, suc, Bool, true, false, List, [], ◌∷◌, ◌++◌, Some, length, map, take, drop, refl, sym, ap, ◌∙◌, arith}
+use Rattle.std.specs.Prelude.{slice_get}
+use Rattle.std.proofs.Math.Seq.{take-add}
+use Rattle.std.proofs.lemmas.List.{append-nil, append_assoc, drop-drop, drop_all, drop-append-le, take-append-le, length-append, length-drop, length-take, take_all, take_min, drop_min, nil_from_length}
+use Rattle.std.proofs.lemmas.Nat.{div-add-mod'}
+use Rattle.std.specs.List.{flat_map, AllByRecursion}
+use Rattle.amqp_turns.specs.Splits.{chunks, cut_count, pieces, pieces_given, whole_pieces, left_over}
+
+-- ---- chunks
+
+pub length-chunks : (m n : ℕ) (bytes : List ℕ) → length (chunks m n bytes) ≡ n
+length-chunks m zero bytes = refl
+length-chunks m (suc n) bytes = ap suc (length-chunks m n (drop m bytes))
+
+drop_more : (m k : ℕ) (bytes : List ℕ) → drop (k * m) (drop m bytes) ≡ drop (suc k * m) bytes
+drop_more m k bytes = let place : m + k * m ≡ suc k * m = omega arith in drop-drop (k * m) m bytes ∙ ap (λ n. drop n bytes) place
+
+pub chunk_at : (m n k : ℕ) (bytes : List ℕ) → k < n → slice_get (chunks m n bytes) k ≡ Some (take m (drop (k * m) bytes))
+chunk_at m zero k bytes h = absurd (omega arith)
+chunk_at m (suc n) zero bytes h = let start : 0 ≡ zero * m = omega arith in ap (λ p. Some (take m (drop p bytes))) start
+chunk_at m (suc n) (suc k) bytes h = chunk_at m n k (drop m bytes) (omega arith) ∙ ap (λ (xs : List ℕ). Some (take m xs)) (drop_more m k bytes)
+
+chunks-later : (m a b : ℕ) (bytes : List ℕ) → chunks m (a + b) bytes ≡ chunks m a bytes ++ chunks m b (drop (a * m) bytes)
+chunks-later m zero b bytes =
+    let none : zero + b ≡ b = omega arith in
+    let start : 0 ≡ zero * m = omega arith in
+    ap (λ n. chunks m n bytes) none ∙ ap (λ p. chunks m b (drop p bytes)) start
+chunks-later m (suc a) b bytes =
+    let more : suc a + b ≡ suc (a + b) = omega arith in
+    ap (λ n. chunks m n bytes) more
+    ∙ ap (λ ps. take m bytes ∷ ps) (chunks-later m a b (drop m bytes) ∙ ap (λ (xs : List ℕ). chunks m a (drop m bytes) ++ chunks m b xs) (drop_more m a bytes))
+
+chunks-front : (m a : ℕ) (xs ys : List ℕ) → a * m ≤ length xs → chunks m a (xs ++ ys) ≡ chunks m a xs
+chunks-front m zero xs ys h = refl
+chunks-front m (suc a) xs ys h =
+    let fits : m ≤ length xs = omega arith in
+    ap₂ (λ p ps. p ∷ ps) (take-append-le m xs ys fits) (ap (chunks m a) (drop-append-le m xs ys fits) ∙ chunks-front m a (drop m xs) ys (omega (arith, length-drop m xs)))
+
+pub flat-chunks : (m n : ℕ) (bytes : List ℕ) → flat_map (λ part. part) (chunks m n bytes) ≡ take (n * m) bytes
+flat-chunks m zero bytes = let start : 0 ≡ zero * m = omega arith in ap (λ p. take p bytes) start
+flat-chunks m (suc n) bytes =
+    let place : m + n * m ≡ suc n * m = omega arith in
+    ap (λ r. take m bytes ++ r) (flat-chunks m n (drop m bytes)) ∙ sym (take-add m (n * m) bytes) ∙ ap (λ p. take p bytes) place
+
+some_in : (m n : ℕ) (bytes : List ℕ) → 1 ≤ m → n * m < length bytes + m → AllByRecursion (λ part. 1 ≤ length part) (chunks m n bytes)
+some_in m zero bytes h most = tt
+some_in m (suc n) bytes h most = (omega (arith, length-take m bytes), some_in m n (drop m bytes) h (omega (arith, length-drop m bytes)))
 
 -- ---- how many
 
-pub piece_count-none : (m : ℕ) → 1 ≤ m → piece_count m 0 ≡ 0
-piece_count-none m h = grind arith
+no_whole : (n m : ℕ) → n < m → n / m ≡ 0
+no_whole n m less = grind arith
 
-pub piece_count-more : (m n : ℕ) → 1 ≤ m → 1 ≤ n → piece_count m n ≡ suc (piece_count m (n - m))
-piece_count-more m n h some = grind arith
+whole_count : (n m : ℕ) → 1 ≤ m → m ≤ n → n / m ≡ suc ((n - m) / m)
+whole_count n m h fits = grind arith
 
--- ---- one by one
+last_count : (m n : ℕ) → 1 ≤ m → 1 ≤ n → cut_count m true n ≡ suc (cut_count m true (n - m))
+last_count m n h some = grind arith
 
-map-range-suc : {A : Type 0} (f : ℕ → A) (a n : ℕ) → map f (range_with_len (a + 1) n) ≡ map (λ k. f (k + 1)) (range_with_len a n)
-map-range-suc f a zero = refl
-map-range-suc f a (suc n) = ap (λ xs. f (a + 1) ∷ xs) (map-range-suc f (a + 1) n)
+count-none : (m : ℕ) (ends : Bool) → 1 ≤ m → cut_count m ends 0 ≡ 0
+count-none m true h = no_whole (0 + (m - 1)) m (omega arith)
+count-none m false h = no_whole 0 m (omega arith)
 
-map-same : {A : Type 0} (f g : ℕ → A) (xs : List ℕ) → ((k : ℕ) → f k ≡ g k) → map f xs ≡ map g xs
-map-same f g [] h = refl
-map-same f g (x ∷ xs) h = rw (h x) (ap (λ ys. g x ∷ ys) (map-same f g xs h))
+count-more : (m : ℕ) (ends : Bool) (n : ℕ) → 1 ≤ m → m ≤ n → cut_count m ends n ≡ suc (cut_count m ends (n - m))
+count-more m true n h fits = last_count m n h (omega arith)
+count-more m false n h fits = whole_count n m h fits
 
-next_piece : (m : ℕ) (bytes : List ℕ) (k : ℕ) → take m (drop ((k + 1) * m) bytes) ≡ take m (drop (k * m) (drop m bytes))
-next_piece m bytes k =
-    let place : (k + 1) * m ≡ m + k * m = omega arith in
-    ap (λ n. take m (drop n bytes)) place ∙ ap (take m) (sym (drop-drop (k * m) m bytes))
+count-after : (m : ℕ) (ends : Bool) (a n : ℕ) → 1 ≤ m → a * m ≤ n → cut_count m ends n ≡ a + cut_count m ends (n - a * m)
+count-after m ends zero n h fits =
+    let all : n ≡ n - zero * m = omega arith in
+    ap (cut_count m ends) all ∙ omega arith
+count-after m ends (suc a) n h fits =
+    let next : (n - m) - a * m ≡ n - suc a * m = omega arith in
+    let rest = count-after m ends a (n - m) h (omega arith) in
+    let more = count-more m ends n h (omega arith) in
+    more ∙ ap suc (rest ∙ ap (λ k. a + cut_count m ends k) next) ∙ omega arith
+
+times_more : (j k m : ℕ) → j ≤ k → j * m ≤ k * m
+times_more j k m h = grind arith
+
+pub whole_fits : (m n : ℕ) → 1 ≤ m → (n / m) * m ≤ n
+whole_fits m n h = grind arith
+
+pub whole_next : (m n : ℕ) → 1 ≤ m → n < (n / m + 1) * m
+whole_next m n h = grind arith
+
+pub last_fits : (m n : ℕ) → 1 ≤ m → cut_count m true n * m < n + m
+last_fits m n h = grind arith
+
+pub last_enough : (m n : ℕ) → 1 ≤ m → n ≤ cut_count m true n * m
+last_enough m n h = grind arith
+
+-- each piece begins within the bytes
+pub piece_starts : (m n k : ℕ) (ends : Bool) → 1 ≤ m → k < cut_count m ends n → k * m ≤ n
+piece_starts m n k true h less =
+    let most : (k + 1) * m ≤ cut_count m true n * m = times_more (k + 1) (cut_count m true n) m (omega arith) in
+    let fits = last_fits m n h in
+    omega arith
+piece_starts m n k false h less =
+    let most : k * m ≤ (n / m) * m = times_more k (n / m) m (omega arith) in
+    let fits = whole_fits m n h in
+    omega arith
+
+-- ---- pieces one by one
+
+-- nothing is cut off nothing
+pub given-nothing : (m : ℕ) (ends : Bool) (bytes : List ℕ) → 1 ≤ m → length bytes ≡ 0 → pieces_given m ends bytes ≡ []
+given-nothing m ends bytes h none = ap (λ n. chunks m n bytes) (ap (cut_count m ends) none ∙ count-none m ends h)
+
+-- one piece of the whole size
+pub given-more : (m : ℕ) (ends : Bool) (bytes : List ℕ) → 1 ≤ m → m ≤ length bytes → pieces_given m ends bytes ≡ take m bytes ∷ pieces_given m ends (drop m bytes)
+given-more m ends bytes h fits = ap (λ n. chunks m n bytes) (count-more m ends (length bytes) h fits ∙ ap (λ n. suc (cut_count m ends n)) (sym (length-drop m bytes)))
 
 pub pieces-none : (m : ℕ) → 1 ≤ m → pieces m [] ≡ []
-pieces-none m h = ap (λ n. map (λ k. take m (drop (k * m) [])) (range_with_len 0 n)) (piece_count-none m h)
+pieces-none m h = given-nothing m true [] h refl
 
 pub pieces-more : (m : ℕ) (bytes : List ℕ) → 1 ≤ m → 1 ≤ length bytes → pieces m bytes ≡ take m bytes ∷ pieces m (drop m bytes)
-pieces-more m bytes h some =
-    let count : piece_count m (length bytes) ≡ suc (piece_count m (length (drop m bytes))) = piece_count-more m (length bytes) h some ∙ ap (λ n. suc (piece_count m n)) (sym (length-drop m bytes)) in
-    let start : 0 * m ≡ 0 = omega arith in
-    let first : take m (drop (0 * m) bytes) ≡ take m bytes = ap (λ n. take m (drop n bytes)) start in
-    ap (λ n. map (λ k. take m (drop (k * m) bytes)) (range_with_len 0 n)) count
-    ∙ ap (λ p. p ∷ map (λ k. take m (drop (k * m) bytes)) (range_with_len (0 + 1) (piece_count m (length (drop m bytes))))) first
-    ∙ ap (λ ps. take m bytes ∷ ps) (map-range-suc (λ k. take m (drop (k * m) bytes)) 0 (piece_count m (length (drop m bytes))) ∙ map-same (λ k. take m (drop ((k + 1) * m) bytes)) (λ k. take m (drop (k * m) (drop m bytes))) (range_with_len 0 (piece_count m (length (drop m bytes)))) (next_piece m bytes))
+pieces-more m bytes h some = ap (λ n. chunks m n bytes) (last_count m (length bytes) h some ∙ ap (λ n. suc (cut_count m true n)) (sym (length-drop m bytes)))
+
+-- the last piece of a body
+pub given-ended : (m : ℕ) (bytes : List ℕ) → 1 ≤ m → 1 ≤ length bytes → length bytes ≤ m → pieces m bytes ≡ bytes ∷ []
+given-ended m bytes h some less =
+    pieces-more m bytes h some ∙ ap₂ (λ p ps. p ∷ ps) (take_all m bytes less) (ap (pieces m) (drop_all m bytes less) ∙ pieces-none m h)
+
+-- bytes of the size are one piece, and nothing is left
+pub one-whole : (m : ℕ) (bytes : List ℕ) → 1 ≤ m → length bytes ≡ m → whole_pieces m bytes ≡ bytes ∷ []
+one-whole m bytes h full =
+    let none : length (drop m bytes) ≡ 0 = omega (arith, full, length-drop m bytes) in
+    given-more m false bytes h (omega arith) ∙ ap₂ (λ p ps. p ∷ ps) (take_all m bytes (omega arith)) (given-nothing m false (drop m bytes) h none)
+
+pub left-none : (m : ℕ) (bytes : List ℕ) → 1 ≤ m → length bytes ≡ m → left_over m bytes ≡ []
+left-none m bytes h full =
+    let once : (length bytes / m) * m ≡ suc ((length bytes - m) / m) * m = ap (λ k. k * m) (whole_count (length bytes) m h (omega arith)) in
+    drop_all ((length bytes / m) * m) bytes (omega (arith, full, once))
+
+pub whole-none : (m : ℕ) (bytes : List ℕ) → length bytes < m → whole_pieces m bytes ≡ []
+whole-none m bytes less = ap (λ n. chunks m n bytes) (no_whole (length bytes) m less)
+
+pub left-all : (m : ℕ) (bytes : List ℕ) → length bytes < m → left_over m bytes ≡ bytes
+left-all m bytes less =
+    let none : (length bytes / m) * m ≡ 0 = ap (λ n. n * m) (no_whole (length bytes) m less) ∙ omega arith in
+    ap (λ n. drop n bytes) none
+
+pub left_short : (m : ℕ) (bytes : List ℕ) → 1 ≤ m → length (left_over m bytes) < m
+left_short m bytes h = omega (arith, whole_next m (length bytes) h, length-drop ((length bytes / m) * m) bytes)
 
 -- ---- all together
 
@@ -46,18 +152,60 @@ pub record ArePieces (bytes : List ℕ) (parts : List (List ℕ)) : Type 0 where
   pub joined : flat_map (λ part. part) parts ≡ bytes
   pub some : AllByRecursion (λ part. 1 ≤ length part) parts
 
-pieces_within : (m fuel : ℕ) (bytes : List ℕ) → 1 ≤ m → length bytes ≤ fuel → ArePieces bytes (pieces m bytes)
-pieces_within m fuel [] h enough = rw (pieces-none m h) (record { joined = refl; some = tt })
-pieces_within m zero (b ∷ bs) h enough = absurd (omega arith)
-pieces_within m (suc fuel) (b ∷ bs) h enough =
-    let rest = pieces_within m fuel (drop m (b ∷ bs)) h (omega (arith, length-drop m (b ∷ bs))) in
-    rw (pieces-more m (b ∷ bs) h (omega arith)) (record {
-      joined = ap (λ r. take m (b ∷ bs) ++ r) rest.joined ∙ take-append-drop m (b ∷ bs);
-      some = (omega (arith, length-take m (b ∷ bs)), rest.some);
-    })
-
 pub pieces_are : (m : ℕ) (bytes : List ℕ) → 1 ≤ m → ArePieces bytes (pieces m bytes)
-pieces_are m bytes h = pieces_within m (length bytes) bytes h (omega arith)
+pieces_are m bytes h =
+    let n = cut_count m true (length bytes) in
+    record {
+      joined = flat-chunks m n bytes ∙ take_all (n * m) bytes (last_enough m (length bytes) h);
+      some = some_in m n bytes h (last_fits m (length bytes) h);
+    }
+
+-- the whole pieces of some bytes have no more
+pub whole_fit : (m : ℕ) (bytes : List ℕ) → 1 ≤ m → length (flat_map (λ part. part) (whole_pieces m bytes)) ≤ length bytes
+whole_fit m bytes h = omega (arith, ap length (flat-chunks m (length bytes / m) bytes), length-take ((length bytes / m) * m) bytes)
+
+-- ---- more bytes
+
+rest_of : (m : ℕ) (before content : List ℕ) → 1 ≤ m → left_over m before ++ content ≡ drop ((length before / m) * m) (before ++ content)
+rest_of m before content h = sym (drop-append-le ((length before / m) * m) before content (whole_fits m (length before) h))
+
+-- how many are cut off what is left over and more bytes
+count_of_rest : (m : ℕ) (ends : Bool) (before content : List ℕ) → 1 ≤ m → cut_count m ends (length (before ++ content)) ≡ length before / m + cut_count m ends (length (left_over m before ++ content))
+count_of_rest m ends before content h =
+    let a = length before / m in
+    let all = before ++ content in
+    let fits = whole_fits m (length before) h in
+    let rest : length (left_over m before ++ content) ≡ length all - a * m = ap length (rest_of m before content h) ∙ length-drop (a * m) all in
+    count-after m ends a (length all) h (omega (arith, fits, length-append before content)) ∙ ap (λ n. a + cut_count m ends n) (sym rest)
+
+-- Pieces are cut off some bytes, and then off what is left over with more bytes: the pieces of all these bytes.
+pub given_after : (m : ℕ) (ends : Bool) (before content : List ℕ) → 1 ≤ m → whole_pieces m before ++ pieces_given m ends (left_over m before ++ content) ≡ pieces_given m ends (before ++ content)
+given_after m ends before content h =
+    let a = length before / m in
+    let b = cut_count m ends (length (left_over m before ++ content)) in
+    let all = before ++ content in
+    sym (ap (λ n. chunks m n all) (count_of_rest m ends before content h)
+    ∙ chunks-later m a b all
+    ∙ ap₂ (λ (ps qs : List (List ℕ)). ps ++ qs) (chunks-front m a before content (whole_fits m (length before) h)) (ap (chunks m b) (sym (rest_of m before content h))))
+
+-- what is left over then
+pub left-more : (m : ℕ) (before content : List ℕ) → 1 ≤ m → left_over m (left_over m before ++ content) ≡ left_over m (before ++ content)
+left-more m before content h =
+    let a = length before / m in
+    let b = length (left_over m before ++ content) / m in
+    let all = before ++ content in
+    let place : a * m + b * m ≡ (length all / m) * m = omega (arith, ap (λ n. n * m) (count_of_rest m false before content h)) in
+    ap (drop (b * m)) (rest_of m before content h) ∙ drop-drop (b * m) (a * m) all ∙ ap (λ n. drop n all) place
+
+-- the last bytes of two parts, where they are as many as are left over
+pub left_is : (m count : ℕ) (front back : List ℕ) → count ≡ (length front + length back) % m → drop ((length front + length back) - count) (front ++ back) ≡ left_over m (front ++ back)
+left_is m count front back e =
+    let all = front ++ back in
+    let total : length front + length back ≡ length all = sym (length-append front back) in
+    let rest : length all / m * m + length all % m ≡ length all = div-add-mod' (length all) m in
+    let part : count ≡ length all % m = e ∙ ap (λ n. n % m) total in
+    let place : (length front + length back) - count ≡ length all / m * m = omega (arith, total, rest, part) in
+    ap (λ n. drop n all) place
 
 -- ---- one piece taken off
 
@@ -83,6 +231,4 @@ pieces-taken f m n done rest piece left h some is piece_is left_is =
 
 -- nothing is left
 pub pieces-over : {A : Type 0} (f : List ℕ → A) (m : ℕ) (done all : List A) (rest : List ℕ) → 1 ≤ m → length rest ≡ 0 → done ++ map f (pieces m rest) ≡ all → done ≡ all
-pieces-over f m done all rest h none is =
-    let empty : pieces m rest ≡ [] = ap (pieces m) (nil_from_length rest none) ∙ pieces-none m h in
-    sym (ap (λ ps. done ++ map f ps) empty ∙ append-nil done) ∙ is
+pieces-over f m done all rest h none is = sym (ap (λ ps. done ++ map f ps) (given-nothing m true rest h none) ∙ append-nil done) ∙ is

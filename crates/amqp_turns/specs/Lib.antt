@@ -13,4 +13,5 @@ pub mod Messages
 pub mod Outcomes
 pub mod Sequences
 pub mod Splits
+pub mod Outlined
 pub mod Laws

@@ -1,11 +1,33 @@
 -- A body, cut into pieces.
-use Rattle.std.specs.Prelude.{ℕ, ◌+◌, ◌-◌, ◌*◌, ◌/◌, List, map, take, drop, length}
-use Rattle.std.specs.List.{range_with_len}
+use Rattle.std.specs.Prelude.{ℕ, zero, suc, ◌+◌, ◌-◌, ◌*◌, ◌/◌, Bool, true, false, List, [], ◌∷◌, map, take, drop, length}
+use Rattle.amqp_wire.specs.Frames.{Frame, Body}
 
--- how many k have k * m below n, for an m that is not 0
-abbrev pub piece_count : ℕ → ℕ → ℕ
-piece_count m n = (n + (m - 1)) / m
+-- the first n chunks of some bytes: m bytes each, or as many as are left
+abbrev pub chunks : ℕ → ℕ → List ℕ → List (List ℕ)
+chunks m zero bytes = []
+chunks m (suc n) bytes = take m bytes ∷ chunks m n (drop m bytes)
 
--- for each k with k * m below the length, the m bytes from k * m on, or as many as there are
+-- How many pieces of m bytes are cut off n bytes: at the end of a body all, of which the last may be shorter, and else those of the whole size.
+abbrev pub cut_count : ℕ → Bool → ℕ → ℕ
+cut_count m true n = (n + (m - 1)) / m
+cut_count m false n = n / m
+
+-- the pieces that are cut off some bytes of a body
+abbrev pub pieces_given : ℕ → Bool → List ℕ → List (List ℕ)
+pieces_given m ends bytes = chunks m (cut_count m ends (length bytes)) bytes
+
+-- the pieces of a whole body
 abbrev pub pieces : ℕ → List ℕ → List (List ℕ)
-pieces m bytes = map (λ k. take m (drop (k * m) bytes)) (range_with_len 0 (piece_count m (length bytes)))
+pieces m bytes = pieces_given m true bytes
+
+-- the pieces of some bytes that have the whole size
+abbrev pub whole_pieces : ℕ → List ℕ → List (List ℕ)
+whole_pieces m bytes = pieces_given m false bytes
+
+-- the bytes after them
+abbrev pub left_over : ℕ → List ℕ → List ℕ
+left_over m bytes = drop ((length bytes / m) * m) bytes
+
+-- the body frames on a channel with the pieces that are cut off, in order
+abbrev pub frames_given : ℕ → ℕ → Bool → List ℕ → List Frame
+frames_given m channel ends bytes = map (λ piece. Body channel piece) (pieces_given m ends bytes)

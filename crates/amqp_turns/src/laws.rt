@@ -2,12 +2,18 @@
 
 ghost use Rattle.amqp_wire.specs.Outlines.{outline_of};
 ghost use Rattle.amqp_turns.specs.Marks.{itself};
+ghost use Rattle.amqp_turns.specs.Outlined.{OutlinesAnswerAlike};
 ghost use Rattle.amqp_turns.specs.Laws.{AnswersAreSteps, ChannelsAreAnswered, ChannelsAreApart};
 
 /// The outcomes of the frames of a channel are those of one step after another.
 pub fn answers_are_steps()
     ensures frames { AnswersAreSteps outline_of }
     ensures outlines { AnswersAreSteps itself }
+{}
+
+/// What frames give is what their outlines give.
+pub fn outlines_answer_alike()
+    ensures { OutlinesAnswerAlike outline_of }
 {}
 
 /// What an assembler gives for the frames of a channel are the outcomes of these frames.

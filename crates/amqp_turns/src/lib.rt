@@ -14,7 +14,9 @@ pub use amqp_types::NoMemory;
 pub use channels::Channels;
 pub use equality::{equal_content_faults, equal_marks, equal_progress};
 pub use fault::ContentFault;
-pub use laws::{answers_are_steps, channels_are_answered, channels_are_apart};
+pub use laws::{
+    answers_are_steps, channels_are_answered, channels_are_apart, outlines_answer_alike,
+};
 pub use mark::Mark;
 pub use progress::{Progress, step};
 pub use tracker::Tracker;

@@ -27,6 +27,7 @@ pub enum Progress {
 }
 
 /// Whether a method is basic Publish, Return, Deliver or GetOk.
+#[inline(always)]
 fn is_opening(class_id: Identifier, method_id: Identifier) -> bool
     ensures { result ≡ is_opening_id class_id method_id }
 {
@@ -34,6 +35,7 @@ fn is_opening(class_id: Identifier, method_id: Identifier) -> bool
 }
 
 /// The mark of a content header after an opening.
+#[inline(always)]
 fn mark_header(max_body: u64, class_id: Identifier, body_size: PayloadSize) -> Mark
     ensures { result ≡ header_mark max_body class_id body_size }
 {
@@ -47,6 +49,7 @@ fn mark_header(max_body: u64, class_id: Identifier, body_size: PayloadSize) -> M
 }
 
 /// The mark of a body in a message. Where the sum passes all numbers of 64 bits, it passes the size.
+#[inline(always)]
 fn mark_body(size: PayloadSize, seen: PayloadSize, length: PayloadSize) -> Mark
     ensures { result ≡ body_mark size seen length }
 {
@@ -61,6 +64,7 @@ fn mark_body(size: PayloadSize, seen: PayloadSize, length: PayloadSize) -> Mark
 }
 
 /// The mark of a method between messages.
+#[inline(always)]
 fn mark_method(class_id: Identifier, method_id: Identifier) -> Mark
     ensures { result ≡ method_mark class_id method_id }
 {
@@ -72,6 +76,7 @@ fn mark_method(class_id: Identifier, method_id: Identifier) -> Mark
 }
 
 /// What a frame is to a channel's content, by what is kept of the channel.
+#[inline(always)]
 fn mark(max_body: u64, progress: Option<Progress>, outline: FrameOutline) -> Mark
     ensures { result ≡ mark_after max_body progress outline }
 {
@@ -108,6 +113,7 @@ fn mark(max_body: u64, progress: Option<Progress>, outline: FrameOutline) -> Mar
 }
 
 /// The size of the body that a content header announces.
+#[inline(always)]
 fn announced(outline: FrameOutline) -> PayloadSize
     ensures { result ≡ size_in outline }
 {
@@ -121,6 +127,7 @@ fn announced(outline: FrameOutline) -> PayloadSize
 }
 
 /// What is kept of a message of which so many body bytes have come: nothing, where it is complete.
+#[inline(always)]
 fn headed(size: PayloadSize, seen: PayloadSize) -> Option<Progress>
     ensures { result ≡ headed_progress size seen }
 {
@@ -132,6 +139,7 @@ fn headed(size: PayloadSize, seen: PayloadSize) -> Option<Progress>
 }
 
 /// What is kept after a frame with this mark.
+#[inline(always)]
 fn progress_after_mark(
     progress: Option<Progress>,
     outline: FrameOutline,
@@ -150,6 +158,7 @@ fn progress_after_mark(
 
 /// What a frame is to a channel's content, and what is kept of the channel after it, for callers that keep more of a
 /// channel beside it, as a tracker keeps it.
+#[inline(always)]
 pub fn step(
     max_body: u64,
     progress: Option<Progress>,

@@ -7,7 +7,7 @@ use crate::frames::{
 };
 use amqp_content::{
     Assembler, ContentFault, answers_are_steps, assemble, channels_are_answered,
-    channels_are_apart, splits_are_whole,
+    channels_are_apart, interleaved_are_whole, outlines_answer_alike, splits_are_whole,
 };
 use amqp_frame::AMQPFrame;
 use amqp_types::NoMemory;
@@ -198,6 +198,8 @@ fn faults_have_names(_rt: HostRuntime) -> Result<(), Fail> {
 fn laws_may_be_called(_rt: HostRuntime) {
     answers_are_steps();
     splits_are_whole();
+    interleaved_are_whole();
+    outlines_answer_alike();
     channels_are_answered();
     channels_are_apart();
 }

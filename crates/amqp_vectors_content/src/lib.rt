@@ -5,6 +5,8 @@
 #[cfg(test)]
 mod assembling;
 #[cfg(test)]
+mod bounded;
+#[cfg(test)]
 mod channels;
 #[cfg(test)]
 mod frames;

@@ -1,5 +1,6 @@
 //! Tests of streams that cross crates: worked cases, hostile cases, ends that fail, the generated stream, names of
-//! faults, writers of the tests' own, a proxy, a loop over frames, and memory that is refused.
+//! faults, writers of the tests' own, a proxy, a loop over frames, streams that go on from call to call, readers and
+//! writers of the system, and memory that is refused.
 #![tactic(auto)]
 
 #[cfg(test)]
@@ -13,6 +14,8 @@ mod failing;
 mod faults;
 pub mod forwarding;
 #[cfg(test)]
+mod going_on;
+#[cfg(test)]
 mod hostile;
 #[cfg(test)]
 mod made;
@@ -25,6 +28,8 @@ mod reading;
 mod refused;
 #[cfg(test)]
 mod rows;
+#[cfg(test)]
+mod system;
 #[cfg(test)]
 mod tidy;
 #[cfg(test)]

@@ -15,6 +15,8 @@ pub struct Example {
     pub name: String,
     pub command: String,
     pub status: u8,
+    /// The words after the command.
+    pub words: Vec<String>,
     pub input: Vec<u8>,
     pub wanted: Vec<u8>,
 }
@@ -53,7 +55,7 @@ pub fn examples(commands: &[&str]) -> Vec<Example> {
         if commands.contains(&command.as_str()) {
             let status = words.next().unwrap().parse().unwrap();
             let (input, wanted) = (example(&format!("{name}.{command}")), example(&format!("{name}.out")));
-            found.push(Example { name, command, status, input, wanted });
+            found.push(Example { name, command, status, words: words.collect(), input, wanted });
         }
     }
     found

@@ -10,6 +10,7 @@ use Rattle.amqp_canonical.proofs.Children.{EntriesTo, values_next, values_end, e
 use Rattle.amqp_canonical.proofs.AfterTag.{fixed_past, fixed_took, taken, counted_took, counted_fails, boolean_behind, array_behind, table_behind, array_deep, table_deep, value_empty, value_unknown, value_fails, value_took_at, entry_unread, entry_fails, entry_took}
 use Rattle.amqp_canonical.proofs.TagBytes.{no_tag, some_tag}
 use Rattle.amqp_canonical.proofs.Whole.{array_unread, array_fails, array_took, table_unread, table_fails, table_took}
+use Rattle.amqp_canonical.proofs.Above.{none_leads}
 use Rattle.amqp_canonical.proofs.values.+judge.Goals as goal
 use Rattle.amqp_canonical.proofs.values.+judge.Goals.{judge_entries-then-loop-canonical-test+else-at-content, judge_entries-else-loop-canonical-test}
 
@@ -100,14 +101,14 @@ pub judge_values-returns : goal.judge_values-returns
 judge_values-returns t c = values_end c.args.depth_left c.args.content.now c.loop-at.at c.loop-at.canonical c.loop-at-test.false c.loop-at.invariant.1
 
 pub judge_entries-loop-canonical-init : goal.judge_entries-loop-canonical-init
-judge_entries-loop-canonical-init t c = (omega arith, entries_none c.args.depth_left c.args.content.now)
+judge_entries-loop-canonical-init t c = (omega arith, (entries_none c.args.depth_left c.args.content.now, none_leads))
 
 pub judge_entries-returns-in-Err : goal.judge_entries-returns-in-Err
 judge_entries-returns-in-Err t c =
     let l = c.loop-canonical in
     let all = c.args.content.now in
     let failed = rw take_rest at c.in-Err.ensures.judged in
-    (refused_inside c.in-Err.error _ c.inside.ensures failed.0, refused_at (judge_entry (judge_value c.args.depth_left)) _ c.in-Err.error _ (drop l.at all) _ (omega (arith, length-drop l.at all)) c.inside.ensures failed.1 l.invariant.1.rest)
+    (refused_inside c.in-Err.error _ c.inside.ensures failed.0, refused_at (judge_entry (judge_value c.args.depth_left)) _ c.in-Err.error _ (drop l.at all) _ (omega (arith, length-drop l.at all)) c.inside.ensures failed.1 l.invariant.1.0.rest)
 
 pub judge_entries-loop-canonical-preserved : goal.judge_entries-loop-canonical-preserved
 judge_entries-loop-canonical-preserved t c =
@@ -120,7 +121,7 @@ judge_entries-loop-canonical-preserved t c =
     let fits : item.used ≤ length (drop l.at all) = rw take_rest at used.1 in
     let P : Bool → Type 0 = λ b. EntriesTo c.args.depth_left all l.at l.previous.now b in (
       omega (arith, fits, length-drop l.at all),
-      entries_next c.args.depth_left all l.at item.used l.previous.now key found.value true item.canonical c.is_next.result (λ k. omega (arith, c.type_inv.content k)) c.if-at-content.true found.is used.0 fits found.decides c.is_next.ensures (subst P c.loop-canonical-test.true l.invariant.1),
+      (entries_next c.args.depth_left all l.at item.used l.previous.now key found.value true item.canonical c.is_next.result (λ k. omega (arith, c.type_inv.content k)) c.if-at-content.true found.is used.0 fits found.decides c.is_next.ensures (subst P c.loop-canonical-test.true l.invariant.1.0), c.first_eight-lead.ensures),
     )
 
 pub judge_entries-loop-at-init : goal.judge_entries-loop-at-init
@@ -131,7 +132,7 @@ judge_entries-loop-at-init t c =
         | judge_entries-then-loop-canonical-test+else-at-content w ↦ w.if-at-content.false
         | judge_entries-else-loop-canonical-test w ↦ absurd (let not : l.canonical ≡ false = w.loop-canonical-test.false in cc)
       ],
-      (l.previous.now, l.invariant.1),
+      (l.previous.now, l.invariant.1.0),
     )
 
 pub judge_entries-returns-in-Err-judge_entry : goal.judge_entries-returns-in-Err-judge_entry

@@ -1,5 +1,6 @@
 -- the calls of cycle `judge`: what loops keep and what falls with each iteration or call.
 use Rattle.std.proofs.Common.{◌≡◌, ◌+◌, ◌-◌, ◌*◌, ◌≤◌, ℕ, List, true, length}
+use Rattle.amqp_canonical.specs.Leads.{leading}
 use Rattle.amqp_canonical.proofs.Children.{ValuesTo, EntriesTo}
 use Rattle.amqp_canonical.proofs.values.+judge.Given as goal
 
@@ -37,7 +38,7 @@ abbrev pub invariant-judge_values-loop-at : goal.invariant-judge_values-loop-at
 invariant-judge_values-loop-at l = (l.at ≤ length l.content) × ValuesTo l.depth_left l.content l.at l.canonical
 
 abbrev pub invariant-judge_entries-loop-canonical : goal.invariant-judge_entries-loop-canonical
-invariant-judge_entries-loop-canonical l = (l.at ≤ length l.content) × EntriesTo l.depth_left l.content l.at l.previous l.canonical
+invariant-judge_entries-loop-canonical l = (l.at ≤ length l.content) × (EntriesTo l.depth_left l.content l.at l.previous l.canonical × (l.previous_lead ≡ leading 8 l.previous))
 
 -- the key of the last entry is not kept here
 abbrev pub invariant-judge_entries-loop-at : goal.invariant-judge_entries-loop-at

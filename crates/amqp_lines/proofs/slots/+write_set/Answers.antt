@@ -2,8 +2,11 @@
 use Rattle.std.proofs.Common.{◌≡◌, true, false, sym, ◌∙◌, arith}
 use Rattle.std.proofs.lemmas.List.{take_rest}
 use Rattle.amqp_canonical.specs.declared.shapes.Form.TheVariants as forms
-use Rattle.amqp_lines.proofs.RenderedSlots.{option_rendered, option_past}
+use Rattle.amqp_lines.proofs.RenderedSlots.{no_options, option_said, option_past}
 use Rattle.amqp_lines.proofs.slots.+write_set.Goals as goal
+
+pub returns-in-empty : goal.returns-in-empty
+returns-in-empty t c = no_options c.args.mask c.args.shapes.now c.args.i.now c.args.out.now.items c.in-empty.len_below
 
 pub returns-then-not-has_bit : goal.returns-then-not-has_bit
 returns-then-not-has_bit t c =
@@ -15,5 +18,5 @@ pub returns-in_ok-used-in-len1-up : goal.returns-in_ok-used-in-len1-up
 returns-in_ok-used-in-len1-up t c =
     let on : c.has_bit.result ≡ true = grind arith in
     let others = rw take_rest at c.write_set-in-len1-up.ensures in
-    option_rendered c.args.mask c.args.shapes.now (0, forms.Octet) c.args.i.now c.bytes_from.result.now c.args.out.now.items c.write_name.new.out.items c.write_form.new.out.items c.write_set-in-len1-up.new.out.items c.in_ok-used-in-len1-up.used c.write_set-in-len1-up.result
+    option_said c.args.mask c.args.shapes.now (0, forms.Octet) c.args.i.now c.bytes_from.result.now c.args.out.now.items c.write_name.new.out.items c.write_form.new.out.items c.write_set-in-len1-up.new.out.items c.in_ok-used-in-len1-up.used c.write_set-in-len1-up.result
     c.in-len1-up.len_at_least (sym c.has_bit.ensures ∙ on) c.in_ok-write_name-in-len1-up.ensures c.in_ok-used-in-len1-up.ensures c.bytes_from.ensures others

@@ -1,6 +1,9 @@
 -- the calls of cycle `render`: what loops keep and what falls with each iteration or call.
 use Rattle.std.proofs.Common.{◌+◌, ◌*◌, length}
-use Rattle.amqp_lines.specs.Rendering.{rendered_entry, rendered_value}
+use Rattle.amqp_types.specs.Levels.{strict}
+use Rattle.amqp_types.specs.ValueSpelling.{SpellsEntry, SpellsValue}
+use Rattle.amqp_lines.specs.Values.{value_text}
+use Rattle.amqp_lines.specs.Rendering.{entry_text}
 use Rattle.amqp_lines.proofs.Rendered.{GoesOn}
 use Rattle.amqp_lines.proofs.values.+render.Given as goal
 
@@ -32,7 +35,7 @@ abbrev pub decreases-write_entries-loop-rest : goal.decreases-write_entries-loop
 decreases-write_entries-loop-rest l = length l.rest
 
 abbrev pub invariant-write_values-loop-rest : goal.invariant-write_values-loop-rest
-invariant-write_values-loop-rest l = GoesOn (rendered_value l.depth_left) l.content l.fn.out.items l.rest l.out.items
+invariant-write_values-loop-rest l = GoesOn (SpellsValue strict l.depth_left) value_text l.content l.fn.out.items l.rest l.out.items
 
 abbrev pub invariant-write_entries-loop-rest : goal.invariant-write_entries-loop-rest
-invariant-write_entries-loop-rest l = GoesOn (rendered_entry (rendered_value l.depth_left)) l.content l.fn.out.items l.rest l.out.items
+invariant-write_entries-loop-rest l = GoesOn (SpellsEntry (SpellsValue strict l.depth_left)) entry_text l.content l.fn.out.items l.rest l.out.items

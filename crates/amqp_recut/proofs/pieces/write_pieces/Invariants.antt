@@ -1,7 +1,7 @@
 -- `write_pieces`: what loops keep and what falls with each iteration or call.
 use Rattle.std.proofs.Common.{◌≡◌, ◌+◌, ◌≤◌, ◌++◌, length}
 use Rattle.amqp_wire.specs.Canonical.{canon_frames}
-use Rattle.amqp_recut.specs.Stepping.{frames_given}
+use Rattle.amqp_turns.specs.Splits.{frames_given}
 use Rattle.amqp_recut.proofs.Piecing.{HasGiven}
 use Rattle.amqp_recut.proofs.pieces.write_pieces.Given as goal
 

@@ -9,11 +9,11 @@ invariant-frames g l =
     let store = g.K.Sink.store in
     record {
       turn : Turn
-          (record { w = g.W.FrameWriter.manner; s = l.fn.writer; m = l.fn.reader.limit; turns = l.fn.turns; source = supply l.fn.source; sink = store l.fn.sink })
+          (record { w = g.W.FrameWriter.manner; s = l.fn.writer; m = l.fn.reader.limit; turns = l.fn.turns; source = supply l.fn.source; sink = store l.fn.sink; held = l.fn.reader.held; came = l.fn.came })
           l.fn.out.room
-          (record { writer = l.writer; left = l.left; source = supply l.source; sink = store l.sink; reader = l.reader; out = l.out; passed = l.stretch.len });
+          (record { writer = l.writer; left = l.left; came = l.came; source = supply l.source; sink = store l.sink; reader = l.reader; out = l.out; passed = l.stretch.len });
       unread : l.left ≡ l.fn.turns → l.source ≡ l.fn.source;
-      idle : l.left ≡ l.fn.turns → (l.reader.held ≡ []) × (l.out.bytes ≡ []) × (l.sink ≡ l.fn.sink);
+      idle : l.fn.reader.held ≡ [] → l.left ≡ l.fn.turns → (l.reader.held ≡ []) × (l.out.bytes ≡ []) × (l.sink ≡ l.fn.sink);
     }
 
 abbrev pub decreases-frames : goal.decreases-frames

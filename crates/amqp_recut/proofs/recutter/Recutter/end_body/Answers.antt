@@ -3,7 +3,8 @@ use Rattle.std.proofs.Common.{◌++◌, List, ℕ, true, Ok, Err, sym, ap, ◌�
 use Rattle.amqp_wire.specs.Canonical.{canon_frames}
 use Rattle.amqp_recut.specs.declared.recutter.Recutter.{Recutter}
 use Rattle.amqp_recut.specs.Held.{kept_in}
-use Rattle.amqp_recut.specs.Stepping.{frames_given, held_at}
+use Rattle.amqp_turns.specs.Splits.{frames_given}
+use Rattle.amqp_recut.specs.Stepping.{held_at}
 use Rattle.amqp_recut.proofs.Gathering.{gathers_as, body_written, body_unwritten}
 use Rattle.amqp_recut.proofs.recutter.Recutter.end_body.Goals as goal
 

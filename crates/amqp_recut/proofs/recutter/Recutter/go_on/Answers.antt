@@ -6,11 +6,12 @@ use Rattle.amqp_wire.specs.Canonical.{canon_frames}
 use Rattle.amqp_stream.proofs.Writes.{kept}
 use Rattle.amqp_recut.specs.declared.recutter.Recutter.{Recutter}
 use Rattle.amqp_recut.specs.Held.{kept_in}
-use Rattle.amqp_recut.specs.Stepping.{frames_given, left_over, held_at}
-use Rattle.amqp_recut.proofs.Cutting.{left-all}
+use Rattle.amqp_turns.specs.Splits.{frames_given, left_over}
+use Rattle.amqp_recut.specs.Stepping.{held_at}
+use Rattle.amqp_turns.proofs.Pieces.{left-all}
 use Rattle.amqp_recut.proofs.Gathering.{gathers_as, gathered_none, body_written, body_unwritten}
 use Rattle.amqp_recut.proofs.Piecing.{given_too_few}
-use Rattle.amqp_recut.proofs.Writing.{left_is}
+use Rattle.amqp_turns.proofs.Pieces.{left_is}
 use Rattle.amqp_recut.proofs.recutter.Recutter.go_on.Goals as goal
 
 pub returns-in-Ok-clause-writes : goal.returns-in-Ok-clause-writes

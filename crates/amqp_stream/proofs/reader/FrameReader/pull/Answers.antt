@@ -1,4 +1,4 @@
--- `FrameReader::pull`: clause `pulls` and what loops keep.
+-- `FrameReader::pull`: clauses `pulls` and `unread`, and what loops keep.
 use Rattle.std.proofs.Common.{Ok, Err, Some, refl, ◌∙◌, arith}
 use Rattle.amqp_stream.specs.declared.errors.ReadError.TheVariants as errors
 use Rattle.amqp_stream.specs.Reading.{LiesIn}
@@ -43,4 +43,14 @@ reads-preserved g c =
     record {
       limit = c.in-Ok.ensures.limit ∙ run.limit;
       pulled = Pulled-more 0 run.pulled (omega arith) more read (omega (arith, read.ok, c.in-Ok.field-0-test.1));
+      unread = λ e. absurd (omega (arith, run.pulled.turns_fall));
     }
+
+pub returns-in-Err-fill-clause-unread : goal.returns-in-Err-fill-clause-unread
+returns-in-Err-fill-clause-unread g c = λ e. absurd (omega (arith, c.reads.invariant.pulled.turns_fall))
+
+pub returns-in-Ok-eq0-clause-unread : goal.returns-in-Ok-eq0-clause-unread
+returns-in-Ok-eq0-clause-unread g c = λ e. absurd (omega (arith, c.reads.invariant.pulled.turns_fall))
+
+pub returns-in-Ok-eq0-2-clause-unread : goal.returns-in-Ok-eq0-2-clause-unread
+returns-in-Ok-eq0-2-clause-unread g c = λ e. absurd (omega (arith, c.reads.invariant.pulled.turns_fall))

@@ -7,6 +7,7 @@ abbrev pub invariant-reads : goal.invariant-reads
 invariant-reads g l = record {
   limit : l.self.limit ≡ l.fn.self.limit;
   pulled : Pulled l.fn.self.limit (g.S.Source.supply l.fn.source) (g.S.Source.supply l.source) l.fn.turns l.turns l.fn.self.held l.self.held 0;
+  unread : l.turns ≡ l.fn.turns → l.source ≡ l.fn.source;
 }
 
 abbrev pub decreases-reads : goal.decreases-reads

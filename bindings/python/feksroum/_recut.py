@@ -1,0 +1,87 @@
+"""Recutting: the bodies of messages are cut anew into frames of one size."""
+
+from typing import Any, Dict, Iterable, Tuple
+
+from ._buffers import MAX_PAYLOAD, Room
+from ._errors import UnknownStatus
+from ._inputs import Input
+from ._library import SMALL
+from ._streams import MessageStream, Written, is_canonical, written_over
+from ._turns import BODY
+
+_HEAD_LENGTH = 7
+_FRAME_END = b"\xce"
+
+
+class Recutter(MessageStream):
+    """Writes a stream as canonical bytes, with the bodies of messages cut into pieces of `size` bytes, and the last of each as long as
+    it comes. Other frames stay as they are. Of each open message fewer than `size` bytes are held. A peer takes pieces of at most the
+    frame-max that was agreed on, less 8.
+
+    >>> from feksroum import Basic, Properties, Recutter, encode, frames
+    >>> data = encode(1, Basic.Publish(routing_key="k")) + encode(1, Properties(), b"hello")
+    >>> [bytes(frame.payload) for frame in frames(Recutter(2).feed(data))][2:]
+    [b'he', b'll', b'o']
+    """
+
+    def __init__(self, size: int, max_payload: int = MAX_PAYLOAD) -> None:
+        super().__init__(max_payload)
+        if not 1 <= size < 2**32:
+            raise ValueError(f"the size of a piece has to be 1 to 2^32 - 1, and is {size}")
+        self._size = size
+        #: The last bytes of a channel's body so far, which are too few for a piece.
+        self._bodies: Dict[int, bytearray] = {}
+        self._head = Room(_HEAD_LENGTH)
+
+    def _take(self, head: Tuple[int, ...], turn: Any, start: int, end: int, written: Written) -> None:
+        if turn.part != BODY:
+            written.frame(start, end, is_canonical(head))
+            return
+        channel, length = head[5], head[2]
+        held = self._bodies.pop(channel, None) or bytearray()
+        ends = int(turn.finished)
+        cut = SMALL.feksroum_recut(self._size, len(held), length, ends)
+        if cut.status:
+            raise UnknownStatus(self._used, cut.status)
+        if cut.pieces == 1 and not held and length <= self._size:
+            # The frame is the piece.
+            written.frame(start, end, True)
+            return
+        body = memoryview(written.source)[start + _HEAD_LENGTH : end - 1]
+        if cut.pieces:
+            front = bytes(held)
+            pieces = (SMALL.feksroum_piece_at(self._size, len(held), length, ends, k) for k in range(cut.pieces))
+            self._write(channel, pieces, front, body, written)
+        if cut.left:
+            self._hold(channel, held, body, cut.left)
+
+    def _write(self, channel: int, pieces: Iterable[Any], front: bytes, body: memoryview, written: Written) -> None:
+        """Writes pieces of what was held and of the new bytes as frames."""
+        head, last = b"", -1
+        for piece in pieces:
+            length = piece.held_length + piece.length
+            if length != last:
+                head, last = self._head_of(channel, length), length
+            held = front[piece.held_start : piece.held_start + piece.held_length]
+            written.octets(head, held, body[piece.start : piece.start + piece.length], _FRAME_END)
+
+    def _hold(self, channel: int, held: bytearray, body: memoryview, left: int) -> None:
+        """Holds the last bytes of what was held and of the new ones."""
+        of_body = min(left, len(body))
+        del held[: len(held) - (left - of_body)]
+        held += body[len(body) - of_body :]
+        self._bodies[channel] = held
+
+    def _head_of(self, channel: int, length: int) -> bytes:
+        """What comes before a body of so many bytes."""
+        return self._head.copy(SMALL.feksroum_body_head(channel, length, self._head.address, len(self._head)))
+
+    def __repr__(self) -> str:
+        return f"<Recutter into {self._size} bytes: {self.open} messages open>"
+
+
+def recut(source: Input, size: int, max_payload: int = MAX_PAYLOAD) -> bytes:
+    """The canonical bytes of a stream with the bodies of messages cut into pieces of `size` bytes, as the program's `recut N` writes
+    them. Input and exceptions are those of `filter`; `Recutter(size).over(input)` gives the same piece by piece.
+    """
+    return written_over(Recutter(size, max_payload), source)

@@ -1,0 +1,59 @@
+"""Whose turn it is on each channel of one direction of a connection: which messages are open, and how far they have come."""
+
+from typing import Any, Dict, Tuple
+
+from ._errors import BadContent, UnknownStatus
+from ._frames import FrameType
+from ._library import SMALL, ChannelState
+
+#: What a frame is to its channel: no part of a message, the method that opens one, its content header, a body.
+NO_PART, OPENING, HEADER, BODY = range(4)
+#: The largest number of bytes that a body may have.
+ANY_SIZE = 2**64 - 1
+_BLANK = ChannelState()
+_FAULTED = 3
+_HEADER_TYPE = int(FrameType.HEADER)
+
+
+class Turns:
+    """The channels that are inside a message or at fault, with what the library keeps of each."""
+
+    def __init__(self, max_body: int = ANY_SIZE) -> None:
+        if not 0 <= max_body <= ANY_SIZE:
+            raise ValueError("max_body has to fit in 64 bits")
+        self._max_body = max_body
+        self._channels: Dict[int, Any] = {}
+
+    def look(self, head: Tuple[int, ...]) -> Any:
+        """What a frame is to its channel, by the numbers of its head: status 24 where it is not in turn."""
+        size = head[0] if head[8] == _HEADER_TYPE else head[2]
+        state = self._channels.get(head[5], _BLANK)
+        turn = SMALL.feksroum_step(state, head[8], head[6], head[7], size, self._max_body)
+        if turn.status not in (0, BadContent.status):
+            raise UnknownStatus(0, turn.status)
+        return turn
+
+    def keep(self, channel: int, turn: Any) -> None:
+        """Keeps what the channel is after the frame."""
+        after = turn.after
+        if after.state:
+            self._channels[channel] = after
+        else:
+            self._channels.pop(channel, None)
+
+    def step(self, head: Tuple[int, ...], used: int) -> Any:
+        """The same at once. Raises BadContent, at a frame that comes after so many bytes."""
+        turn = self.look(head)
+        self.keep(head[5], turn)
+        if turn.status:
+            raise BadContent(used, head[5], turn.fault)
+        return turn
+
+    def forget(self, channel: int) -> None:
+        """Begins anew with a channel."""
+        self._channels.pop(channel, None)
+
+    @property
+    def open(self) -> int:
+        """How many messages are open."""
+        return sum(state.state != _FAULTED for state in list(self._channels.values()))

@@ -1,0 +1,6 @@
+-- `interleaved_are_whole`: what it ensures.
+use Rattle.amqp_content.proofs.Whole.{interleaved_whole}
+use Rattle.amqp_content.proofs.laws.interleaved_are_whole.Goals as goal
+
+pub returns : goal.returns
+returns c = interleaved_whole

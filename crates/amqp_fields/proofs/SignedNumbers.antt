@@ -1,0 +1,69 @@
+-- Signed numbers of each width, in two's complement of 64 bits.
+use Rattle.std.proofs.Common.{◌≡◌, ℕ, suc, ◌*◌, ◌-◌, ◌<◌, ◌≤◌, ◌^◌, ◌%◌, ◌⊎◌, inl, inr, true, sym, ap, ◌∙◌, arith}
+use Rattle.std.proofs.lemmas.Bool.Decides.{nat_tests}
+use Rattle.std.proofs.lemmas.Bool.{cases_lt}
+use Rattle.std.proofs.lemmas.Int.{to_z_pos}
+use Rattle.std.proofs.Math.Facts.{to_z-neg}
+use Rattle.std.specs.Int.{w8, w16, w32, w64, cast_signed, cast_unsigned}
+use Rattle.amqp_types.specs.Numbers.{NumberWidth, bytes1, bytes2, bytes4, bytes8, number_limit, width_of}
+use Rattle.amqp_fields.specs.Made.{half_limit, is_signed}
+
+-- ---- what is known of each width
+
+low_bits : (width : NumberWidth) (n : ℕ) → n < half_limit width → cast_unsigned w64 (cast_signed (width_of width) n) ≡ n
+low_bits bytes1 n few = ap (cast_unsigned w64) (to_z_pos w8 n few)
+low_bits bytes2 n few = ap (cast_unsigned w64) (to_z_pos w16 n few)
+low_bits bytes4 n few = ap (cast_unsigned w64) (to_z_pos w32 n few)
+low_bits bytes8 n few = ap (cast_unsigned w64) (to_z_pos w64 n few)
+
+high_bits : (width : NumberWidth) (k : ℕ) → k < half_limit width → cast_unsigned w64 (cast_signed (width_of width) (number_limit width - suc k)) ≡ 2 ^ 64 - suc k
+high_bits bytes1 k below = ap (cast_unsigned w64) (to_z-neg w8 k below)
+high_bits bytes2 k below = ap (cast_unsigned w64) (to_z-neg w16 k below)
+high_bits bytes4 k below = ap (cast_unsigned w64) (to_z-neg w32 k below)
+high_bits bytes8 k below = ap (cast_unsigned w64) (to_z-neg w64 k below)
+
+low_rest : (width : NumberWidth) (n : ℕ) → n < half_limit width → n % number_limit width ≡ n
+low_rest bytes1 n few = omega (arith, few)
+low_rest bytes2 n few = omega (arith, few)
+low_rest bytes4 n few = omega (arith, few)
+low_rest bytes8 n few = omega (arith, few)
+
+high_rest : (width : NumberWidth) (k : ℕ) → k < half_limit width → (2 ^ 64 - suc k) % number_limit width ≡ number_limit width - suc k
+high_rest bytes1 k below = omega (arith, below)
+high_rest bytes2 k below = omega (arith, below)
+high_rest bytes4 k below = omega (arith, below)
+high_rest bytes8 k below = omega (arith, below)
+
+halves : (width : NumberWidth) → (number_limit width ≡ 2 * half_limit width) × (half_limit width ≤ 2 ^ 63)
+halves bytes1 = (omega arith, omega arith)
+halves bytes2 = (omega arith, omega arith)
+halves bytes4 = (omega arith, omega arith)
+halves bytes8 = (omega arith, omega arith)
+
+-- ---- both ways
+
+pub signed_back : (width : NumberWidth) (n : ℕ) → (n < half_limit width) ⊎ ((2 ^ 64 - half_limit width ≤ n) × (n < 2 ^ 64)) → n ≡ cast_unsigned w64 (cast_signed (width_of width) (n % number_limit width))
+signed_back width n (inl few) = sym (ap (λ k. cast_unsigned w64 (cast_signed (width_of width) k)) (low_rest width n few) ∙ low_bits width n few)
+signed_back width n (inr most) =
+    let k = 2 ^ 64 - 1 - n in
+    let half = (halves width).1 in
+    let below : k < half_limit width = omega (arith, most.0, most.1, half) in
+    let back : 2 ^ 64 - suc k ≡ n = omega (arith, most.1) in
+    let rest : n % number_limit width ≡ number_limit width - suc k = ap (λ m. m % number_limit width) (sym back) ∙ high_rest width k below in
+    sym (ap (λ m. cast_unsigned w64 (cast_signed (width_of width) m)) rest ∙ high_bits width k below ∙ back)
+
+pub signed_bits : (width : NumberWidth) (bits number : ℕ) → bits < number_limit width → number ≡ cast_unsigned w64 (cast_signed (width_of width) bits) → (is_signed width number ≡ true) × (number % number_limit width ≡ bits)
+signed_bits width bits number few is = elim (cases_lt bits (half_limit width)) [
+  | inl low ↦ (
+      let same : number ≡ bits = is ∙ low_bits width bits low in
+      (grind (arith, nat_tests, same, low), ap (λ n. n % number_limit width) same ∙ low_rest width bits low))
+  | inr high ↦ (
+      let k = number_limit width - 1 - bits in
+      let half = halves width in
+      let below : k < half_limit width = omega (arith, high, few, half.0) in
+      let back : number_limit width - suc k ≡ bits = omega (arith, few) in
+      let same : number ≡ 2 ^ 64 - suc k = is ∙ ap (λ m. cast_unsigned w64 (cast_signed (width_of width) m)) (sym back) ∙ high_bits width k below in
+      let least : 2 ^ 64 - half_limit width ≤ number = omega (arith, same, below) in
+      let most : number < 2 ^ 64 = omega (arith, same, below, half.1) in
+      (grind (arith, nat_tests, least, most), ap (λ n. n % number_limit width) same ∙ high_rest width k below ∙ back))
+]

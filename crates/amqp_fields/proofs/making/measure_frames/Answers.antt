@@ -1,0 +1,20 @@
+-- `measure_frames`: what it ensures, and what the loop keeps.
+use Rattle.std.proofs.Common.{refl, arith}
+use Rattle.std.proofs.lemmas.Bool.Decides.{nat_tests}
+use Rattle.amqp_fields.proofs.HeadsMade.{head_measured, head_not_measured, heads_measured, heads_start}
+use Rattle.amqp_fields.proofs.making.measure_frames.Goals as goal
+
+pub loop-rest-init : goal.loop-rest-init
+loop-rest-init c = heads_start c.args.pool.now c.args.nodes.now c.args.max_payload c.args.heads.now
+
+pub returns-in-Err : goal.returns-in-Err
+returns-in-Err c = head_not_measured c.args.pool.now c.args.nodes.now c.args.max_payload c.in-Err.bad c.within.result _ c.loop-rest.invariant c.in-Some.ensures.found refl c.in-Err.ensures c.within.ensures
+
+pub loop-rest-preserved : goal.loop-rest-preserved
+loop-rest-preserved c = head_measured c.args.pool.now c.args.nodes.now c.args.max_payload c.loop-rest.invariant c.in-Some.ensures.found c.in-Ok.ensures c.plus-size.ensures
+
+pub returns : goal.returns
+returns c = heads_measured c.args.pool.now c.args.nodes.now c.args.max_payload c.loop-rest.invariant (grind (arith, nat_tests))
+
+pub returns-in-None : goal.returns-in-None
+returns-in-None c = heads_measured c.args.pool.now c.args.nodes.now c.args.max_payload c.loop-rest.invariant (c.first_head.ensures.none c.in-None.is)

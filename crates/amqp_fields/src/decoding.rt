@@ -1,0 +1,137 @@
+//! Whole payloads decoded: at which levels they are encoded, and the nodes of their fields.
+
+ghost use Rattle.std.specs.Prelude.{◌≡◌, None, Ok, Err, IfSome, IfOk, IfErr};
+ghost use Rattle.amqp_types.specs.Methods.{judge_payload, payload_bytes};
+ghost use Rattle.amqp_types.specs.Tidiness.{is_tidy_payload};
+ghost use Rattle.amqp_wire.specs.Frames.{raw_of};
+ghost use Rattle.amqp_wire.specs.Judgements.{JudgesAll, JudgesFrame};
+ghost use Rattle.amqp_fields.specs.Finding.{Counts};
+ghost use Rattle.amqp_fields.specs.Listed.{listed_method, listed_payload};
+
+use crate::fields::list_slots;
+use crate::node::Node;
+use crate::payloads::list_payload;
+use amqp_canonical::{judge_slots, shapes_of};
+use amqp_types::ParserError;
+use amqp_wire::{AMQPFrameType, AMQPRawFrame, FrameJudgement, judge_frame};
+
+/// What was decoded of a whole payload.
+#[derive(Clone, Copy)]
+pub(crate) struct Decoded {
+    /// At which levels it is encoded.
+    pub(crate) judged: FrameJudgement,
+
+    /// How many nodes there are.
+    pub(crate) count: u32,
+}
+
+/// Decodes a method, and puts its fields after `count` nodes. There is nothing where it has a fault. The table of methods is asked
+/// once.
+#[inline(always)]
+fn decode_method(
+    nodes: &mut [Node],
+    count: u32,
+    deep: bool,
+    end: u32,
+    payload: &[u8],
+) -> Option<Decoded>
+    ensures judged { IfSome result (λ found. JudgesAll judge_payload payload_bytes is_tidy_payload payload.now (Ok found.judged)) }
+    ensures counts { IfSome result (λ found. Counts (listed_method deep end payload.now) nodes.old count nodes.new found.count) }
+    ensures none { result ≡ None → nodes.new ≡ nodes.old }
+{
+    match payload {
+        [a, b, c, d, fields @ ..] => {
+            let class = u16::from_be_bytes([*a, *b]);
+            let id = u16::from_be_bytes([*c, *d]);
+            match shapes_of(class, id) {
+                Some(shapes) => match judge_slots(shapes, fields) {
+                    Ok(found) => {
+                        if found.used < fields.len() {
+                            return None;
+                        }
+                        let judged = FrameJudgement {
+                            canonical: found.canonical,
+                            tidy: found.tidy,
+                        };
+                        let count = list_slots(nodes, count, deep, end, 0, shapes, fields);
+                        Some(Decoded { judged, count })
+                    }
+                    Err(_) => None,
+                },
+                None => None,
+            }
+        }
+        _ => None,
+    }
+}
+
+/// Decodes a payload of any type, and puts its fields after `count` nodes.
+#[inline(always)]
+fn decode_any(
+    raw: AMQPRawFrame<'_>,
+    nodes: &mut [Node],
+    count: u32,
+    deep: bool,
+    end: u32,
+) -> Result<Decoded, ParserError>
+    ensures judged { IfOk result (λ found. JudgesFrame (raw_of raw.entry) (Ok found.judged)) }
+    ensures counts { IfOk result (λ found. Counts (listed_payload raw.entry.frame_type deep end raw.entry.payload.now) nodes.old count nodes.new found.count) }
+    ensures fault { IfErr result (λ error. JudgesFrame (raw_of raw.entry) (Err error)) }
+    ensures kept { IfErr result (λ error. nodes.new ≡ nodes.old) }
+{
+    match judge_frame(raw) {
+        Ok(judged) => {
+            let count = list_payload(nodes, count, raw.frame_type, deep, end, raw.payload);
+            Ok(Decoded { judged, count })
+        }
+        Err(error) => Err(error),
+    }
+}
+
+/// The same of a payload that most often has a fault, whose code is not beside that of the others.
+#[cold]
+#[inline(never)]
+fn decode_faulty(
+    raw: AMQPRawFrame<'_>,
+    nodes: &mut [Node],
+    count: u32,
+    deep: bool,
+    end: u32,
+) -> Result<Decoded, ParserError>
+    ensures judged { IfOk result (λ found. JudgesFrame (raw_of raw.entry) (Ok found.judged)) }
+    ensures counts { IfOk result (λ found. Counts (listed_payload raw.entry.frame_type deep end raw.entry.payload.now) nodes.old count nodes.new found.count) }
+    ensures fault { IfErr result (λ error. JudgesFrame (raw_of raw.entry) (Err error)) }
+    ensures kept { IfErr result (λ error. nodes.new ≡ nodes.old) }
+{
+    decode_any(raw, nodes, count, deep, end)
+}
+
+/// Decodes a whole payload, and puts the nodes of its fields after `count` others. It ends at the place `end` of the bytes in
+/// which spans are counted. Where it has a fault, the list is left.
+#[inline(always)]
+#[tactic(auto, unfolding(crate::specs::Listed::listed_payload))]
+pub(crate) fn decode(
+    raw: AMQPRawFrame<'_>,
+    nodes: &mut [Node],
+    count: u32,
+    deep: bool,
+    end: u32,
+) -> Result<Decoded, ParserError>
+    ensures judged { IfOk result (λ found. JudgesFrame (raw_of raw.entry) (Ok found.judged)) }
+    ensures counts { IfOk result (λ found. Counts (listed_payload raw.entry.frame_type deep end raw.entry.payload.now) nodes.old count nodes.new found.count) }
+    ensures fault { IfErr result (λ error. JudgesFrame (raw_of raw.entry) (Err error)) }
+    ensures kept { IfErr result (λ error. nodes.new ≡ nodes.old) }
+{
+    match raw.frame_type {
+        AMQPFrameType::Method => {
+            match decode_method(nodes, count, deep, end, raw.payload) {
+                Some(found) => Ok(found),
+                None => decode_faulty(raw, nodes, count, deep, end),
+            }
+        }
+        AMQPFrameType::ProtocolHeader
+        | AMQPFrameType::Header
+        | AMQPFrameType::Body
+        | AMQPFrameType::Heartbeat => decode_any(raw, nodes, count, deep, end),
+    }
+}

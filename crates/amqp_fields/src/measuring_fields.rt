@@ -1,0 +1,209 @@
+//! How many bytes the fields of methods and the properties of messages have that nodes mean, or why they are refused.
+#![tactic(auto, unfolding(crate::specs::MadeFields::made_plain, crate::specs::MadeFields::made_form, crate::specs::MadeFields::made_field, crate::specs::MadeFields::made_kept))]
+
+ghost use Rattle.std.specs.Prelude.{◌≡◌, ◌∷◌, None, true, length, IfSome};
+ghost use Rattle.amqp_canonical.specs.Shapes.{form_of, has_constant, have_constants, property_of, slot_of, slots_of};
+ghost use Rattle.amqp_fields.specs.MadeFields.{made_field, made_flags, made_form, made_plain, made_properties, made_slot, made_slots};
+ghost use Rattle.amqp_fields.specs.Makes.{IsNoProperty, IsProperty, Measures};
+
+use crate::fields::{further, kept_count};
+use crate::making_fields::{flags_byte, is_field, node_count};
+use crate::measuring::{
+    measure_long, measure_long_long, measure_long_string, measure_octet, measure_short,
+    measure_text,
+};
+use crate::measuring_values::measure_table;
+use crate::node::Node;
+use crate::node_groups::{first_group, index_of, nodes_from, own_index};
+use crate::putting::plus;
+use crate::refusals::Refusal;
+use amqp_canonical::{Form, Slot, property_shapes};
+use amqp_types::INNER_DEPTH;
+
+/// What is encoded so, and is neither flags nor a table.
+#[inline(always)]
+fn measure_plain(pool: &[u8], index: usize, form: Form, node: Node) -> Result<usize, Refusal>
+    ensures { Measures (made_plain pool.now index (form_of form) node) result }
+{
+    match form {
+        Form::Octet => measure_octet(index, node.number),
+        Form::Short => measure_short(index, node.number),
+        Form::Long => measure_long(index, node.number),
+        Form::LongLong => measure_long_long(index, node.number),
+        Form::ShortString => measure_text(pool, index, node.start, node.length),
+        Form::LongString => measure_long_string(pool, index, node.start, node.length),
+        Form::Flags(_) | Form::Table => Err(Refusal::bad(index)),
+    }
+}
+
+/// What is encoded so: a field of a method or a property, which is not flags.
+#[inline(always)]
+fn measure_form(
+    pool: &[u8],
+    end: usize,
+    form: Form,
+    node: Node,
+    inside: &[Node],
+) -> Result<usize, Refusal>
+    ensures { Measures (made_form pool.now (form_of form) end node inside.now) result }
+{
+    if form == Form::Table {
+        return measure_table(pool, end, node, inside, INNER_DEPTH);
+    }
+    let index = own_index(end, inside);
+    if inside.is_empty() {
+        measure_plain(pool, index, form, node)
+    } else {
+        Err(Refusal::bad(index))
+    }
+}
+
+/// The field at a place, which is the first of these nodes with those inside it.
+#[inline(always)]
+fn measure_field(
+    pool: &[u8],
+    end: usize,
+    place: u8,
+    form: Form,
+    nodes: &[Node],
+) -> Result<usize, Refusal>
+    ensures { Measures (made_field pool.now end place (form_of form) nodes.now) result }
+{
+    let (node, inside, others) = match first_group(nodes) {
+        Some(group) => group,
+        None => return Err(Refusal::bad(index_of(end, nodes))),
+    };
+    if !is_field(place, form, node) {
+        return Err(Refusal::bad(index_of(end, nodes)));
+    }
+    measure_form(pool, index_of(end, others), form, node, inside)
+}
+
+/// A byte of flags, at most eight, at places from one on, which are the first of these nodes.
+#[inline(always)]
+fn measure_flags(end: usize, place: u8, count: u8, nodes: &[Node]) -> Result<usize, Refusal>
+    ensures { Measures (made_flags end place count nodes.now) result }
+{
+    if count > 8 {
+        return Err(Refusal::bad(index_of(end, nodes)));
+    }
+    match flags_byte(end, place, count, nodes) {
+        Ok(_) => Ok(1),
+        Err(refusal) => Err(refusal),
+    }
+}
+
+/// A field, which is the first of these nodes, or the constant of a reserved one.
+#[inline(always)]
+fn measure_slot(
+    pool: &[u8],
+    end: usize,
+    place: u8,
+    slot: Slot,
+    nodes: &[Node],
+) -> Result<usize, Refusal>
+    requires constant { has_constant slot ≡ true }
+    ensures { Measures (made_slot pool.now end place (slot_of slot) nodes.now) result }
+{
+    match slot {
+        Slot::Reserved(_, constant) => Ok(constant.len()),
+        Slot::Kept(Form::Flags(count)) => measure_flags(end, place, count, nodes),
+        Slot::Kept(form) => measure_field(pool, end, place, form, nodes),
+    }
+}
+
+/// The first of some shapes, and the others.
+#[inline(always)]
+pub(crate) fn first_shape(shapes: &[Slot]) -> Option<(Slot, &[Slot])>
+    ensures found { IfSome result (λ found. shapes.now ≡ found.0 ∷ found.1.now) }
+    ensures none { result ≡ None → length shapes.now ≡ 0 }
+{
+    match shapes {
+        [] => None,
+        [shape, others @ ..] => Some((*shape, others)),
+    }
+}
+
+/// The fields of these shapes, one after another.
+pub(crate) fn measure_slots(
+    pool: &[u8],
+    end: usize,
+    shapes: &[Slot],
+    nodes: &[Node],
+) -> Result<usize, Refusal>
+    requires constants { have_constants shapes.now ≡ true }
+    ensures { Measures (made_slots pool.now end 0 (slots_of shapes.now) nodes.now) result }
+{
+    let mut left = shapes;
+    let mut rest = nodes;
+    let mut place = 0;
+    let mut size = 0;
+    while !left.is_empty() {
+        let (shape, others) = match first_shape(left) {
+            Some(found) => found,
+            None => return Ok(size),
+        };
+        match measure_slot(pool, end, place, shape, rest) {
+            Ok(n) => size = plus(size, n),
+            Err(refusal) => return Err(refusal),
+        }
+        rest = nodes_from(rest, node_count(shape, rest));
+        place = further(place, kept_count(shape));
+        left = others;
+    }
+    if rest.is_empty() {
+        Ok(size)
+    } else {
+        Err(Refusal::bad(index_of(end, rest)))
+    }
+}
+
+/// The bit and the form of the property that a node is, at a place or after it.
+#[inline(always)]
+#[tactic(auto, using(crate::proofs::PropertiesMade::property_stands, crate::proofs::PropertiesMade::property_before, crate::proofs::PropertiesMade::property_beyond, crate::proofs::PropertiesMade::property_other))]
+pub(crate) fn property_of(place: u8, node: Node) -> Option<(u16, Form)>
+    ensures found { IfSome result (λ shape. IsProperty place node (property_of shape)) }
+    ensures none { result ≡ None → IsNoProperty place node }
+{
+    let shapes = property_shapes();
+    let at = node.place as usize;
+    if node.place < place {
+        return None;
+    }
+    if at >= shapes.len() {
+        return None;
+    }
+    let shape = shapes[at];
+    if is_field(node.place, shape.1, node) {
+        Some(shape)
+    } else {
+        None
+    }
+}
+
+/// The mask of the properties that are set, and these properties.
+pub(crate) fn measure_properties(pool: &[u8], end: usize, nodes: &[Node]) -> Result<usize, Refusal>
+    ensures { Measures (made_properties pool.now end nodes.now) result }
+{
+    let mut rest = nodes;
+    let mut place = 0;
+    let mut size = 2;
+    while !rest.is_empty() {
+        let (node, inside, others) = match first_group(rest) {
+            Some(group) => group,
+            None => return Err(Refusal::bad(index_of(end, rest))),
+        };
+        let shape = match property_of(place, node) {
+            Some(shape) => shape,
+            None => return Err(Refusal::bad(index_of(end, rest))),
+        };
+        let last = index_of(end, others);
+        match measure_form(pool, last, shape.1, node, inside) {
+            Ok(n) => size = plus(size, n),
+            Err(refusal) => return Err(refusal),
+        }
+        place = further(node.place, 1);
+        rest = others;
+    }
+    Ok(size)
+}

@@ -1,0 +1,51 @@
+-- A run that begins with bytes that are held already, and holds what follows the frames that it wrote for.
+use Rattle.std.specs.Prelude.{◌≡◌, ℕ, ◌+◌, ◌≤◌, List, ◌++◌, length, None, Some}
+use Rattle.amqp_wire.specs.Fronts.{place}
+use Rattle.amqp_stream.specs.Errors.{turns_spent, write_failed, out_of_memory}
+use Rattle.amqp_stream.specs.Ends.{Supply, Store, Takes, prepended, counted}
+use Rattle.amqp_stream.specs.Steps.{Manner}
+use Rattle.amqp_stream.specs.Transcribing.{IsSequence}
+use Rattle.amqp_stream.specs.Streaming.{Ending, refused_by, stopped_by, text_of, refused_of, state_of, Streams}
+
+-- a source with these bytes in front of those that it has left
+abbrev pub ahead : List ℕ → Supply → Supply
+ahead held a = record { left = prepended held a.left; reads = a.reads; faults = a.faults }
+
+-- Of some bytes those in front are frames that were written for, from the writer's state s to t, and the rest is held.
+pub record Rests {S E : Type 0} (w : Manner S E) (s t : S) (m : ℕ) (bytes written held : List ℕ) : Type 0 where
+  pub used : List ℕ
+  pub parts : bytes ≡ used ++ held
+  pub is_sequence : IsSequence w.level m used
+  pub none_refused : refused_of w s m used ≡ None
+  pub text_is : written ≡ text_of w s m used
+  pub state_is : t ≡ state_of w s m used
+
+-- The same, and none of the held bytes are a frame.
+pub record RestsAt {S E : Type 0} (w : Manner S E) (s t : S) (m : ℕ) (bytes written held : List ℕ) : Type 0 where
+  pub rests : Rests w s t m bytes written held
+  pub place_is : held ≡ place w.level (Some m) bytes
+
+-- What is held after a run: after a refusal the refused frame and what follows it. Only after a failed write, and after memory ran
+-- out, it is not known.
+abbrev pub RestsBy : {S E : Type 0} → Manner S E → S → S → ℕ → List ℕ → List ℕ → List ℕ → Ending E → Type 0
+RestsBy w s t m bytes written held (stopped_by write_failed) = Unit {0}
+RestsBy w s t m bytes written held (stopped_by out_of_memory) = Unit {0}
+RestsBy w s t m bytes written held (refused_by why) = Rests w s t m bytes written held
+RestsBy w s t m bytes written held ending = RestsAt w s t m bytes written held
+
+-- A run over a source with the held bytes in front. The count of bytes that came stays at its last value.
+pub record Resumes {S E : Type 0} (w : Manner S E) (s t : S) (m turns : ℕ) (before after : List ℕ) (came_old came_new : ℕ) (a b : Supply) (k l : Store) (ending : Ending E) : Type 0 where
+  pub run : Streams w s t m turns (ahead before a) b k l ending
+  pub piece : List ℕ
+  pub parts : run.taken ≡ before ++ piece
+  pub takes : Takes a b piece run.reads
+  pub counts : Some came_new ≡ counted (length piece) (Some came_old)
+  pub some : ending ≡ stopped_by turns_spent → turns ≤ length piece
+  pub rests : RestsBy w s t m run.taken run.written after ending
+
+-- Two runs one after another are one run, with both read budgets, where the first has spent its own. So are any number of them.
+abbrev pub RunsAddUp : {S E : Type 0} → Manner S E → Type 0
+RunsAddUp {S = S} {E = E} w = (s t u : S) (m turns more : ℕ) (h0 h1 h2 : List ℕ) (c0 c1 c2 : ℕ) (a b c : Supply) (k l n : Store) (e : Ending E)
+    → Resumes w s t m turns h0 h1 c0 c1 a b k l (stopped_by turns_spent)
+    → Resumes w t u m more h1 h2 c1 c2 b c l n e
+    → Resumes w s u m (turns + more) h0 h2 c0 c2 a c k n e
