@@ -28,6 +28,9 @@ pub mod SignedNumbers
 pub mod Measured
 pub mod PropertiesMade
 pub mod HeadsMade
+pub mod Placed
+pub mod FieldsPlaced
+pub mod FramesPlaced
 pub mod ValuesTold
 pub mod FieldsTold
 pub mod FramesTold

@@ -60,6 +60,10 @@ abbrev pub Closes : ℕ → ℕ → List ℕ → List ℕ → ℕ → Result ℕ
 Closes node length old new at (Ok count) = IsClosed length old new at count
 Closes node length old new at (Err bad) = (2 ^ 32 ≤ length) × (bad ≡ refusal node whys.TooLong)
 
+-- bytes were put at a place, where the buffer has room for them
+abbrev pub Places : List ℕ → List ℕ → ℕ → List ℕ → ℕ → Type 0
+Places old new at bytes next = Sets {E = Refusal} (Ok bytes) old new at next
+
 -- the node is this property, at a place or after it
 pub record IsProperty (place : ℕ) (node : Node) (p : Property) : Type 0 where
   pub from : place ≤ node.place

@@ -7,17 +7,17 @@ ghost use Rattle.amqp_types.specs.Values.{Entry, FieldValue};
 ghost use Rattle.amqp_wire.specs.Frames.{Frame};
 ghost use Rattle.amqp_wire.specs.Spelling.{SpellsFrames};
 ghost use Rattle.amqp_fields.specs.MadeFrames.{made_frames};
-ghost use Rattle.amqp_fields.specs.Makes.{Makes, Measures};
+ghost use Rattle.amqp_fields.specs.Makes.{Measures, Sets};
 ghost use Rattle.amqp_fields.specs.Making.{EncodesEntries, EncodesFrames, EncodesOrIsLong, EncodesValues, SpellsEntries, SpellsValues, TellEntries, TellValues, Writes, made_entries, made_values};
 ghost use Rattle.amqp_fields.specs.Meant.{TellFrames};
 
 use crate::head::Head;
-use crate::making_frames::make_frame;
-use crate::making_values::{make_entries, make_values};
 use crate::measuring_frames::measure_frame;
 use crate::measuring_values::{measure_entries, measure_values};
 use crate::node::Node;
 use crate::putting::plus;
+use crate::putting_frames::put_frame;
+use crate::putting_values::{put_entries, put_values};
 use crate::refusals::{Refusal, WriteError};
 use amqp_types::{INNER_DEPTH, are_bytes};
 
@@ -69,34 +69,31 @@ fn measure_frames(
     Ok(size)
 }
 
-/// Frames one after another, from the front of a buffer on, as far as it has room. Returns how many bytes they have, or the
-/// greatest number.
-fn make_frames(
+/// Puts frames one after another, which were measured before.
+fn put_frames(
     buf: &mut [u8],
     pool: &[u8],
     nodes: &[Node],
     heads: &[Head],
     max_payload: u32,
-) -> Result<usize, WriteError>
-    ensures { Makes (made_frames pool.now nodes.now max_payload 0 heads.now) buf.old buf.new 0 result }
+) -> usize
+    ensures { Sets (made_frames pool.now nodes.now max_payload 0 heads.now) buf.old buf.new 0 result }
 {
     let mut rest = heads;
-    let mut made = 0;
+    let mut place = 0;
     while !rest.is_empty() {
         let (head, others) = match first_head(rest) {
             Some(found) => found,
-            None => return Ok(made),
+            None => return place,
         };
-        match make_frame(buf, made, pool, nodes, head, max_payload) {
-            Ok(n) => made = plus(made, n),
-            Err(bad) => return Err(within(heads.len() - rest.len(), bad)),
-        }
+        place = put_frame(buf, place, pool, nodes, head, max_payload);
         rest = others;
     }
-    Ok(made)
+    place
 }
 
 /// Writes frames, or says why not. Split for the proof.
+#[tactic(auto, using(crate::proofs::FramesPlaced::all_written))]
 fn fill_frames(
     out: &mut [u8],
     pool: &[u8],
@@ -115,7 +112,8 @@ fn fill_frames(
             needed: needed as u64,
         });
     }
-    make_frames(out, pool, nodes, heads, max_payload)
+    put_frames(out, pool, nodes, heads, max_payload);
+    Ok(needed)
 }
 
 /// Writes the frames that heads and nodes mean, one after another, and returns how many bytes they have. Reserved fields
@@ -152,17 +150,16 @@ fn measure_all_entries(nodes: &[Node], pool: &[u8]) -> Result<usize, WriteError>
     }
 }
 
-/// Entries one after another, from the front of a buffer on, as far as it has room.
-fn make_all_entries(buf: &mut [u8], nodes: &[Node], pool: &[u8]) -> Result<usize, WriteError>
-    ensures { Makes (made_entries pool.now nodes.now) buf.old buf.new 0 result }
+/// Puts entries one after another, which were measured before.
+#[tactic(auto, using(crate::proofs::FramesPlaced::at_set))]
+fn put_all_entries(buf: &mut [u8], nodes: &[Node], pool: &[u8]) -> usize
+    ensures { Sets (made_entries pool.now nodes.now) buf.old buf.new 0 result }
 {
-    match make_entries(buf, 0, pool, nodes.len(), nodes, INNER_DEPTH) {
-        Ok(n) => Ok(n),
-        Err(bad) => Err(within(0, bad)),
-    }
+    put_entries(buf, 0, pool, nodes.len(), nodes, INNER_DEPTH)
 }
 
 /// Writes entries, or says why not. Split for the proof.
+#[tactic(auto, using(crate::proofs::FramesPlaced::all_written))]
 fn fill_entries(out: &mut [u8], nodes: &[Node], pool: &[u8]) -> Result<usize, WriteError>
     ensures { Writes (made_entries pool.now nodes.now) out.old out.new result }
 {
@@ -175,7 +172,8 @@ fn fill_entries(out: &mut [u8], nodes: &[Node], pool: &[u8]) -> Result<usize, Wr
             needed: needed as u64,
         });
     }
-    make_all_entries(out, nodes, pool)
+    put_all_entries(out, nodes, pool);
+    Ok(needed)
 }
 
 /// Writes the content of a table alone, without its length: the entries that nodes mean, in their order. Tables and arrays
@@ -200,17 +198,16 @@ fn measure_all_values(nodes: &[Node], pool: &[u8]) -> Result<usize, WriteError>
     }
 }
 
-/// Values one after another, from the front of a buffer on, as far as it has room.
-fn make_all_values(buf: &mut [u8], nodes: &[Node], pool: &[u8]) -> Result<usize, WriteError>
-    ensures { Makes (made_values pool.now nodes.now) buf.old buf.new 0 result }
+/// Puts values one after another, which were measured before.
+#[tactic(auto, using(crate::proofs::FramesPlaced::at_set))]
+fn put_all_values(buf: &mut [u8], nodes: &[Node], pool: &[u8]) -> usize
+    ensures { Sets (made_values pool.now nodes.now) buf.old buf.new 0 result }
 {
-    match make_values(buf, 0, pool, nodes.len(), nodes, INNER_DEPTH) {
-        Ok(n) => Ok(n),
-        Err(bad) => Err(within(0, bad)),
-    }
+    put_values(buf, 0, pool, nodes.len(), nodes, INNER_DEPTH)
 }
 
 /// Writes values, or says why not. Split for the proof.
+#[tactic(auto, using(crate::proofs::FramesPlaced::all_written))]
 fn fill_values(out: &mut [u8], nodes: &[Node], pool: &[u8]) -> Result<usize, WriteError>
     ensures { Writes (made_values pool.now nodes.now) out.old out.new result }
 {
@@ -223,7 +220,8 @@ fn fill_values(out: &mut [u8], nodes: &[Node], pool: &[u8]) -> Result<usize, Wri
             needed: needed as u64,
         });
     }
-    make_all_values(out, nodes, pool)
+    put_all_values(out, nodes, pool);
+    Ok(needed)
 }
 
 /// Writes the content of an array alone, without its length: the values that nodes mean, whose keys are not looked at.

@@ -1,13 +1,12 @@
 //! How many bytes the fields of methods and the properties of messages have that nodes mean, or why they are refused.
 #![tactic(auto, unfolding(crate::specs::MadeFields::made_plain, crate::specs::MadeFields::made_form, crate::specs::MadeFields::made_field, crate::specs::MadeFields::made_kept))]
 
-ghost use Rattle.std.specs.Prelude.{◌≡◌, ◌∷◌, None, true, length, IfSome};
+ghost use Rattle.std.specs.Prelude.{◌≡◌, ◌<◌, ◌≤◌, ◌^◌, ◌∷◌, None, true, length, IfSome};
 ghost use Rattle.amqp_canonical.specs.Shapes.{form_of, has_constant, have_constants, property_of, slot_of, slots_of};
-ghost use Rattle.amqp_fields.specs.MadeFields.{made_field, made_flags, made_form, made_plain, made_properties, made_slot, made_slots};
-ghost use Rattle.amqp_fields.specs.Makes.{IsNoProperty, IsProperty, Measures};
+ghost use Rattle.amqp_fields.specs.MadeFields.{flags_in, group_size, is_field, is_flag, made_field, made_flags, made_form, made_plain, made_properties, made_slot, made_slots, node_count};
+ghost use Rattle.amqp_fields.specs.Makes.{IsNoProperty, IsProperty, Measures, MakesFlags};
 
-use crate::fields::{further, kept_count};
-use crate::making_fields::{flags_byte, is_field, node_count};
+use crate::fields::{further, kept_count, kind_of};
 use crate::measuring::{
     measure_long, measure_long_long, measure_long_string, measure_octet, measure_short,
     measure_text,
@@ -19,6 +18,67 @@ use crate::putting::plus;
 use crate::refusals::Refusal;
 use amqp_canonical::{Form, Slot, property_shapes};
 use amqp_types::INNER_DEPTH;
+
+/// Whether a node is of the kind and at the place of a field.
+#[inline(always)]
+pub(crate) fn is_field(place: u8, form: Form, node: Node) -> bool
+    ensures { result ≡ is_field place (form_of form) node }
+{
+    node.kind == kind_of(form) && node.place == place
+}
+
+/// Whether a node is a flag at a place.
+#[inline(always)]
+fn is_flag(place: u8, node: Node) -> bool
+    ensures { result ≡ is_flag place node }
+{
+    is_field(place, Form::Flags(1), node) && node.inside == 0 && node.number < 2
+}
+
+/// The byte of so many flags, at places from one on, which are the first of these nodes.
+pub(crate) fn flags_byte(end: usize, place: u8, count: u8, nodes: &[Node]) -> Result<u8, Refusal>
+    requires few { count ≤ 8 }
+    ensures { MakesFlags (flags_in end place count nodes.now) count result }
+{
+    if count == 0 {
+        return Ok(0);
+    }
+    match nodes {
+        [] => Err(Refusal::bad(end)),
+        [node, others @ ..] => {
+            if !is_flag(place, *node) {
+                return Err(Refusal::bad(index_of(end, nodes)));
+            }
+            match flags_byte(end, further(place, 1), count - 1, others) {
+                Ok(byte) => Ok((node.number % 2) as u8 + 2 * byte),
+                Err(refusal) => Err(refusal),
+            }
+        }
+    }
+}
+
+/// How many nodes the first one is with those inside it.
+#[inline(always)]
+fn group_size(nodes: &[Node]) -> usize
+    ensures { result ≡ group_size nodes.now }
+{
+    match nodes {
+        [] => 0,
+        [node, ..] => 1 + node.inside as usize,
+    }
+}
+
+/// How many of these nodes a field has, with those inside them.
+#[inline(always)]
+pub(crate) fn node_count(slot: Slot, nodes: &[Node]) -> usize
+    ensures { result ≡ node_count (slot_of slot) nodes.now }
+{
+    match slot {
+        Slot::Reserved(_, _) => 0,
+        Slot::Kept(Form::Flags(count)) => count as usize,
+        Slot::Kept(_) => group_size(nodes),
+    }
+}
 
 /// What is encoded so, and is neither flags nor a table.
 #[inline(always)]
@@ -179,6 +239,15 @@ pub(crate) fn property_of(place: u8, node: Node) -> Option<(u16, Form)>
     } else {
         None
     }
+}
+
+/// What a bit adds to a mask.
+#[tactic(auto, using(crate::proofs::FieldsMade::bit_below))]
+pub(crate) fn worth(bit: u16) -> u16
+    requires few { 2 ^ bit < 2 ^ 16 }
+    ensures { result ≡ 2 ^ bit }
+{
+    1 << bit
 }
 
 /// The mask of the properties that are set, and these properties.

@@ -1,19 +1,86 @@
 //! How many bytes frames have that heads and nodes mean, or why they are refused.
 #![tactic(auto, unfolding(crate::specs::MadeFrames::made_method, crate::specs::MadeFrames::made_header, crate::specs::MadeFrames::made_body, crate::specs::MadeFrames::made_beat, crate::specs::MadeFrames::made_version, crate::specs::MadeFrames::made_payload, crate::specs::MadeFrames::made_typed, crate::specs::MadeFrames::made_frame))]
 
-ghost use Rattle.std.specs.Prelude.{◌≡◌};
-ghost use Rattle.amqp_fields.specs.MadeFrames.{made_body, made_frame, made_header, made_method, made_payload, made_typed, made_version};
+ghost use Rattle.std.specs.Prelude.{◌≡◌, ◌+◌, true, is_some, option_copied};
+ghost use Rattle.amqp_types.specs.Rows.{rows_of};
+ghost use Rattle.amqp_fields.specs.MadeFrames.{has_no_ids, is_held, made_body, made_frame, made_header, made_method, made_payload, made_typed, made_version, nodes_in, unknown_in};
 ghost use Rattle.amqp_fields.specs.Makes.{Measures};
 
 use crate::head::Head;
-use crate::making_frames::{has_no_ids, head_held, nodes_end, nodes_of, unknown};
 use crate::measuring_fields::{measure_properties, measure_slots};
 use crate::node::Node;
 use crate::payloads::version_shapes;
 use crate::putting::{plus, span};
 use crate::refusals::{Refusal, WriteRefusal};
 use amqp_canonical::shapes_of;
-use amqp_types::{FRAME_BODY, FRAME_HEADER, FRAME_HEARTBEAT, FRAME_METHOD, PROTOCOL_BYTE};
+use amqp_types::{
+    FRAME_BODY, FRAME_HEADER, FRAME_HEARTBEAT, FRAME_METHOD, PROTOCOL_BYTE, ParserError,
+    long_long_held, short_held,
+};
+
+/// The nodes of a head, where the list has them.
+#[inline(always)]
+pub(crate) fn nodes_of(nodes: &[Node], head: Head) -> Option<&[Node]>
+    ensures { option_copied result ≡ nodes_in nodes.now head }
+{
+    let first = head.first as usize;
+    let count = head.nodes as usize;
+    if first <= nodes.len() && count <= nodes.len() - first {
+        Some(&nodes[first..first + count])
+    } else {
+        None
+    }
+}
+
+/// The place after the last node of a head.
+#[inline(always)]
+pub(crate) fn nodes_end(head: Head) -> usize
+    ensures { result ≡ head.first + head.nodes }
+{
+    head.first as usize + head.nodes as usize
+}
+
+/// Whether there is a class of this id.
+#[tactic(auto, unfolding(amqp_types::specs::Rows::rows_of))]
+fn is_class(class: u16) -> bool
+    ensures { result ≡ is_some (rows_of class) }
+{
+    match class {
+        10 | 20 | 30 | 40 | 50 | 60 | 85 | 90 => true,
+        _ => false,
+    }
+}
+
+/// Which of both ids is unknown, where there is no such method.
+#[tactic(auto, using(crate::proofs::FramesMade::class_known, crate::proofs::FramesMade::class_unknown))]
+pub(crate) fn unknown(class: u16) -> ParserError
+    ensures { result ≡ unknown_in (rows_of class) }
+{
+    if is_class(class) {
+        ParserError::UnknownMethod
+    } else {
+        ParserError::UnknownClass
+    }
+}
+
+/// Whether a head has neither ids nor a body size.
+#[inline(always)]
+pub(crate) fn has_no_ids(head: Head) -> bool
+    ensures { result ≡ has_no_ids head }
+{
+    head.class_id == 0 && head.method_id == 0 && head.body_size == 0
+}
+
+/// The numbers of a head are within the widths of their members.
+#[inline(always)]
+pub(crate) fn head_held(head: Head)
+    ensures { is_held head ≡ true }
+{
+    short_held(head.channel);
+    short_held(head.class_id);
+    short_held(head.method_id);
+    long_long_held(head.body_size);
+}
 
 /// The payload of a method.
 #[inline(always)]

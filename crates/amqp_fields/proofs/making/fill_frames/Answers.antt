@@ -1,4 +1,7 @@
 -- `fill_frames`: what it ensures.
+use Rattle.std.proofs.Common.{arith}
+use Rattle.std.proofs.lemmas.Bool.Decides.{nat_tests}
+use Rattle.amqp_fields.proofs.FramesPlaced.{all_written}
 use Rattle.amqp_fields.proofs.Written.{never_small, refused}
 use Rattle.amqp_fields.proofs.making.fill_frames.Goals as goal
 
