@@ -103,6 +103,10 @@ enum {
     /* At level tidy: a frame that can be read and is not tidy. */
     FEKSROUM_NOT_TIDY = 23,
 
+    /* Of messages. */
+    FEKSROUM_BAD_CONTENT = 24, /* a frame that may not come next on its channel */
+    FEKSROUM_OPEN_CONTENT = 25, /* the end came between two frames, inside a message; no function here returns it */
+
     /* Of text: a line that is not the exact text form of any frame with a payload of at most max_payload bytes. */
     FEKSROUM_BAD_TEXT = 26,
 
@@ -408,7 +412,8 @@ feksroum_cut feksroum_recut(uint32_t size, uint32_t held, uint32_t length, uint8
  * frame: k is not below `pieces`, or the status was 41. */
 feksroum_piece feksroum_piece_at(uint32_t size, uint32_t held, uint32_t length, uint8_t ends, uint64_t k) FEKSROUM_RESULT;
 
-/* A rule: keeps or drops the frames for which each part that is there holds. 14 bytes, no padding. */
+/* A rule: keeps or drops the frames for which each part that is there holds. The numbers of a part that is not there are not looked
+ * at. 14 bytes, no padding. */
 typedef struct feksroum_frame_rule {
     uint16_t first_channel, last_channel; /* the channels, both included; the first is not above the last */
     uint16_t class_id; /* which only methods and content headers have */
@@ -554,6 +559,10 @@ static inline const char *feksroum_status_name(uint8_t status) {
         return "TurnsSpent";
     case FEKSROUM_NOT_TIDY:
         return "NotTidy";
+    case FEKSROUM_BAD_CONTENT:
+        return "BadContent";
+    case FEKSROUM_OPEN_CONTENT:
+        return "OpenContent";
     case FEKSROUM_BAD_TEXT:
         return "BadText";
     case FEKSROUM_BUFFER_TOO_SMALL:

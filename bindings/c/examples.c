@@ -147,7 +147,7 @@ static bool names_agree(void) {
         named += length > 0;
     }
     const char *version = VERSION_OF(FEKSROUM_VERSION_MAJOR, FEKSROUM_VERSION_MINOR, FEKSROUM_VERSION_PATCH);
-    return named == 21 && strcmp(FEKSROUM_VERSION, version) == 0 && feksroum_version() == FEKSROUM_VERSION_NUMBER;
+    return named == 23 && strcmp(FEKSROUM_VERSION, version) == 0 && feksroum_version() == FEKSROUM_VERSION_NUMBER;
 }
 
 /* Arguments at their bounds: no bytes at all, and what is tested. */

@@ -2,8 +2,6 @@
 
 #include <string.h>
 
-enum { BAD_CONTENT = 24, OPEN_CONTENT = 25 };
-
 void proxy_open(proxy_connection *connection, uint8_t level, proxy_messages *messages) {
     connection->held_count = 0;
     connection->out_start = 0;
@@ -109,7 +107,7 @@ uint8_t proxy_ended(const proxy_connection *connection) {
         return FEKSROUM_INCOMPLETE;
     }
     if (connection->status == FEKSROUM_OK && connection->messages && connection->messages->open > 0) {
-        return OPEN_CONTENT;
+        return FEKSROUM_OPEN_CONTENT;
     }
     return connection->status;
 }

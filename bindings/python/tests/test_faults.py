@@ -27,12 +27,12 @@ class Answers:
 
 class Statuses(unittest.TestCase):
     def test_unknown_status(self):
-        answers = Answers(status=24)
+        answers = Answers(status=99)
         with mock.patch.object(_text, "SMALL", answers), mock.patch.object(_text, "LARGE", answers):
             for convert, argument in ((feksroum.dump, BEAT), (feksroum.undump, "beat\n")):
                 with self.assertRaises(feksroum.UnknownStatus) as caught:
                     convert(argument)
-                self.assertEqual(caught.exception.status, 24)
+                self.assertEqual(caught.exception.status, 99)
         with mock.patch.object(_canonical, "library_for", lambda length: answers):
             self.assertRaises(feksroum.UnknownStatus, feksroum.canonicalize, BEAT)
         with mock.patch.object(_frames, "library_for", lambda length: answers):
@@ -45,18 +45,18 @@ class Statuses(unittest.TestCase):
             self.assertRaises(MemoryError, feksroum.dump, BEAT)
 
     def test_names(self):
-        for number, error in feksroum._errors.ERRORS.items():
-            name = _library.name_of(_library.SMALL.feksroum_name, number)
+        for error in (*feksroum._errors.ERRORS.values(), feksroum.BadContent, feksroum.OpenContent):
+            name = _library.name_of(_library.SMALL.feksroum_name, error.status)
             self.assertEqual(name, error.__name__)
 
     def test_text_of_an_error(self):
         with self.assertRaises(feksroum.UnknownFrameType) as caught:
             feksroum.canonicalize(BEAT + b"\x09")
         self.assertEqual(str(caught.exception), "UnknownFrameType at byte 8: The first byte of a frame names no frame type.")
-        self.assertEqual(str(feksroum.UnknownStatus(3, 24)).split(":")[0], "UnknownStatus at byte 3")
+        self.assertEqual(str(feksroum.UnknownStatus(3, 99)).split(":")[0], "UnknownStatus at byte 3")
 
     def test_copies(self):
-        for error in (feksroum.CutShort(3, 9), feksroum.UnknownStatus(3, 24), feksroum.BadText(7)):
+        for error in (feksroum.CutShort(3, 9), feksroum.UnknownStatus(3, 99), feksroum.BadText(7)):
             same = pickle.loads(pickle.dumps(error))
             self.assertEqual((type(same), vars(same)), (type(error), vars(error)))
 

@@ -231,7 +231,8 @@ mod tests {
 
     #[test]
     fn names_are_those_of_the_library() {
-        for error in Error::ALL {
+        let contents = [Error::BadContent { channel: 1, fault: ContentFault::Faulted }, Error::OpenContent { messages: 1 }];
+        for error in Error::ALL.iter().chain(&contents) {
             assert_eq!(library::name(error.status()), error.name().as_bytes());
         }
     }

@@ -148,8 +148,8 @@ mod tests {
         unsafe { sys::feksroum_undump(text, length, out, room, max_payload) }
     }
 
-    unsafe extern "C" fn answers_24(_: *const u8, _: usize, _: *mut u8, _: usize, _: u32) -> sys::Line {
-        sys::Line { status: 24, ..sys::Line::default() }
+    unsafe extern "C" fn answers_99(_: *const u8, _: usize, _: *mut u8, _: usize, _: u32) -> sys::Line {
+        sys::Line { status: 99, ..sys::Line::default() }
     }
 
     unsafe extern "C" fn wants_no_more(_: *const u8, _: usize, _: *mut u8, _: usize, _: u32) -> sys::Line {
@@ -200,7 +200,7 @@ mod tests {
 
     #[test]
     fn an_unknown_status_ends_with_an_error() {
-        for (function, status) in [(answers_24 as Convert, 24), (wants_no_more, 40), (uses_nothing, 0)] {
+        for (function, status) in [(answers_99 as Convert, 99), (wants_no_more, 40), (uses_nothing, 0)] {
             let converted = convert_all(function, |_, _| 0, &[8], MAX_PAYLOAD);
             assert_eq!((converted.written.len(), converted.used, converted.end), (0, 0, Err(Error::Incompatible(status))));
         }

@@ -105,6 +105,9 @@ pub struct Turns {
     max_body: u64,
 }
 
+/// The status of a frame that may not come next on its channel.
+const BAD_CONTENT: u8 = 24;
+
 /// The state of a channel at fault.
 const FAULTED: u32 = 3;
 
@@ -127,7 +130,7 @@ impl Turns {
             (0, 1, None) => Ok(Part::Opening),
             (0, 2, None) => Ok(Part::Header),
             (0, 3, None) => Ok(Part::Body),
-            (24, _, Some(fault)) => Err(fault),
+            (BAD_CONTENT, _, Some(fault)) => Err(fault),
             _ => return Err(Error::Incompatible(found.status.into())),
         };
         Ok(Turn { part, finished: found.finished, after: found.after })

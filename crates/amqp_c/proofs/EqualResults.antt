@@ -5,8 +5,8 @@ use Rattle.amqp_c.specs.declared.next.FrontFrame.{FrontFrame}
 use Rattle.amqp_c.specs.contracts.next.FrontFramePartialEq.TheImpl as front
 use Rattle.amqp_c.specs.declared.check.PayloadSummary.{PayloadSummary}
 use Rattle.amqp_c.specs.contracts.check.PayloadSummaryPartialEq.TheImpl as summary
-use Rattle.amqp_c.specs.declared.canonicalize.Progress.{Progress}
-use Rattle.amqp_c.specs.contracts.canonicalize.ProgressPartialEq.TheImpl as progress
+use Rattle.amqp_c.specs.declared.canonicalize.CallProgress.{CallProgress}
+use Rattle.amqp_c.specs.contracts.canonicalize.CallProgressPartialEq.TheImpl as progress
 use Rattle.amqp_c.specs.declared.lines.FrameLine.{FrameLine}
 use Rattle.amqp_c.specs.contracts.lines.FrameLinePartialEq.TheImpl as line
 use Rattle.amqp_c.specs.declared.statuses.CallError.{CallError}
@@ -18,7 +18,7 @@ same_front a b = search rules
 pub same_summary : (a b : PayloadSummary) → Decides (summary.ghosts.eq a b) (a ≡ b)
 same_summary a b = search rules
 
-pub same_progress : (a b : Progress) → Decides (progress.ghosts.eq a b) (a ≡ b)
+pub same_progress : (a b : CallProgress) → Decides (progress.ghosts.eq a b) (a ≡ b)
 same_progress a b = search rules
 
 pub same_line : (a b : FrameLine) → Decides (line.ghosts.eq a b) (a ≡ b)

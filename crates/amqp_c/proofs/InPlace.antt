@@ -4,7 +4,7 @@ use Rattle.std.specs.List.{copy_within}
 use Rattle.std.proofs.Math.Seq.{paste}
 use Rattle.std.proofs.lemmas.List.{length-append, length-drop, length-take-le, drop-drop, drop_all, take_at, take-append-drop}
 use Rattle.std.proofs.lemmas.Slice.{drop-append-drop}
-use Rattle.amqp_types.specs.Levels.{Level, plain, tidy, strict}
+use Rattle.amqp_types.specs.Levels.{Level, strict}
 use Rattle.amqp_types.specs.Judging.{Fault, IsBytes, Judged, past, fault, took, not_tidy}
 use Rattle.amqp_types.specs.Answers.{RefusesWhole}
 use Rattle.amqp_types.specs.Writing.{Puts, written}
@@ -19,6 +19,7 @@ use Rattle.amqp_wire.specs.Fronts.{front, place}
 use Rattle.amqp_wire.specs.Judgements.{IsJudged}
 use Rattle.amqp_wire.specs.Looks.{laid_out}
 use Rattle.amqp_wire.specs.Outer.{outer}
+use Rattle.amqp_wire.specs.Rewrites as puts
 use Rattle.amqp_wire.specs.Spelling.{SpellsFrames}
 use Rattle.amqp_wire.specs.Verdicts.{IsPayloadError, is_at, judged, judged_frame, verdict, whole}
 use Rattle.amqp_wire.proofs.Cuts.{IsStop, front-got, front-stop, place-none, verdict-got_within, verdict-whole}
@@ -32,12 +33,11 @@ use Rattle.amqp_stream.specs.Errors.{stream_error_status}
 use Rattle.amqp_stream.specs.Reading.{Lies}
 use Rattle.amqp_stream.specs.Writing.{frame_length, payload_fault}
 use Rattle.amqp_stream.proofs.Going.{frame_fits}
-use Rattle.amqp_stream.proofs.Tidying.{is_untidy}
 use Rattle.amqp_c.specs.declared.in_place.Rewrite.TheVariants as rewrites
-use Rattle.amqp_c.specs.InPlace.{IsCanonicalRun, JudgesAt, LacksRoom, Rewrites, StopsBefore}
-use Rattle.amqp_c.specs.Rewriting.{PutsFrame, came}
+use Rattle.amqp_c.specs.InPlace.{IsCanonicalRun, LacksRoom, Rewrites, StopsBefore}
+use Rattle.amqp_c.specs.Rewriting.{JudgesAt, came}
 use Rattle.amqp_c.specs.Scans.{error_at}
-use Rattle.amqp_c.proofs.Fronts.{Going, fault_verdict, going_on, unput, unscanned}
+use Rattle.amqp_c.proofs.Fronts.{Going, fault_verdict, going_on, judged_refused, unscanned}
 
 -- ---- the frame in front
 
@@ -99,7 +99,7 @@ run_unscanned m bytes error e = no_frame (verdict strict (Some m) bytes) error (
 module _ (m : ℕ) (bytes : List ℕ) (raw : Raw) (layout : FrameLayout) (lies : Lies m bytes layout) (is : raw ≡ laid_out layout bytes) where
   pub run_refused : (error : ParserError) → IsPayloadError error → error ≢ parses.NoMemory → RefusesWhole error (whole raw) → HasNone m bytes
   run_refused error inside some h =
-      let u = unput strict [] [] 0 raw error (payload_fault error) refl inside some h refl in
+      let u = judged_refused strict raw error (payload_fault error) refl inside some h in
       fault_is_none (verdict strict (Some m) bytes) u.0 (fault_verdict strict m bytes raw layout.frame_len u.0 (lies_as m bytes raw layout lies is) u.1)
 
   pub run_found : (found : FrameJudgement) → IsJudged raw found → found.canonical ≡ true → HasOne m bytes layout.frame_len
@@ -159,61 +159,44 @@ run_finishes {m = m} {bytes = bytes} {used = used} fits all r =
 
 -- ---- one frame
 
-pub judged_refused : (level : Level) (raw : Raw) (error : ParserError) (stream : StreamError) → stream ≡ payload_fault error → IsPayloadError error → error ≢ parses.NoMemory → RefusesWhole error (whole raw) → JudgesAt level raw (Err stream)
-judged_refused level raw error stream is inside some h =
-    let u = unput level [] [] 0 raw error stream is inside some h refl in
-    (u.0, u.1, u.2)
-
-pub judged_untidy : (raw : Raw) (found : FrameJudgement) → IsJudged raw found → found.tidy ≡ false → JudgesAt tidy raw (Err errors.NotTidy)
-judged_untidy raw found j not = (not_tidy, is_untidy raw j.frame j.is (sym j.tidy ∙ not), refl)
-
-pub judged_plain : (raw : Raw) (found : FrameJudgement) → IsJudged raw found → JudgesAt plain raw (Ok found.canonical)
-judged_plain raw found j = (j.frame, j.is, refl, j.canonical)
-
-pub judged_tidy : (raw : Raw) (found : FrameJudgement) → IsJudged raw found → found.tidy ≡ true → JudgesAt tidy raw (Ok found.canonical)
-judged_tidy raw found j so = (j.frame, j.is, sym j.tidy ∙ so, j.canonical)
-
 module _ (level : Level) (m : ℕ) (bytes : List ℕ) (raw : Raw) (layout : FrameLayout) (lies : Lies m bytes layout) (is : raw ≡ laid_out layout bytes) where
   pub rewrite_refused : (old new : List ℕ) (error : StreamError) → JudgesAt level raw (Err error) → Rewrites level m bytes old new (Err error)
   rewrite_refused old new error j = ap error_at (fault_verdict level m bytes raw layout.frame_len j.0 (lies_as m bytes raw layout lies is) j.1) ∙ ap (λ e. Some e) (sym j.2)
 
-  pub rewrite_kept : (old new : List ℕ) (canonical : Bool) → IsBytes bytes → JudgesAt level raw (Ok canonical) → canonical ≡ true → Rewrites level m bytes old new (Ok (rewrites.Kept layout.frame_len))
-  rewrite_kept old new canonical fits j so =
+  pub rewrite_kept : (old new : List ℕ) (judged : FrameJudgement) → IsBytes bytes → JudgesAt level raw (Ok judged) → judged.canonical ≡ true → Rewrites level m bytes old new (Ok (rewrites.Kept layout.frame_len))
+  rewrite_kept old new judged fits (j, at_level) so =
       let found = lies_as m bytes raw layout lies is in
-      let canonical = verdict-whole strict (Some m) bytes raw layout.frame_len j.0 found (sym j.3 ∙ so) j.1 in
-      (j.0, verdict-whole level (Some m) bytes raw layout.frame_len j.0 found j.2 j.1, strict_bytes m bytes j.0 layout.frame_len fits canonical)
+      let canonical = verdict-whole strict (Some m) bytes raw layout.frame_len j.frame found (sym j.canonical ∙ so) j.is in
+      (j.frame, verdict-whole level (Some m) bytes raw layout.frame_len j.frame found at_level j.is, strict_bytes m bytes j.frame layout.frame_len fits canonical)
 
-  pub rewrite_no_room : (old new : List ℕ) (canonical : Bool) → IsBytes bytes → JudgesAt level raw (Ok canonical) → canonical ≡ false → length old < layout.frame_len → Rewrites level m bytes old new (Ok rewrites.NoRoom)
-  rewrite_no_room old new canonical fits j not short =
+  pub rewrite_no_room : (old new : List ℕ) (judged : FrameJudgement) → IsBytes bytes → JudgesAt level raw (Ok judged) → judged.canonical ≡ false → length old < layout.frame_len → Rewrites level m bytes old new (Ok rewrites.NoRoom)
+  rewrite_no_room old new judged fits (j, at_level) not short =
       let found = lies_as m bytes raw layout lies is in
-      let taken = verdict-whole level (Some m) bytes raw layout.frame_len j.0 found j.2 j.1 in
+      let taken = verdict-whole level (Some m) bytes raw layout.frame_len j.frame found at_level j.is in
       record {
-        frame = j.0;
+        frame = j.frame;
         used = layout.frame_len;
         found = taken;
-        changed = other_bytes level m bytes j.0 layout.frame_len fits taken (not_strict m bytes raw layout.frame_len j.0 found j.1 (sym j.3 ∙ not));
+        changed = other_bytes level m bytes j.frame layout.frame_len fits taken (not_strict m bytes raw layout.frame_len j.frame found j.is (sym j.canonical ∙ not));
         longer = short;
       }
 
   pub rewrite_room : (room : ℕ) → layout.frame_len ≤ room → 0 + frame_length raw ≤ room
   rewrite_room room h = omega (arith, h, frame_fits m bytes raw layout.frame_len (lies_as m bytes raw layout lies is))
 
-  pub rewrite_spare : (old new : List ℕ) (count : ℕ) (canonical : Bool) → JudgesAt level raw (Ok canonical) → layout.frame_len ≤ length old → PutsFrame plain old new 0 raw (Ok count) → count ≤ 0 + frame_length raw → Rewrites level m bytes old new (Ok (rewrites.Spare layout.frame_len count))
+  pub rewrite_spare : (old new : List ℕ) (count : ℕ) (judged : FrameJudgement) → JudgesAt level raw (Ok judged) → layout.frame_len ≤ length old → puts.Rewrites old new 0 (whole raw) (Ok count) → count ≤ 0 + frame_length raw → Rewrites level m bytes old new (Ok (rewrites.Spare layout.frame_len count))
   unfolding written
-  rewrite_spare old new count canonical j room puts within =
+  rewrite_spare old new count judged j room puts within =
       let found = lies_as m bytes raw layout lies is in
-      let put = puts.3 in
+      let put = puts.2 in
       let fits = frame_fits m bytes raw layout.frame_len found in
       let size : length new ≡ length old = puts-length old new 0 count (canon puts.0) (omega (arith, put.behind, within, fits, room)) put in (
         puts.0,
-        verdict-whole level (Some m) bytes raw layout.frame_len puts.0 found j.2 puts.1,
+        verdict-whole level (Some m) bytes raw layout.frame_len puts.0 found j.1 puts.1,
         omega (arith, within, fits, room, size),
         ap (take count) put.put ∙ take_at (canon puts.0) (drop (0 + length (canon puts.0)) old) count (omega (arith, put.behind)),
         omega (arith, within, fits),
       )
-
-  pub rewrite_never : (old new : List ℕ) (error : StreamError) (canonical : Bool) → JudgesAt level raw (Ok canonical) → PutsFrame plain old new 0 raw (Err error) → Rewrites level m bytes old new (Err error)
-  rewrite_never old new error canonical j puts = absurd (let e : judged_frame true (whole raw) 0 ≡ fault puts.0 = puts.1.judged_bad 0 in fault_is_none (judged_frame true (whole raw) 0) puts.0 e j.0 0 (ap (λ r. judged_frame true r 0) j.1))
 
 -- ---- the buffer
 

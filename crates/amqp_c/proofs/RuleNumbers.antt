@@ -1,8 +1,8 @@
 -- Rules by their numbers decide as the rules do.
-use Rattle.std.proofs.Common.{arith, eqb, ◌≡◌, ℕ, ◌≤◌, Bool, true, false, leb, List, [], ◌∷◌, map, if◌then◌else◌, Option, Some, None, refl, sym, ap, ◌∙◌}
+use Rattle.std.proofs.Common.{arith, eqb, ◌≡◌, ℕ, Bool, true, false, leb, List, [], ◌∷◌, map, if◌then◌else◌, Option, Some, None, refl, sym, ap, ◌∙◌}
 use Rattle.std.proofs.lemmas.Bool.{le-leb}
 use Rattle.std.proofs.lemmas.Bool.Decides.{nat_tests}
-use Rattle.std.specs.Prelude.{IfSome, find, is_some, unwrap_or, ◌&&◌}
+use Rattle.std.specs.Prelude.{IfSome, is_some, unwrap_or, ◌&&◌}
 use Rattle.std.specs.Option.{option_map}
 use Rattle.std.specs.List.{AllByRecursion, filter_map, list_all}
 use Rattle.amqp_types.specs.Flags.{bit_of}
@@ -14,12 +14,11 @@ use Rattle.amqp_select.specs.declared.rule.Span.{Span}
 use Rattle.amqp_select.specs.declared.rule.Span.TheVariants as spans
 use Rattle.amqp_wire.specs.Outlines.{outline_channel}
 use Rattle.amqp_select.specs.Matching.{contains, decides, first_match, has_class, has_method, holds, is_of_kind, keeps, matches}
-use Rattle.amqp_select.specs.Rules.{IsNumber, IsRule, IsSpanOfNumbers}
+use Rattle.amqp_select.specs.Rules.{IsRule, IsSpanOfNumbers}
 use Rattle.amqp_select.specs.Refusals.{IsRuleFor}
-use Rattle.amqp_c.specs.declared.rules.FrameRule.{FrameRule}
 use Rattle.amqp_select.proofs.Words.{one_rule}
 use Rattle.amqp_c.specs.Statuses.{bad_argument}
-use Rattle.amqp_c.specs.Rules.{decision, ends_of, flag_at, kind_in, numbers_of, part_in, rule_in, rule_with, span_in, type_byte}
+use Rattle.amqp_c.specs.Rules.{decision, ends_of, flag_at, kind_in, numbers_of, part_in, rule_in, span_in, type_byte}
 
 -- a range for each channel, so that a rule is that of its numbers
 abbrev as_range : Span → Span

@@ -1,17 +1,15 @@
 -- Frames that are canonical already, and canonicalizing within one buffer.
-use Rattle.std.specs.Prelude.{◌≡◌, ◌≢◌, ℕ, ◌<◌, ◌≤◌, Bool, true, List, ◌++◌, length, take, drop, Some, Result, Ok, Err}
+use Rattle.std.specs.Prelude.{◌≡◌, ◌≢◌, ℕ, ◌<◌, ◌≤◌, List, ◌++◌, length, take, drop, Some, Result, Ok, Err}
 use Rattle.amqp_types.specs.Levels.{Level, strict}
-use Rattle.amqp_types.specs.Judging.{Fault, took}
+use Rattle.amqp_types.specs.Judging.{took}
 use Rattle.amqp_types.specs.Writing.{Puts}
-use Rattle.amqp_wire.specs.Frames.{Frame, Raw}
+use Rattle.amqp_wire.specs.Frames.{Frame}
 use Rattle.amqp_wire.specs.Canonical.{canon, canon_frames}
 use Rattle.amqp_wire.specs.Spelling.{SpellsFrames}
-use Rattle.amqp_wire.specs.Verdicts.{is_at, verdict, whole}
+use Rattle.amqp_wire.specs.Verdicts.{verdict}
 use Rattle.amqp_wire.specs.Fronts.{front, place}
 use Rattle.amqp_stream.specs.declared.errors.StreamError.{StreamError}
-use Rattle.amqp_stream.specs.Errors.{error_for}
-use Rattle.amqp_stream.specs.Writing.{IsFaulty}
-use Rattle.amqp_c.specs.declared.canonicalize.Progress.{Progress}
+use Rattle.amqp_c.specs.declared.canonicalize.CallProgress.{CallProgress}
 use Rattle.amqp_c.specs.declared.in_place.Rewrite.{Rewrite}
 use Rattle.amqp_c.specs.declared.in_place.Rewrite.TheVariants as rewrites
 use Rattle.amqp_c.specs.Scans.{error_at}
@@ -27,11 +25,6 @@ pub record IsCanonicalRun (m : ℕ) (bytes : List ℕ) (used : ℕ) : Type 0 whe
   pub longest : (other rest : List ℕ) (fs : List Frame) → bytes ≡ other ++ rest → SpellsFrames strict (Some m) other fs → length other ≤ used
 
 -- ---- one frame
-
--- a frame at a level, and whether it is canonical; or the error of its fault
-abbrev pub JudgesAt : Level → Raw → Result Bool StreamError → Type 0
-JudgesAt level raw (Ok canonical) = (frame : Frame) × (whole raw ≡ Ok frame) × (is_at level raw ≡ true) × (canonical ≡ is_at strict raw)
-JudgesAt level raw (Err error) = (bad : Fault) × IsFaulty level raw bad × (error ≡ error_for bad)
 
 -- a frame is in front, which is not canonical, and it has more bytes than this
 pub record LacksRoom (level : Level) (m : ℕ) (bytes : List ℕ) (room : ℕ) : Type 0 where
@@ -52,7 +45,7 @@ Rewrites level m bytes old new (Err error) = error_at (verdict level (Some m) by
 -- ---- a buffer
 
 -- The frames in front are used up to one that is not canonical and is longer than the spare buffer. Their canonical bytes stand at the front of the buffer, which is kept after them.
-pub record StopsBefore (level : Level) (m room : ℕ) (old new : List ℕ) (progress : Progress) : Type 0 where
+pub record StopsBefore (level : Level) (m room : ℕ) (old new : List ℕ) (progress : CallProgress) : Type 0 where
   pub frames : List Frame
   pub sequence : front level (Some m) old ≡ frames ++ front level (Some m) (drop progress.used old)
   pub after : place level (Some m) old ≡ place level (Some m) (drop progress.used old)

@@ -1,5 +1,5 @@
 -- What is reported of frames and contents that are written, and what stands in the buffer then.
-use Rattle.std.specs.Prelude.{◌≡◌, ◌<◌, ◌≤◌, ℕ, List, length, Option, Some, None, Result, Ok, Err}
+use Rattle.std.specs.Prelude.{◌≡◌, ◌<◌, ◌≤◌, ℕ, List, length, Option, Some, Result, Ok, Err}
 use Rattle.amqp_types.specs.Constants.{inner_depth}
 use Rattle.amqp_types.specs.Judging.{too_large}
 use Rattle.amqp_types.specs.Writing.{written}

@@ -1,22 +1,23 @@
 -- What is written for the frames in front of some bytes, and feeding them in pieces.
-use Rattle.std.specs.Prelude.{◌≡◌, ◌≢◌, ◌==◌, ℕ, ◌+◌, ◌≤◌, true, List, [], ◌∷◌, ◌++◌, length, drop, if◌then◌else◌, Option, Some, None, Result, Ok, Err}
+use Rattle.std.specs.Prelude.{◌≡◌, ◌==◌, ℕ, ◌+◌, ◌≤◌, true, List, [], ◌∷◌, ◌++◌, length, drop, if◌then◌else◌, Option, Some, None, Result, Ok, Err}
 use Rattle.std.specs.List.{concat}
 use Rattle.amqp_types.specs.Levels.{Level}
-use Rattle.amqp_types.specs.Judging.{Fault, past, fault, not_tidy, took}
+use Rattle.amqp_types.specs.Judging.{Fault, past, fault, took}
 use Rattle.amqp_types.specs.Writing.{Puts}
 use Rattle.amqp_types.specs.declared.profile.Profile.{Profile}
 use Rattle.amqp_types.specs.declared.profile.Profile.TheVariants as profiles
-use Rattle.amqp_wire.specs.declared.frame_type.AMQPFrameType.TheVariants as kinds
+use Rattle.amqp_wire.specs.declared.judging.FrameJudgement.{FrameJudgement}
 use Rattle.amqp_wire.specs.Frames.{Frame, Raw}
 use Rattle.amqp_wire.specs.Canonical.{canon}
-use Rattle.amqp_wire.specs.Verdicts.{is_at, verdict, whole, whole_as}
+use Rattle.amqp_wire.specs.Judgements.{IsJudged}
+use Rattle.amqp_wire.specs.Verdicts.{is_at, verdict, whole}
 use Rattle.amqp_wire.specs.Fronts.{place}
 use Rattle.amqp_stream.specs.declared.errors.StreamError.{StreamError}
 use Rattle.amqp_stream.specs.Errors.{error_for, status_of}
 use Rattle.amqp_stream.specs.Writing.{IsFaulty}
 use Rattle.amqp_stream.specs.Canonicalizing.{canon_of}
 use Rattle.amqp_stream.specs.Transcribing.{answer_to, place_verdict}
-use Rattle.amqp_c.specs.declared.canonicalize.Progress.{Progress}
+use Rattle.amqp_c.specs.declared.canonicalize.CallProgress.{CallProgress}
 use Rattle.amqp_c.specs.Scans.{error_at, fault_status}
 
 -- the level that a number names
@@ -26,17 +27,17 @@ profile_at level = if level == 0 then Some profiles.Plain else (if level == 1 th
 -- ---- one call
 
 -- how far a call came
-abbrev pub came : ℕ → ℕ → ℕ → Progress
+abbrev pub came : ℕ → ℕ → ℕ → CallProgress
 came used written status = record { used = used; written = written; status = status; unused = 0 }
 
 -- nothing is used or written
-pub record RefusesPart (status : ℕ) (old new : List ℕ) (progress : Progress) : Type 0 where
+pub record RefusesPart (status : ℕ) (old new : List ℕ) (progress : CallProgress) : Type 0 where
   pub is : progress ≡ came 0 0 status
   pub kept : new ≡ old
 
 -- The frames in front are used, and their canonical bytes stand at the front of the buffer, which is kept after them. The status is that of a stream of
 -- these bytes.
-pub record CanonicalizesPart (level : Level) (m : ℕ) (bytes old new : List ℕ) (progress : Progress) : Type 0 where
+pub record CanonicalizesPart (level : Level) (m : ℕ) (bytes old new : List ℕ) (progress : CallProgress) : Type 0 where
   pub used : progress.used + length (place level (Some m) bytes) ≡ length bytes
   pub left : drop progress.used bytes ≡ place level (Some m) bytes
   pub put : Puts old new 0 (canon_of level m bytes) progress.written
@@ -46,15 +47,15 @@ pub record CanonicalizesPart (level : Level) (m : ℕ) (bytes old new : List ℕ
 
 -- ---- one frame
 
+-- a frame at a level, decoded; or the error of its fault
+abbrev pub JudgesAt : Level → Raw → Result FrameJudgement StreamError → Type 0
+JudgesAt level raw (Ok judged) = IsJudged raw judged × (is_at level raw ≡ true)
+JudgesAt level raw (Err error) = (bad : Fault) × IsFaulty level raw bad × (error ≡ error_for bad)
+
 -- the canonical bytes of a frame at a level are put at the place, or the error is that of its fault, and nothing is put
 abbrev pub PutsFrame : Level → List ℕ → List ℕ → ℕ → Raw → Result ℕ StreamError → Type 0
 PutsFrame level old new at raw (Ok end) = (frame : Frame) × (whole raw ≡ Ok frame) × (is_at level raw ≡ true) × Puts old new at (canon frame) end
 PutsFrame level old new at raw (Err error) = (bad : Fault) × IsFaulty level raw bad × (error ≡ error_for bad) × (new ≡ old)
-
--- the same of a protocol header, on any channel
-abbrev pub PutsVersion : List ℕ → List ℕ → ℕ → List ℕ → Result ℕ StreamError → Type 0
-PutsVersion old new at payload (Ok end) = (frame : Frame) × ((channel : ℕ) → whole_as kinds.ProtocolHeader channel payload ≡ Ok frame) × Puts old new at (canon frame) end × (length (canon frame) ≡ 8)
-PutsVersion old new at payload (Err error) = (bad : Fault) × ((channel : ℕ) → whole_as kinds.ProtocolHeader channel payload ≡ Err bad) × (bad ≢ not_tidy) × (error ≡ error_for bad) × (new ≡ old)
 
 -- the frame in front was used and its canonical bytes put
 pub record PutsFrom (level : Level) (m : ℕ) (bytes old new : List ℕ) (at used end : ℕ) : Type 0 where

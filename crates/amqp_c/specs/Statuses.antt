@@ -14,6 +14,14 @@ out_of_memory = 3
 abbrev pub incomplete : ℕ
 incomplete = 21
 
+-- a frame may not come next on its channel
+abbrev pub bad_content : ℕ
+bad_content = 24
+
+-- the input ends inside a message
+abbrev pub open_content : ℕ
+open_content = 25
+
 -- a line is the line of no frame
 abbrev pub bad_text : ℕ
 bad_text = 26
@@ -33,6 +41,8 @@ too_long = 42
 -- the status of an error; a stream's error keeps its own
 abbrev pub call_error_status : CallError → ℕ
 call_error_status (errors.Stream error) = stream_error_status error
+call_error_status errors.BadContent = bad_content
+call_error_status errors.OpenContent = open_content
 call_error_status errors.BadText = bad_text
 call_error_status errors.BufferTooSmall = buffer_too_small
 call_error_status errors.BadArgument = bad_argument
@@ -41,6 +51,8 @@ call_error_status errors.TooLong = too_long
 -- the name of an error; a stream's error keeps its own
 abbrev pub call_error_name : CallError → List ℕ
 call_error_name (errors.Stream error) = stream_error_name error
+call_error_name errors.BadContent = codes "BadContent"
+call_error_name errors.OpenContent = codes "OpenContent"
 call_error_name errors.BadText = codes "BadText"
 call_error_name errors.BufferTooSmall = codes "BufferTooSmall"
 call_error_name errors.BadArgument = codes "BadArgument"
@@ -76,7 +88,9 @@ call_error_at status =
     else (if status == 21 then Some (errors.Stream streams.CutShort)
     else (if status == 22 then Some (errors.Stream streams.TurnsSpent)
     else (if status == 23 then Some (errors.Stream streams.NotTidy)
+    else (if status == bad_content then Some errors.BadContent
+    else (if status == open_content then Some errors.OpenContent
     else (if status == bad_text then Some errors.BadText
     else (if status == buffer_too_small then Some errors.BufferTooSmall
     else (if status == bad_argument then Some errors.BadArgument
-    else (if status == too_long then Some errors.TooLong else None))))))))))))))))))))
+    else (if status == too_long then Some errors.TooLong else None))))))))))))))))))))))

@@ -14,11 +14,7 @@ use Rattle.amqp_turns.specs.Steps.{mark_after, progress_after}
 use Rattle.amqp_turns.specs.Units.{is_content}
 use Rattle.amqp_c.specs.declared.turns.ChannelState.{ChannelState}
 use Rattle.amqp_c.specs.declared.turns.ChannelStep.{ChannelStep}
-use Rattle.amqp_c.specs.Statuses.{bad_argument}
-
--- the status of a frame that may not come next on its channel
-abbrev pub bad_content : ℕ
-bad_content = 24
+use Rattle.amqp_c.specs.Statuses.{bad_argument, bad_content}
 
 -- nothing kept
 abbrev pub blank_state : ChannelState

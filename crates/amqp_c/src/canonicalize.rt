@@ -1,20 +1,20 @@
 //! Canonical bytes of the whole frames in front of some bytes.
 
-ghost use Rattle.std.specs.Prelude.{◌≡◌, ◌+◌, ◌^◌, ◌<◌, ◌≤◌, Some, None, length, IfOk};
+ghost use Rattle.std.specs.Prelude.{◌≡◌, ◌+◌, ◌^◌, ◌<◌, ◌≤◌, Some, None, Ok, length, IfOk};
 ghost use Rattle.amqp_types.specs.Levels.{level_of, plain, tidy};
 ghost use Rattle.amqp_wire.specs.Frames.{raw_of};
+ghost use Rattle.amqp_wire.specs.Judgements.{IsJudged};
+ghost use Rattle.amqp_wire.specs.Rewrites.{Rewrites};
+ghost use Rattle.amqp_wire.specs.Verdicts.{whole};
 ghost use Rattle.amqp_stream.specs.Writing.{frame_length};
-ghost use Rattle.amqp_c.specs.Rewriting.{CanonicalizesPart, PutsFrame, PutsFront, PutsVersion, RefusesPart, came, profile_at};
+ghost use Rattle.amqp_c.specs.Rewriting.{CanonicalizesPart, JudgesAt, PutsFrame, PutsFront, RefusesPart, came, profile_at};
 ghost use Rattle.amqp_c.specs.Statuses.{bad_argument, buffer_too_small};
 
 use crate::next::{frame_at, scan};
 use crate::statuses::{BAD_ARGUMENT, BUFFER_TOO_SMALL};
 use amqp_stream::{StreamError, payload_error};
 use amqp_types::{Profile, put_bytes};
-use amqp_wire::{
-    AMQPFrameType, AMQPRawFrame, EntryMark, ProtocolVersion, header_bytes, judge_frame,
-    put_canonical,
-};
+use amqp_wire::{AMQPFrameType, AMQPRawFrame, EntryMark, FrameJudgement, judge_frame, put_judged};
 
 /// How many entries of a table in no order are sorted without a scratch of the caller's. A table with more of them
 /// takes quadratic time then.
@@ -23,7 +23,7 @@ pub(crate) const MARKS: usize = 256;
 /// How far a call came. In C it has 24 bytes and no padding.
 #[repr(C)]
 #[derive(Clone, Copy, Debug, PartialEq, Eq)]
-pub struct Progress {
+pub struct CallProgress {
     /// How many bytes the whole frames in front have.
     pub used: u64,
 
@@ -38,10 +38,10 @@ pub struct Progress {
 }
 
 /// How far a call came, and the status of what follows.
-pub(crate) fn came(used: usize, written: usize, status: u8) -> Progress
+pub(crate) fn came(used: usize, written: usize, status: u8) -> CallProgress
     ensures { result ≡ came used written status }
 {
-    Progress {
+    CallProgress {
         used: used as u64,
         written: written as u64,
         status: status as u32,
@@ -60,79 +60,55 @@ pub(crate) fn profile_of(level: u8) -> Option<Profile>
     }
 }
 
-/// Puts a protocol header with this payload.
-fn put_version(out: &mut [u8], at: usize, payload: &[u8]) -> Result<usize, StreamError>
-    requires { at + 8 ≤ length out.old }
-    ensures { PutsVersion out.old out.new at payload.now result }
-{
-    match ProtocolVersion::from_payload(payload) {
-        Ok(version) => Ok(put_bytes(out, at, &header_bytes(version))),
-        Err(error) => Err(payload_error(error)),
-    }
-}
-
-/// Puts the canonical bytes of a borrowed frame that is no protocol header, and returns the place after them.
+/// Decodes a borrowed frame at a level, or says why it is none.
 #[inline(always)]
-fn put_typed(
-    out: &mut [u8],
-    at: usize,
-    scratch: &mut [EntryMark],
+pub(crate) fn judge_at(
+    profile: Profile,
     raw: AMQPRawFrame<'_>,
-) -> Result<usize, StreamError>
-    requires few { length raw.payload.now < 2 ^ 32 }
-    requires room { at + length raw.payload.now + 8 ≤ length out.old }
-    ensures puts { PutsFrame plain out.old out.new at (raw_of raw.entry) result }
-    ensures within { IfOk result (λ end. end ≤ at + length raw.entry.payload.now + 8) }
-{
-    match put_canonical(out, at, scratch, raw) {
-        Ok(end) => Ok(end),
-        Err(error) => Err(payload_error(error)),
-    }
-}
-
-/// Puts the canonical bytes of a borrowed frame, and returns the place after them.
-#[inline(always)]
-pub(crate) fn put_plain(
-    out: &mut [u8],
-    at: usize,
-    scratch: &mut [EntryMark],
-    raw: AMQPRawFrame<'_>,
-) -> Result<usize, StreamError>
-    requires few { length raw.payload.now < 2 ^ 32 }
-    requires room { at + frame_length (raw_of raw) ≤ length out.old }
-    ensures puts { PutsFrame plain out.old out.new at (raw_of raw.entry) result }
-    ensures within { IfOk result (λ end. end ≤ at + frame_length (raw_of raw.entry)) }
-{
-    match raw.frame_type {
-        AMQPFrameType::ProtocolHeader => put_version(out, at, raw.payload),
-        AMQPFrameType::Method
-        | AMQPFrameType::Header
-        | AMQPFrameType::Body
-        | AMQPFrameType::Heartbeat => put_typed(out, at, scratch, raw),
-    }
-}
-
-/// The same of a tidy frame. Where it is not tidy, nothing is put.
-#[inline(never)]
-fn put_tidy(
-    out: &mut [u8],
-    at: usize,
-    scratch: &mut [EntryMark],
-    raw: AMQPRawFrame<'_>,
-) -> Result<usize, StreamError>
-    requires few { length raw.payload.now < 2 ^ 32 }
-    requires room { at + frame_length (raw_of raw) ≤ length out.old }
-    ensures puts { PutsFrame tidy out.old out.new at (raw_of raw.entry) result }
-    ensures within { IfOk result (λ end. end ≤ at + frame_length (raw_of raw.entry)) }
+) -> Result<FrameJudgement, StreamError>
+    ensures { JudgesAt (level_of profile) (raw_of raw.entry) result }
 {
     match judge_frame(raw) {
         Err(error) => Err(payload_error(error)),
-        Ok(judged) if !judged.tidy => Err(StreamError::NotTidy),
-        Ok(_) => put_plain(out, at, scratch, raw),
+        Ok(judged) => match profile {
+            Profile::Tidy if !judged.tidy => Err(StreamError::NotTidy),
+            Profile::Plain | Profile::Tidy => Ok(judged),
+        },
     }
 }
 
-/// The same of a frame at a level.
+/// Puts the canonical bytes of a borrowed frame, which is judged already, and returns the place after them. `put_judged` asks for
+/// more room than a protocol header has.
+#[inline(always)]
+pub(crate) fn put_frame(
+    out: &mut [u8],
+    at: usize,
+    scratch: &mut [EntryMark],
+    raw: AMQPRawFrame<'_>,
+    judged: FrameJudgement,
+) -> usize
+    requires judged { IsJudged (raw_of raw) judged }
+    requires few { length raw.payload.now < 2 ^ 32 }
+    requires room { at + frame_length (raw_of raw) ≤ length out.old }
+    ensures puts { Rewrites out.old out.new at (whole (raw_of raw.entry)) (Ok result) }
+    ensures within { result ≤ at + frame_length (raw_of raw.entry) }
+{
+    let (frame_type, channel_id, payload) = (raw.frame_type, raw.channel_id, raw.payload);
+    match frame_type {
+        AMQPFrameType::ProtocolHeader => {
+            let version = put_bytes(out, at, b"AMQP\0");
+            put_bytes(out, version, payload)
+        }
+        AMQPFrameType::Method
+        | AMQPFrameType::Header
+        | AMQPFrameType::Body
+        | AMQPFrameType::Heartbeat => {
+            put_judged(out, at, scratch, frame_type, channel_id, payload, judged)
+        }
+    }
+}
+
+/// Puts the canonical bytes of a borrowed frame at a level, and returns the place after them.
 #[inline(always)]
 fn put_at_level(
     profile: Profile,
@@ -146,9 +122,9 @@ fn put_at_level(
     ensures puts { PutsFrame (level_of profile) out.old out.new at (raw_of raw.entry) result }
     ensures within { IfOk result (λ end. end ≤ at + frame_length (raw_of raw.entry)) }
 {
-    match profile {
-        Profile::Plain => put_plain(out, at, scratch, raw),
-        Profile::Tidy => put_tidy(out, at, scratch, raw),
+    match judge_at(profile, raw) {
+        Err(error) => Err(error),
+        Ok(judged) => Ok(put_frame(out, at, scratch, raw, judged)),
     }
 }
 
@@ -184,7 +160,7 @@ fn canonicalize(
     scratch: &mut [EntryMark],
     max_payload: u32,
     profile: Profile,
-) -> Progress
+) -> CallProgress
     requires room { length bytes.now ≤ length out.old }
     ensures { CanonicalizesPart (level_of profile) max_payload bytes.now out.old out.new result }
 {
@@ -211,7 +187,7 @@ fn canonicalize_plain(
     out: &mut [u8],
     scratch: &mut [EntryMark],
     max_payload: u32,
-) -> Progress
+) -> CallProgress
     requires room { length bytes.now ≤ length out.old }
     ensures { CanonicalizesPart plain max_payload bytes.now out.old out.new result }
 {
@@ -225,7 +201,7 @@ fn canonicalize_tidy(
     out: &mut [u8],
     scratch: &mut [EntryMark],
     max_payload: u32,
-) -> Progress
+) -> CallProgress
     requires room { length bytes.now ≤ length out.old }
     ensures { CanonicalizesPart tidy max_payload bytes.now out.old out.new result }
 {
@@ -239,7 +215,7 @@ fn canonicalize_at(
     scratch: &mut [EntryMark],
     max_payload: u32,
     profile: Profile,
-) -> Progress
+) -> CallProgress
     requires room { length bytes.now ≤ length out.old }
     ensures { CanonicalizesPart (level_of profile) max_payload bytes.now out.old out.new result }
 {
@@ -256,7 +232,7 @@ fn canonicalize_on_stack(
     out: &mut [u8],
     max_payload: u32,
     profile: Profile,
-) -> Progress
+) -> CallProgress
     requires room { length bytes.now ≤ length out.old }
     ensures { CanonicalizesPart (level_of profile) max_payload bytes.now out.old out.new result }
 {
@@ -274,7 +250,7 @@ pub extern "C" fn feksroum_canonicalize(
     scratch: &mut [EntryMark],
     max_payload: u32,
     level: u8,
-) -> Progress
+) -> CallProgress
     ensures argument { profile_at level ≡ None → RefusesPart bad_argument out.old out.new result }
     ensures small { (profile : Profile) → profile_at level ≡ Some profile → length out.old < length bytes.now
         → RefusesPart buffer_too_small out.old out.new result }

@@ -2,7 +2,7 @@
 
 ghost use Rattle.std.specs.Prelude.{◌≡◌, ◌↔◌, IsTrue};
 
-use crate::canonicalize::Progress;
+use crate::canonicalize::CallProgress;
 use crate::check::PayloadSummary;
 use crate::lines::FrameLine;
 use crate::next::FrontFrame;
@@ -26,7 +26,7 @@ pub fn equal_payload_summaries(a: &PayloadSummary, b: &PayloadSummary) -> bool
 
 /// Two counts of what was used and written are equal exactly where all numbers are.
 #[tactic(auto, using(crate::proofs::EqualResults::same_progress))]
-pub fn equal_progress(a: &Progress, b: &Progress) -> bool
+pub fn equal_progress(a: &CallProgress, b: &CallProgress) -> bool
     ensures { IsTrue result ↔ (a.now ≡ b.now) }
 {
     a == b

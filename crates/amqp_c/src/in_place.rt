@@ -4,16 +4,16 @@ ghost use Rattle.std.specs.Prelude.{◌≡◌, ◌≢◌, ◌+◌, ◌^◌, ◌<
 ghost use Rattle.amqp_types.specs.Levels.{level_of};
 ghost use Rattle.amqp_types.specs.Writing.{Puts};
 ghost use Rattle.amqp_wire.specs.Frames.{raw_of};
-ghost use Rattle.amqp_c.specs.InPlace.{IsCanonicalRun, JudgesAt, Rewrites, StopsBefore};
+ghost use Rattle.amqp_c.specs.InPlace.{IsCanonicalRun, Rewrites, StopsBefore};
 ghost use Rattle.amqp_c.specs.Rewriting.{CanonicalizesPart, RefusesPart, profile_at};
 ghost use Rattle.amqp_c.specs.Statuses.{bad_argument, buffer_too_small};
 
-use crate::canonicalize::{MARKS, Progress, came, profile_of, put_plain};
+use crate::canonicalize::{CallProgress, MARKS, came, judge_at, profile_of, put_frame};
 use crate::next::{frame_at, scan};
 use crate::statuses::{BAD_ARGUMENT, BUFFER_TOO_SMALL};
-use amqp_stream::{StreamError, payload_error};
+use amqp_stream::StreamError;
 use amqp_types::{Profile, are_bytes, put_bytes};
-use amqp_wire::{AMQPRawFrame, EntryMark, judge_frame};
+use amqp_wire::{EntryMark, judge_frame};
 
 /// How many bytes in front are whole frames, with payloads of at most `max_payload` bytes, of which each is encoded by its
 /// canonical bytes. What follows them is no such frame.
@@ -51,20 +51,6 @@ enum Rewrite {
     NoRoom,
 }
 
-/// Whether a frame at a level is canonical, or why it is none.
-#[inline(always)]
-fn judge_at(profile: Profile, raw: AMQPRawFrame<'_>) -> Result<bool, StreamError>
-    ensures { JudgesAt (level_of profile) (raw_of raw.entry) result }
-{
-    match judge_frame(raw) {
-        Err(error) => Err(payload_error(error)),
-        Ok(judged) => match profile {
-            Profile::Tidy if !judged.tidy => Err(StreamError::NotTidy),
-            Profile::Plain | Profile::Tidy => Ok(judged.canonical),
-        },
-    }
-}
-
 /// Looks at the frame in front at a level. Where it is not canonical, its canonical bytes are put in front of the spare
 /// buffer.
 fn rewrite_front(
@@ -82,23 +68,20 @@ fn rewrite_front(
         Err(error) => return Err(error),
     };
     let raw = frame_at(bytes, layout);
-    let canonical = match judge_at(profile, raw) {
-        Ok(canonical) => canonical,
+    let judged = match judge_at(profile, raw) {
+        Ok(judged) => judged,
         Err(error) => return Err(error),
     };
-    if canonical {
+    if judged.canonical {
         return Ok(Rewrite::Kept(layout.frame_len));
     }
     if spare.len() < layout.frame_len {
         return Ok(Rewrite::NoRoom);
     }
-    match put_plain(spare, 0, scratch, raw) {
-        Ok(count) => Ok(Rewrite::Spare {
-            used: layout.frame_len,
-            count,
-        }),
-        Err(error) => Err(error),
-    }
+    Ok(Rewrite::Spare {
+        used: layout.frame_len,
+        count: put_frame(spare, 0, scratch, raw, judged),
+    })
 }
 
 /// Moves so many bytes of a buffer to a place before them, and returns the place after them there.
@@ -121,7 +104,7 @@ fn canonicalize_within(
     scratch: &mut [EntryMark],
     max_payload: u32,
     profile: Profile,
-) -> Progress
+) -> CallProgress
     ensures canonicalizes { result.status ≢ buffer_too_small
         → CanonicalizesPart (level_of profile) max_payload bytes.old bytes.old bytes.new result }
     ensures stops { result.status ≡ buffer_too_small
@@ -153,7 +136,7 @@ fn canonicalize_within_on_stack(
     spare: &mut [u8],
     max_payload: u32,
     profile: Profile,
-) -> Progress
+) -> CallProgress
     ensures canonicalizes { result.status ≢ buffer_too_small
         → CanonicalizesPart (level_of profile) max_payload bytes.old bytes.old bytes.new result }
     ensures stops { result.status ≡ buffer_too_small
@@ -174,7 +157,7 @@ pub extern "C" fn feksroum_canonicalize_in_place(
     scratch: &mut [EntryMark],
     max_payload: u32,
     level: u8,
-) -> Progress
+) -> CallProgress
     ensures argument { profile_at level ≡ None → RefusesPart bad_argument bytes.old bytes.new result }
     ensures canonicalizes { (profile : Profile) → profile_at level ≡ Some profile → result.status ≢ buffer_too_small
         → CanonicalizesPart (level_of profile) max_payload bytes.old bytes.old bytes.new result }

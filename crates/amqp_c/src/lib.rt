@@ -26,7 +26,7 @@ mod vectors;
 mod version;
 mod writing;
 
-pub use canonicalize::Progress;
+pub use canonicalize::CallProgress;
 pub use check::PayloadSummary;
 pub use equality::{
     equal_call_errors, equal_frame_lines, equal_front_frames, equal_payload_summaries,

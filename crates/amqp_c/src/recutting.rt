@@ -112,6 +112,8 @@ pub extern "C" fn feksroum_piece_at(size: u32, held: u32, len: u32, ends: u8, k:
     ensures piece { held < size → ends ≤ 1 → (front body : List ℕ) (channel : ℕ) → length front ≡ held → length body ≡ len
         → IsPieceOf channel front body result (slice_get (frames_given size channel (ends == 1) (front ++ body)) k) }
     ensures held_within { result.held_start + result.held_length ≤ held }
+    ensures held_from_front { result.held_start ≡ 0 }
+    ensures held_in_first { 1 ≤ k → result.held_length ≡ 0 }
     ensures within { result.start + result.length ≤ len }
     ensures most { result.held_length + result.length ≤ size }
     ensures too_many_held { size ≤ held → result ≡ no_piece }

@@ -15,7 +15,8 @@ use amqp_stream::StreamError;
 use amqp_types::{ChannelId, Identifier};
 use amqp_wire::{AMQPFrameType, FrameOutline};
 
-/// A rule by numbers: keeps or drops the frames for which each part that is there holds.
+/// A rule by numbers: keeps or drops the frames for which each part that is there holds. The numbers of a part that is not there
+/// are not looked at.
 #[repr(C)]
 #[derive(Clone, Copy, Debug, PartialEq, Eq)]
 pub struct FrameRule {

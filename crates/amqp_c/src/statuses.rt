@@ -6,6 +6,12 @@ ghost use Rattle.amqp_c.specs.Statuses.{WritesName, call_error_at, call_error_na
 use amqp_stream::StreamError;
 use amqp_types::put_bytes;
 
+/// A frame may not come next on its channel.
+pub const BAD_CONTENT: u8 = 24;
+
+/// The input ends inside a message.
+pub const OPEN_CONTENT: u8 = 25;
+
 /// A line is the line of no frame.
 pub const BAD_TEXT: u8 = 26;
 
@@ -23,6 +29,12 @@ pub const TOO_LONG: u8 = 42;
 pub enum CallError {
     /// A stream of these bytes would end so.
     Stream(StreamError),
+
+    /// A frame may not come next on its channel.
+    BadContent,
+
+    /// The input ends inside a message. No call returns it: it is for callers that read streams of messages.
+    OpenContent,
 
     /// A line is the line of no frame.
     BadText,
@@ -43,6 +55,8 @@ fn name_of(error: CallError) -> &'static str
 {
     match error {
         CallError::Stream(error) => error.name(),
+        CallError::BadContent => "BadContent",
+        CallError::OpenContent => "OpenContent",
         CallError::BadText => "BadText",
         CallError::BufferTooSmall => "BufferTooSmall",
         CallError::BadArgument => "BadArgument",
@@ -72,6 +86,8 @@ fn error_with(status: u8) -> Option<CallError>
         21 => StreamError::CutShort,
         22 => StreamError::TurnsSpent,
         23 => StreamError::NotTidy,
+        BAD_CONTENT => return Some(CallError::BadContent),
+        OPEN_CONTENT => return Some(CallError::OpenContent),
         BAD_TEXT => return Some(CallError::BadText),
         BUFFER_TOO_SMALL => return Some(CallError::BufferTooSmall),
         BAD_ARGUMENT => return Some(CallError::BadArgument),

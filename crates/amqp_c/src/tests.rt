@@ -207,6 +207,8 @@ fn statuses_have_names(rt: HostRuntime) {
     assert!(rt; feksroum_name(41, &mut out) == 11 && out.get(..11) == Some(b"BadArgument"));
     assert!(rt; feksroum_name(42, &mut out) == 7 && out.get(..7) == Some(b"TooLong"));
     assert!(rt; feksroum_name(26, &mut out) == 7 && out.get(..7) == Some(b"BadText"));
+    assert!(rt; feksroum_name(24, &mut out) == 10 && out.get(..10) == Some(b"BadContent"));
+    assert!(rt; feksroum_name(25, &mut out) == 11 && out.get(..11) == Some(b"OpenContent"));
     assert!(rt; feksroum_name(0, &mut out) == 0 && feksroum_name(255, &mut out) == 0);
 }
 

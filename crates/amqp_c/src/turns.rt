@@ -6,14 +6,11 @@ ghost use Rattle.amqp_turns.specs.Faults.{fault_number};
 ghost use Rattle.amqp_c.specs.Turns.{IsOpen, StepsOn, blank_state, outline_by, progress_in, refused_step, state_of, stepped};
 
 use crate::frame_types::type_of_byte;
-use crate::statuses::BAD_ARGUMENT;
+use crate::statuses::{BAD_ARGUMENT, BAD_CONTENT};
 use amqp_stream::StreamError;
 use amqp_turns::{Mark, Progress, step};
 use amqp_types::{Identifier, PayloadSize};
 use amqp_wire::{AMQPFrameType, FrameOutline};
-
-/// The status of a frame that may not come next on its channel.
-const BAD_CONTENT: u8 = 24;
 
 /// What is kept of a channel between two of its frames; zeros where no message is open.
 #[repr(C)]

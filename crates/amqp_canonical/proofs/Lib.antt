@@ -23,7 +23,7 @@ pub mod Putting
 pub mod Written
 pub mod PutParts
 pub mod SlotParts
-pub mod InTurn
+pub mod PutSoFar
 pub mod PayloadParts
 pub mod GivenParts
 pub mod NoLonger

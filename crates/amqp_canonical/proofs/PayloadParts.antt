@@ -33,7 +33,7 @@ use Rattle.amqp_laws.proofs.PropertyLaws.{one_each}
 use Rattle.amqp_canonical.specs.declared.shapes.Form.{Form}
 use Rattle.amqp_canonical.specs.Shapes.{property_of}
 use Rattle.amqp_canonical.specs.Writes.{IsRead, canonical_of}
-use Rattle.amqp_canonical.proofs.InTurn.{FirstOf, PutInTurn, HereInTurn, turn_none, turn_here, turn_end}
+use Rattle.amqp_canonical.proofs.PutSoFar.{FirstOf, PutSoFar, PutHere, so_far_none, so_far_here, so_far_end}
 use Rattle.amqp_canonical.proofs.ReadParts.{took_of, is_read}
 use Rattle.amqp_canonical.proofs.SlotParts.{map_read, map_used}
 use Rattle.amqp_laws.proofs.MethodLaws.{known_took}
@@ -182,17 +182,17 @@ unfolding judge_set set_bytes
 no_properties mask bytes = refl
 
 abbrev pub SetPut : ℕ → List Property → List ℕ → List ℕ → ℕ → List ℕ → List ℕ → ℕ → ℕ → Type 0
-SetPut mask = PutInTurn (one_property mask) (judge_set mask) property_bytes set_bytes
+SetPut mask = PutSoFar (one_property mask) (judge_set mask) property_bytes set_bytes
 
 pub set_none : (mask : ℕ) (ps : List Property) (bytes buf : List ℕ) (at : ℕ) → IsBytes bytes → IsRead (judge_set mask ps bytes) → SetPut mask ps bytes bytes 0 buf buf at at
-set_none mask = turn_none (one_property mask) (judge_set mask) property_bytes set_bytes
+set_none mask = so_far_none (one_property mask) (judge_set mask) property_bytes set_bytes
 
 set_here : (mask : ℕ) (ps : List Property) (p : Property) (bytes left : List ℕ) (k n : ℕ) (old mid : List ℕ) (at end : ℕ) → drop k ps ≡ p ∷ drop (k + 1) ps → (IsRead (one_property mask p left) → n ≡ used_by (one_property mask p left))
-    → at + length (canonical_of (set_bytes ps) (judge_set mask ps bytes)) ≤ length old → SetPut mask ps bytes left k old mid at end → HereInTurn (one_property mask) (judge_set mask) property_bytes set_bytes ps p bytes left k n old mid at end
-set_here mask = turn_here (one_property mask) (judge_set mask) property_bytes set_bytes (first_property mask)
+    → at + length (canonical_of (set_bytes ps) (judge_set mask ps bytes)) ≤ length old → SetPut mask ps bytes left k old mid at end → PutHere (one_property mask) (judge_set mask) property_bytes set_bytes ps p bytes left k n old mid at end
+set_here mask = so_far_here (one_property mask) (judge_set mask) property_bytes set_bytes (first_property mask)
 
 pub set_end : (mask : ℕ) (ps : List Property) (bytes left : List ℕ) (k : ℕ) (old new : List ℕ) (at end : ℕ) → length ps ≤ k → SetPut mask ps bytes left k old new at end → Puts old new at (canonical_of (set_bytes ps) (judge_set mask ps bytes)) end
-set_end mask = turn_end (one_property mask) (judge_set mask) property_bytes set_bytes (no_properties mask)
+set_end mask = so_far_end (one_property mask) (judge_set mask) property_bytes set_bytes (no_properties mask)
 
 -- a property that is there, for which there is room
 pub record PropertyHere (mask : ℕ) (ps : List Property) (form : meant.Form) (bytes left : List ℕ) (k n : ℕ) (old mid : List ℕ) (at end : ℕ) : Type 0 where

@@ -29,7 +29,7 @@ use Rattle.amqp_canonical.specs.Shapes.{form_of, is_constant, constant_of, slot_
 use Rattle.amqp_canonical.specs.Writes.{IsRead, canonical_of, slot_bytes, key_in}
 use Rattle.amqp_canonical.proofs.Constants.{constant_put}
 use Rattle.amqp_canonical.proofs.ReadParts.{took_of, is_read, text_parts}
-use Rattle.amqp_canonical.proofs.InTurn.{FirstOf, PutInTurn, HereInTurn, turn_none, turn_here, turn_end}
+use Rattle.amqp_canonical.proofs.PutSoFar.{FirstOf, PutSoFar, PutHere, so_far_none, so_far_here, so_far_end}
 use Rattle.amqp_canonical.proofs.Sizes.{table_length}
 use Rattle.amqp_types.specs.Tidiness.{used_by}
 
@@ -289,14 +289,14 @@ unfolding judge_slots slots_bytes
 no_slots bytes = refl
 
 abbrev pub SlotsPut : List meant.Slot → List ℕ → List ℕ → ℕ → List ℕ → List ℕ → ℕ → ℕ → Type 0
-SlotsPut = PutInTurn judge_slot judge_slots slot_bytes slots_bytes
+SlotsPut = PutSoFar judge_slot judge_slots slot_bytes slots_bytes
 
 pub slots_none : (slots : List meant.Slot) (bytes buf : List ℕ) (at : ℕ) → IsBytes bytes → IsRead (judge_slots slots bytes) → SlotsPut slots bytes bytes 0 buf buf at at
-slots_none = turn_none judge_slot judge_slots slot_bytes slots_bytes
+slots_none = so_far_none judge_slot judge_slots slot_bytes slots_bytes
 
 pub slot_here : (slots : List meant.Slot) (slot : meant.Slot) (bytes left : List ℕ) (k n : ℕ) (old mid : List ℕ) (at end : ℕ) → drop k slots ≡ slot ∷ drop (k + 1) slots → (IsRead (judge_slot slot left) → n ≡ used_by (judge_slot slot left))
-    → at + length (canonical_of (slots_bytes slots) (judge_slots slots bytes)) ≤ length old → SlotsPut slots bytes left k old mid at end → HereInTurn judge_slot judge_slots slot_bytes slots_bytes slots slot bytes left k n old mid at end
-slot_here = turn_here judge_slot judge_slots slot_bytes slots_bytes first_slot
+    → at + length (canonical_of (slots_bytes slots) (judge_slots slots bytes)) ≤ length old → SlotsPut slots bytes left k old mid at end → PutHere judge_slot judge_slots slot_bytes slots_bytes slots slot bytes left k n old mid at end
+slot_here = so_far_here judge_slot judge_slots slot_bytes slots_bytes first_slot
 
 pub slots_end : (slots : List meant.Slot) (bytes left : List ℕ) (k : ℕ) (old new : List ℕ) (at end : ℕ) → length slots ≤ k → SlotsPut slots bytes left k old new at end → Puts old new at (canonical_of (slots_bytes slots) (judge_slots slots bytes)) end
-slots_end = turn_end judge_slot judge_slots slot_bytes slots_bytes no_slots
+slots_end = so_far_end judge_slot judge_slots slot_bytes slots_bytes no_slots

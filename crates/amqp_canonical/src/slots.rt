@@ -11,7 +11,8 @@ use crate::texts::short_text;
 use crate::values::judge_table;
 use amqp_types::{INNER_DEPTH, ParserError, parse_long_bytes, parse_short_uint};
 
-/// What was decoded at the front of a slice: fields, a method or a content header.
+/// A judgement: what decoding the front of a slice says of its bytes, where nothing that they mean is kept. They are fields, a
+/// method or a content header.
 #[derive(Clone, Copy, Debug, PartialEq, Eq)]
 pub struct Judgement {
     /// How many bytes it uses.

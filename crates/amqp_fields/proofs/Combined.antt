@@ -33,6 +33,9 @@ not_lt a b le = grind (arith, nat_tests)
 
 -- ---- two parts
 
+pub as_put : {old new a b : List ℕ} {at count : ℕ} → a ≡ b → ArePut old new at a count → ArePut old new at b count
+as_put {old} {new} {a} {b} {at} {count} is h = subst (λ bytes. ArePut old new at bytes count) is h
+
 pub none_put : (old : List ℕ) (at : ℕ) → ArePut old old at [] 0
 none_put old at = record { count_is = refl; same_length = refl; put = λ few room. sym (written-nil old at) }
 
@@ -79,9 +82,6 @@ both_made {E} {first} {second} one there two sum =
 pub made_after : {E : Type 0} {second : Result (List ℕ) E} {old mid new first : List ℕ} {at place n m total : ℕ} → ArePut old mid at first n → place ≡ cut_long (at + n) → Gives second mid new place m → total ≡ cut_long (n + m) → Gives (after (Ok first) second) old new at total
 made_after {E} {second} {old} {mid} {new} {first} one there two sum = both_made {first = Ok first} (record { bytes = first; is = refl; are_put = one }) there two sum
 
-pub first_refused : {E : Type 0} (first second : Result (List ℕ) E) (bad : E) → first ≡ Err bad → after first second ≡ Err bad
-first_refused first second bad is = ap (λ made. after made second) is
-
 pub second_refused : {E : Type 0} {old mid : List ℕ} {at n : ℕ} (first second : Result (List ℕ) E) (bad : E) → Gives first old mid at n → second ≡ Err bad → after first second ≡ Err bad
 second_refused first second bad one is = ap (λ made. after made second) one.is ∙ ap (after (Ok one.bytes)) is
 
@@ -124,6 +124,3 @@ pub closed_long : {made : Made} {old mid : List ℕ} {place n : ℕ} (node : ℕ
 closed_long {made} {old} {mid} {place} {n} node bad one h =
     let long : is_too_long one.bytes ≡ true = grind (arith, nat_tests, one.are_put.count_is, h.0) in
     ap (closed node) one.is ∙ ap (λ test. if test then refuse node whys.TooLong else Ok (with_length one.bytes)) long ∙ ap Err (sym h.1)
-
-pub closed_refused : (node : ℕ) (made : Made) (bad : Refusal) → made ≡ Err bad → closed node made ≡ Err bad
-closed_refused node made bad is = ap (closed node) is

@@ -6,7 +6,7 @@ use Rattle.amqp_types.specs.ValueJudging.{filled, judge_entry, judge_value}
 use Rattle.amqp_canonical.specs.Writes.{IsFilled}
 use Rattle.amqp_fields.specs.declared.node.Node.{Node}
 use Rattle.amqp_fields.specs.declared.listing.Filled.{Filled}
-use Rattle.amqp_fields.specs.Nodes.{blank, cut}
+use Rattle.amqp_fields.specs.Nodes.{blank}
 use Rattle.amqp_fields.specs.Listing.{Grows, Listing, listing, pushed_all}
 use Rattle.amqp_fields.specs.Listed.{joined, listed_entry, listed_value}
 use Rattle.amqp_fields.specs.Finding.{ListsAll}
@@ -38,7 +38,7 @@ module _ {A : Type 0} (judge : Judge A) (listed : Judge (List Node)) (Means : No
         → IsPut (HasItems judge Means content) content old new filling.count
     put_by old new filling xs few is found h =
         let P : Result (List (List Node)) Fault → Type 0 = λ r. ListsAll r old 0 new filling in
-        let lists : (filling.items ≡ cut (length found.groups)) × Grows (listing old 0) (listing new filling.count) (joined found.groups) = subst P found.is h in
+        let lists : (filling.items ≡ length found.groups) × Grows (listing old 0) (listing new filling.count) (joined found.groups) = subst P found.is h in
         let same : listing new filling.count ≡ pushed_all (listing old 0) (joined found.groups) = lists.1 (omega (arith, found.few, few)) in
         let number : filling.count ≡ 0 + length (joined found.groups) = ap (λ (l : Listing). l.count) same ∙ pushed_count (listing old 0) (joined found.groups) in
         record {

@@ -12,6 +12,7 @@ pub mod Answering
 pub mod FramesGiven
 pub mod Counted
 pub mod SlotSteps
+pub mod TopBits
 pub mod Within
 pub mod Filling
 pub mod ContentsFound
@@ -25,12 +26,7 @@ pub mod FramesMade
 pub mod Written
 pub mod Inverted
 pub mod SignedNumbers
-pub mod Measured
 pub mod PropertiesMade
-pub mod HeadsMade
-pub mod Placed
-pub mod FieldsPlaced
-pub mod FramesPlaced
 pub mod ValuesTold
 pub mod FieldsTold
 pub mod FramesTold

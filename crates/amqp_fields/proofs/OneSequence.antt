@@ -1,5 +1,5 @@
 -- Heads and nodes that are written mean one sequence of frames.
-use Rattle.std.proofs.Common.{ℕ, List, Some, Result, Ok, subst}
+use Rattle.std.proofs.Common.{ℕ, List, Some, Result, subst}
 use Rattle.amqp_types.specs.Levels.{plain}
 use Rattle.amqp_wire.specs.Spelling.{SpellsFrames}
 use Rattle.amqp_wire.proofs.Sequences.{one_sequence}

@@ -1,12 +1,13 @@
 -- Fields and properties of messages, one after another: by the nodes that are there.
-use Rattle.std.proofs.Common.{◌≡◌, ℕ, zero, suc, ◌+◌, ◌-◌, ◌<◌, ◌≤◌, ◌^◌, ◌==◌, ◌&&◌, Bool, true, false, List, [], ◌∷◌, ◌++◌, length, map, get_or, drop, take, Result, Ok, Err, refl, sym, ap, ap₂, subst, ◌∙◌, inl, inr, arith, nat_lt, if◌then◌else◌}
+use Rattle.std.proofs.Common.{◌≡◌, ℕ, zero, suc, ◌+◌, ◌-◌, ◌<◌, ◌≤◌, ◌^◌, ◌==◌, ◌&&◌, Bool, true, false, List, [], ◌∷◌, ◌++◌, length, map, get_or, drop, take, Option, Some, None, Ok, Err, refl, sym, ap, ap₂, subst, ◌∙◌, inl, inr, arith, nat_lt, if◌then◌else◌}
 use Rattle.std.proofs.lemmas.Bool.Decides.{nat_tests}
 use Rattle.std.proofs.lemmas.Bool.{cases_lt}
 use Rattle.std.proofs.lemmas.List.{drop_at, take_at, drop-drop, length-append, length-drop, length-map}
 use Rattle.amqp_types.specs.Numbers.{bytes2, number_bytes}
 use Rattle.amqp_types.specs.Properties.{Property, properties, later_properties}
-use Rattle.amqp_types.specs.PropertyBytes.{mask_of}
+use Rattle.amqp_types.specs.PropertyBytes.{mask_of, worth_of}
 use Rattle.amqp_types.specs.Slots as meant
+use Rattle.amqp_types.specs.Slots.{Item, number_item}
 use Rattle.amqp_canonical.specs.declared.shapes.Form.{Form}
 use Rattle.amqp_canonical.specs.declared.shapes.Slot.{Slot}
 use Rattle.amqp_canonical.specs.Shapes.{has_constant, have_constants, property_of, slot_of, slots_of}
@@ -15,11 +16,12 @@ use Rattle.amqp_fields.specs.declared.refusals.Refusal.{Refusal}
 use Rattle.amqp_fields.specs.declared.refusals.WriteRefusal.TheVariants as whys
 use Rattle.amqp_fields.specs.Listed.{kept_count, next_place}
 use Rattle.amqp_fields.specs.Made.{Made, after, misfit, refusal}
-use Rattle.amqp_fields.specs.MadeFields.{group_size, is_field, is_next, made_field, made_form, made_none, made_properties, made_set, made_slot, made_slots, node_count, set_at}
-use Rattle.amqp_fields.specs.Makes.{IsMeasured, IsNoProperty, IsProperty, cut_long}
+use Rattle.amqp_fields.specs.MadeFields.{group_size, is_field, made_field, made_form, made_none, made_properties, made_set, made_slot, made_slots, node_count, set_at, worths}
+use Rattle.amqp_fields.specs.Makes.{ArePut, Gives, IsNoProperty, IsProperty, cut_long}
 use Rattle.amqp_fields.specs.Nodes.{PassesEnd, StandsFirst}
-use Rattle.amqp_fields.proofs.Combined.{not_lt}
-use Rattle.amqp_fields.proofs.Measured.{SoFar, as_measured, so_begins, so_ends, so_on, so_refused}
+use Rattle.amqp_fields.proofs.Combined.{before_put, not_lt, rest_refused}
+use Rattle.amqp_fields.proofs.EachMade.{Onward, begins, ends, steps, stops}
+use Rattle.amqp_fields.proofs.FieldsMade.{worths_few}
 
 -- ---- fields of methods
 
@@ -44,9 +46,9 @@ later_constants left others shape is h = by_both (has_constant shape) (have_cons
 
 module _ (pool : List ℕ) (end : ℕ) where
   -- what is left of the fields, each of which is kept or has its constant
-  pub record SlotsLeft (whole : Made) (left : List Slot) (place : ℕ) (rest : List Node) (size : ℕ) : Type 0 where
+  pub record SlotsLeft (whole : Made) (left : List Slot) (place : ℕ) (rest : List Node) (old new : List ℕ) (at made : ℕ) : Type 0 where
     pub constants : have_constants left ≡ true
-    pub so : SoFar whole (made_slots pool end place (slots_of left) rest) size
+    pub onward : Onward whole (made_slots pool end place (slots_of left) rest) old new at made
 
   pub slots_next : (place next k count : ℕ) (left others : List Slot) (shape : Slot) (nodes rest : List Node) → left ≡ shape ∷ others → next ≡ next_place place k → k ≡ kept_count (slot_of shape) → rest ≡ drop count nodes → count ≡ node_count (slot_of shape) nodes
       → made_slots pool end place (slots_of left) nodes ≡ after (made_slot pool end place (slot_of shape) nodes) (made_slots pool end next (slots_of others) rest)
@@ -55,17 +57,17 @@ module _ (pool : List ℕ) (end : ℕ) where
       ap (λ (shapes : List Slot). made_slots pool end place (slots_of shapes) nodes) is
       ∙ ap₂ (λ p ns. after (made_slot pool end place (slot_of shape) nodes) (made_slots pool end p (slots_of others) ns)) (sym (at ∙ ap (next_place place) kept)) (sym (there ∙ ap (λ n. drop n nodes) counted))
 
-  pub slots_begin : (shapes : List Slot) (nodes : List Node) → have_constants shapes ≡ true → SlotsLeft (made_slots pool end 0 (slots_of shapes) nodes) shapes 0 nodes 0
-  slots_begin shapes nodes constants = record { constants = constants; so = so_begins (made_slots pool end 0 (slots_of shapes) nodes) }
+  pub slots_begin : (shapes : List Slot) (nodes : List Node) (old : List ℕ) (at : ℕ) → have_constants shapes ≡ true → SlotsLeft (made_slots pool end 0 (slots_of shapes) nodes) shapes 0 nodes old old at 0
+  slots_begin shapes nodes old at constants = record { constants = constants; onward = begins (made_slots pool end 0 (slots_of shapes) nodes) old at }
 
-  pub slots_on : {whole : Made} {place next k count size n total : ℕ} {left others : List Slot} {shape : Slot} {nodes rest : List Node} → SlotsLeft whole left place nodes size → left ≡ shape ∷ others → IsMeasured (made_slot pool end place (slot_of shape) nodes) n
-      → total ≡ cut_long (size + n) → next ≡ next_place place k → k ≡ kept_count (slot_of shape) → rest ≡ drop count nodes → count ≡ node_count (slot_of shape) nodes → SlotsLeft whole others next rest total
-  slots_on {whole} {place} {next} {k} {count} {size} {n} {total} {left} {others} {shape} {nodes} {rest} h is one sum at kept there counted =
-      record { constants = later_constants left others shape is h.constants; so = so_on h.so (slots_next place next k count left others shape nodes rest is at kept there counted) one sum }
+  pub slots_on : {whole : Made} {place next k count at made from n total : ℕ} {left others : List Slot} {shape : Slot} {nodes rest : List Node} {old mid new : List ℕ} → SlotsLeft whole left place nodes old mid at made → left ≡ shape ∷ others → from ≡ cut_long (at + made)
+      → Gives (made_slot pool end place (slot_of shape) nodes) mid new from n → total ≡ cut_long (made + n) → next ≡ next_place place k → k ≡ kept_count (slot_of shape) → rest ≡ drop count nodes → count ≡ node_count (slot_of shape) nodes → SlotsLeft whole others next rest old new at total
+  slots_on {whole} {place} {next} {k} {count} {at} {made} {from} {n} {total} {left} {others} {shape} {nodes} {rest} h is there one sum at_next kept behind counted =
+      record { constants = later_constants left others shape is h.constants; onward = steps h.onward (slots_next place next k count left others shape nodes rest is at_next kept behind counted) there one sum }
 
-  pub slots_refused : {whole : Made} {place size : ℕ} {left others : List Slot} {shape : Slot} {nodes : List Node} (bad : Refusal) → SlotsLeft whole left place nodes size → left ≡ shape ∷ others → made_slot pool end place (slot_of shape) nodes ≡ Err bad → whole ≡ Err bad
-  slots_refused {whole} {place} {size} {left} {others} {shape} {nodes} bad h is refuses =
-      so_refused bad h.so (slots_next place (next_place place (kept_count (slot_of shape))) (kept_count (slot_of shape)) (node_count (slot_of shape) nodes) left others shape nodes (drop (node_count (slot_of shape) nodes) nodes) is refl refl refl refl
+  pub slots_refused : {whole : Made} {place at made : ℕ} {left others : List Slot} {shape : Slot} {nodes : List Node} {old new : List ℕ} (bad : Refusal) → SlotsLeft whole left place nodes old new at made → left ≡ shape ∷ others → made_slot pool end place (slot_of shape) nodes ≡ Err bad → whole ≡ Err bad
+  slots_refused {whole} {place} {at} {made} {left} {others} {shape} {nodes} bad h is refuses =
+      stops bad h.onward (slots_next place (next_place place (kept_count (slot_of shape))) (kept_count (slot_of shape)) (node_count (slot_of shape) nodes) left others shape nodes (drop (node_count (slot_of shape) nodes) nodes) is refl refl refl refl
       ∙ ap (λ made. after made (made_slots pool end (next_place place (kept_count (slot_of shape))) (slots_of others) (drop (node_count (slot_of shape) nodes) nodes))) refuses)
 
   pub no_slots : (place : ℕ) (left : List Slot) (nodes : List Node) → length left ≡ 0 → made_slots pool end place (slots_of left) nodes ≡ made_none end nodes
@@ -73,15 +75,15 @@ module _ (pool : List ℕ) (end : ℕ) where
   no_slots place [] nodes none = refl
   no_slots place (shape ∷ left) nodes none = absurd (omega (arith, none))
 
-  pub slots_end : {whole : Made} {place size : ℕ} {left : List Slot} {nodes : List Node} → SlotsLeft whole left place nodes size → length left ≡ 0 → length nodes ≡ 0 → IsMeasured whole size
-  slots_end {whole} {place} {size} {left} {nodes} h none bare = so_ends h.so (no_slots place left nodes none ∙ nothing nodes bare)
+  pub slots_end : {whole : Made} {place at made : ℕ} {left : List Slot} {nodes : List Node} {old new : List ℕ} → SlotsLeft whole left place nodes old new at made → length left ≡ 0 → length nodes ≡ 0 → Gives whole old new at made
+  slots_end {whole} {place} {at} {made} {left} {nodes} h none bare = ends h.onward (no_slots place left nodes none ∙ nothing nodes bare)
     where
       nothing : (nodes : List Node) → length nodes ≡ 0 → made_none end nodes ≡ Ok []
       nothing [] bare = refl
       nothing (node ∷ nodes) bare = absurd (omega (arith, bare))
 
-  pub slots_more : {whole : Made} {place size index : ℕ} {left : List Slot} {nodes : List Node} (bad : Refusal) → SlotsLeft whole left place nodes size → length left ≡ 0 → 0 < length nodes → index ≡ end - length nodes → bad ≡ refusal index whys.BadArgument → whole ≡ Err bad
-  slots_more {whole} {place} {size} {index} {left} {nodes} bad h none some at is = so_refused bad h.so (no_slots place left nodes none ∙ something nodes some ∙ ap (λ k. misfit k) (sym at) ∙ ap Err (sym is))
+  pub slots_more : {whole : Made} {place at made index : ℕ} {left : List Slot} {nodes : List Node} {old new : List ℕ} (bad : Refusal) → SlotsLeft whole left place nodes old new at made → length left ≡ 0 → 0 < length nodes → index ≡ end - length nodes → bad ≡ refusal index whys.BadArgument → whole ≡ Err bad
+  slots_more {whole} {place} {at} {made} {index} {left} {nodes} bad h none some place_is is = stops bad h.onward (no_slots place left nodes none ∙ something nodes some ∙ ap (λ k. misfit k) (sym place_is) ∙ ap Err (sym is))
     where
       something : (nodes : List Node) → 0 < length nodes → made_none end nodes ≡ misfit (end - length nodes)
       something [] some = absurd (omega (arith, some))
@@ -218,25 +220,100 @@ module _ (pool : List ℕ) (end : ℕ) where
             ∙ ap₂ (λ k ps. after (made_form pool p.form last node inside) (made_set pool end k ps others)) next_one later_is,
       )
 
-  -- what is left of the properties
-  pub record SetLeft (whole : Made) (place : ℕ) (rest : List Node) (size : ℕ) : Type 0 where
+  pub no_set : (place : ℕ) (ps : List Property) → place + length ps < 254 → made_set pool end place ps [] ≡ Ok []
+  unfolding made_set
+  no_set place [] few = refl
+  no_set place (p ∷ ps) few = ap (λ k. made_set pool end k ps []) (next_is place (omega (arith, few))) ∙ no_set (place + 1) ps (omega (arith, few))
+
+  -- ---- their mask
+
+  mask_on : (k j : ℕ) (ps later : List Property) (p : Property) (node : Node) (others : List Node) → node.place ≡ k + j → drop j ps ≡ p ∷ later → k + length ps < 254
+      → mask_of ps (set_at k ps (node ∷ others)) ≡ 2 ^ p.bit + mask_of later (set_at (node.place + 1) later (drop (group_size (node ∷ others)) (node ∷ others)))
+  unfolding mask_of set_at worth_of
+  mask_on k zero [] later p node others at stands few = absurd cc
+  mask_on k zero (q ∷ ps) later p node others at stands few =
+      let nodes = node ∷ others in
+      let on : (node.place == k) ≡ true = grind (arith, nat_tests, at) in
+      let next : next_place k 1 ≡ node.place + 1 = next_is k (omega (arith, few)) ∙ omega (arith, at) in
+      let one : q ≡ p = cc in
+      let left : ps ≡ later = cc in
+      ap (λ test. mask_of (q ∷ ps) (if test then Some (number_item 0) ∷ set_at (next_place k 1) ps (drop (group_size nodes) nodes) else None ∷ set_at (next_place k 1) ps nodes)) on
+      ∙ ap (λ b. 2 ^ q.bit + mask_of ps (set_at b ps (drop (group_size nodes) nodes))) next
+      ∙ ap₂ (λ (a : Property) (b : List Property). 2 ^ a.bit + mask_of b (set_at (node.place + 1) b (drop (group_size nodes) nodes))) one left
+  mask_on k (suc j) [] later p node others at stands few = absurd cc
+  mask_on k (suc j) (q ∷ ps) later p node others at stands few =
+      let nodes = node ∷ others in
+      let differs : node.place ≡ k → ⊥ = λ e. omega (arith, at, e) in
+      let off : (node.place == k) ≡ false = grind (arith, nat_tests, differs) in
+      let next : next_place k 1 ≡ k + 1 = next_is k (omega (arith, few)) in
+      let none : 0 + mask_of ps (set_at (next_place k 1) ps nodes) ≡ mask_of ps (set_at (next_place k 1) ps nodes) = omega arith in
+      ap (λ test. mask_of (q ∷ ps) (if test then Some (number_item 0) ∷ set_at (next_place k 1) ps (drop (group_size nodes) nodes) else None ∷ set_at (next_place k 1) ps nodes)) off
+      ∙ none ∙ ap (λ a. mask_of ps (set_at a ps nodes)) next
+      ∙ mask_on (k + 1) j ps later p node others (omega (arith, at)) stands (omega (arith, few))
+
+  no_mask : (k : ℕ) (ps : List Property) → mask_of ps (set_at k ps []) ≡ 0
+  unfolding mask_of set_at worth_of
+  no_mask k [] = refl
+  no_mask k (p ∷ ps) = omega (arith, no_mask (next_place k 1) ps)
+
+  mask_most : (ps : List Property) (options : List (Option Item)) → mask_of ps options ≤ worths ps
+  unfolding mask_of worth_of
+  mask_most [] options = omega arith
+  mask_most (p ∷ ps) [] = omega arith
+  mask_most (p ∷ ps) (None ∷ options) = omega (arith, mask_most ps options)
+  mask_most (p ∷ ps) (Some item ∷ options) = omega (arith, mask_most ps options)
+
+  mask_next : (place : ℕ) (p : Property) {nodes inside others : List Node} {node : Node} → place ≤ 14 → StandsFirst nodes node inside others → IsProperty place node p
+      → mask_of (drop place properties) (set_at place (drop place properties) nodes) ≡ 2 ^ p.bit + mask_of (drop (next_place node.place 1) properties) (set_at (next_place node.place 1) (drop (next_place node.place 1) properties) others)
+  mask_next place p {nodes} {inside} {others} {node} few h found =
+      let behind = inside ++ others in
+      let below : node.place < 14 = omega (arith, some_left node.place properties found.later p found.stands, properties_few) in
+      let size : length (drop place properties) ≡ 14 - place = omega (arith, length-drop place properties, properties_few) in
+      let stands : drop (node.place - place) (drop place properties) ≡ p ∷ found.later = drop-drop (node.place - place) place properties ∙ ap (λ k. drop k properties) (omega (arith, found.from)) ∙ found.stands in
+      let next_one : node.place + 1 ≡ next_place node.place 1 = sym (next_is node.place (omega (arith, below))) in
+      let past : drop (group_size (node ∷ behind)) (node ∷ behind) ≡ others = sym (drop-drop node.inside 1 (node ∷ behind)) ∙ drop_at inside others node.inside (sym h.inside_is) in
+      let later_is : found.later ≡ drop (next_place node.place 1) properties = found.later_is ∙ ap (λ k. drop k properties) next_one in
+      ap (λ ns. mask_of (drop place properties) (set_at place (drop place properties) ns)) h.nodes_are
+      ∙ mask_on place (node.place - place) (drop place properties) found.later p node behind (omega (arith, found.from)) stands (omega (arith, few, size))
+      ∙ ap₂ (λ k ns. 2 ^ p.bit + mask_of found.later (set_at k found.later ns)) next_one past
+      ∙ ap (λ ps. 2 ^ p.bit + mask_of ps (set_at (next_place node.place 1) ps others)) later_is
+
+  -- ---- the loop over them
+
+  -- what is left of the properties, and what the mask has so far
+  pub record SetLeft (all : List Node) (place : ℕ) (rest : List Node) (old new : List ℕ) (at made mask : ℕ) : Type 0 where
     pub few : place ≤ 14
-    pub so : SoFar whole (made_set pool end place (drop place properties) rest) size
+    pub onward : Onward (made_set pool end 0 properties all) (made_set pool end place (drop place properties) rest) old new at made
+    pub mask_is : mask + mask_of (drop place properties) (set_at place (drop place properties) rest) ≡ mask_of properties (set_at 0 properties all)
 
-  pub set_begins : (nodes : List Node) → SetLeft (made_properties pool end nodes) 0 nodes 2
+  pub set_begins : (nodes : List Node) (old : List ℕ) (at : ℕ) → SetLeft nodes 0 nodes old old at 0 0
+  set_begins nodes old at = record { few = omega arith; onward = begins (made_set pool end 0 properties nodes) old at; mask_is = omega arith }
+
+  -- what a property adds to the mask
+  pub mask_few : {place at made mask : ℕ} (p : Property) {all nodes inside others : List Node} {node : Node} {old new : List ℕ} → SetLeft all place nodes old new at made mask → StandsFirst nodes node inside others → IsProperty place node p → mask + 2 ^ p.bit < 2 ^ 16
+  mask_few {place} {at} {made} {mask} p {all} {nodes} {inside} {others} {node} h first found =
+      omega (arith, h.mask_is, mask_next place p h.few first found, mask_most properties (set_at 0 properties all), worths_few)
+
+  pub set_goes_on : {place next last at made from n total mask more : ℕ} (p : Property) {all nodes inside others : List Node} {node : Node} {old mid new : List ℕ} → SetLeft all place nodes old mid at made mask → StandsFirst nodes node inside others → IsProperty place node p → last ≡ end - length others
+      → from ≡ cut_long (at + made) → Gives (made_form pool p.form last node inside) mid new from n → total ≡ cut_long (made + n) → more ≡ mask + 2 ^ p.bit → next ≡ next_place node.place 1 → SetLeft all next others old new at total more
+  set_goes_on {place} {next} {last} {at} {made} {from} {n} {total} {mask} {more} p {all} {nodes} {inside} {others} {node} h first property place_is there one sum adds at_next =
+      let both = set_next place last next p h.few first property place_is at_next in
+      record {
+        few = both.0;
+        onward = steps h.onward both.1 there one sum;
+        mask_is = subst (λ k. more + mask_of (drop k properties) (set_at k (drop k properties) others) ≡ mask_of properties (set_at 0 properties all)) (sym at_next) (omega (arith, h.mask_is, mask_next place p h.few first property, adds));
+      }
+
+  -- where the others are refused, all are
+  all_refused : {place at made mask : ℕ} {all rest : List Node} {old new : List ℕ} (bad : Refusal) → SetLeft all place rest old new at made mask → made_set pool end place (drop place properties) rest ≡ Err bad → made_properties pool end all ≡ Err bad
   unfolding made_properties
-  set_begins nodes = record { few = omega arith; so = record { done = number_bytes bytes2 (mask_of properties (set_at 0 properties nodes)); so_far = refl; size_is = refl } }
+  all_refused {place} {at} {made} {mask} {all} bad h is = rest_refused (number_bytes bytes2 (mask_of properties (set_at 0 properties all))) (made_set pool end 0 properties all) bad (stops bad h.onward is)
 
-  pub set_goes_on : {whole : Made} {place next last size n total : ℕ} (p : Property) {nodes inside others : List Node} {node : Node} → SetLeft whole place nodes size → StandsFirst nodes node inside others → IsProperty place node p → last ≡ end - length others
-      → IsMeasured (made_form pool p.form last node inside) n → total ≡ cut_long (size + n) → next ≡ next_place node.place 1 → SetLeft whole next others total
-  set_goes_on {whole} {place} {next} {last} {size} {n} {total} p h first property at one sum there =
-      let both = set_next place last next p h.few first property at there in record { few = both.0; so = so_on h.so both.1 one sum }
-
-  pub set_refused : {whole : Made} {place last size : ℕ} (p : Property) {nodes inside others : List Node} {node : Node} (bad : Refusal) → SetLeft whole place nodes size → StandsFirst nodes node inside others → IsProperty place node p → last ≡ end - length others
-      → made_form pool p.form last node inside ≡ Err bad → whole ≡ Err bad
-  set_refused {whole} {place} {last} {size} p {nodes} {inside} {others} {node} bad h first property at refuses =
-      let both = set_next place last (next_place node.place 1) p h.few first property at refl in
-      so_refused bad h.so (both.1 ∙ ap (λ made. after made (made_set pool end (next_place node.place 1) (drop (next_place node.place 1) properties) others)) refuses)
+  pub set_refused : {place last at made mask : ℕ} (p : Property) {all nodes inside others : List Node} {node : Node} {old new : List ℕ} (bad : Refusal) → SetLeft all place nodes old new at made mask → StandsFirst nodes node inside others → IsProperty place node p → last ≡ end - length others
+      → made_form pool p.form last node inside ≡ Err bad → made_properties pool end all ≡ Err bad
+  set_refused {place} {last} {at} {made} {mask} p {all} {nodes} {inside} {others} {node} bad h first property place_is refuses =
+      let both = set_next place last (next_place node.place 1) p h.few first property place_is refl in
+      all_refused bad h (both.1 ∙ ap (λ made. after made (made_set pool end (next_place node.place 1) (drop (next_place node.place 1) properties) others)) refuses)
 
   either_way : {A : Type 0} (test : Bool) (a : A) → (if test then a else a) ≡ a
   either_way true a = refl
@@ -261,17 +338,23 @@ module _ (pool : List ℕ) (end : ℕ) where
       let bad : Made = misfit (end - length (node ∷ others)) in
       set_stops place node others few (λ p later le stands. ap (λ test. if test then bad else (if is_field node.place p.form node then made_form pool p.form (end - length (drop node.inside others)) node (take node.inside others) else bad)) more)
 
-  pub set_misfit : {whole : Made} {place size index : ℕ} {nodes inside others : List Node} {node : Node} (bad : Refusal) → SetLeft whole place nodes size → StandsFirst nodes node inside others → IsNoProperty place node → index ≡ end - length nodes → bad ≡ refusal index whys.BadArgument → whole ≡ Err bad
-  set_misfit bad h first none at is = so_refused bad h.so (no_property h.few first none ∙ ap (λ k. misfit k) (sym at) ∙ ap Err (sym is))
+  pub set_misfit : {place at made mask index : ℕ} {all nodes inside others : List Node} {node : Node} {old new : List ℕ} (bad : Refusal) → SetLeft all place nodes old new at made mask → StandsFirst nodes node inside others → IsNoProperty place node → index ≡ end - length nodes → bad ≡ refusal index whys.BadArgument → made_properties pool end all ≡ Err bad
+  set_misfit bad h first none place_is is = all_refused bad h (no_property h.few first none ∙ ap (λ k. misfit k) (sym place_is) ∙ ap Err (sym is))
 
-  pub set_passing : {whole : Made} {place size index : ℕ} (nodes : List Node) (bad : Refusal) → SetLeft whole place nodes size → PassesEnd nodes → 0 < length nodes → index ≡ end - length nodes → bad ≡ refusal index whys.BadArgument → whole ≡ Err bad
-  set_passing nodes bad h passes some at is = so_refused bad h.so (passing_property nodes h.few passes some ∙ ap (λ k. misfit k) (sym at) ∙ ap Err (sym is))
+  pub set_passing : {place at made mask index : ℕ} {all : List Node} (nodes : List Node) {old new : List ℕ} (bad : Refusal) → SetLeft all place nodes old new at made mask → PassesEnd nodes → 0 < length nodes → index ≡ end - length nodes → bad ≡ refusal index whys.BadArgument → made_properties pool end all ≡ Err bad
+  set_passing nodes bad h passes some place_is is = all_refused bad h (passing_property nodes h.few passes some ∙ ap (λ k. misfit k) (sym place_is) ∙ ap Err (sym is))
 
-  pub no_set : (place : ℕ) (ps : List Property) → place + length ps < 254 → made_set pool end place ps [] ≡ Ok []
-  unfolding made_set
-  no_set place [] few = refl
-  no_set place (p ∷ ps) few = ap (λ k. made_set pool end k ps []) (next_is place (omega (arith, few))) ∙ no_set (place + 1) ps (omega (arith, few))
-
-  pub set_ends : {whole : Made} {place size : ℕ} (nodes : List Node) → SetLeft whole place nodes size → length nodes ≡ 0 → IsMeasured whole size
-  set_ends {whole} {place} [] h none = so_ends h.so (no_set place (drop place properties) (omega (arith, h.few, length-drop place properties, properties_few)))
-  set_ends (node ∷ nodes) h none = absurd (omega (arith, none))
+  pub set_ends : {place at first made mask head total : ℕ} {all : List Node} (nodes : List Node) {old mid new : List ℕ} → SetLeft all place nodes old mid first made mask → length nodes ≡ 0 → first ≡ cut_long (at + 2) → ArePut mid new at (number_bytes bytes2 mask) head → total ≡ cut_long (head + made) → Gives (made_properties pool end all) old new at total
+  unfolding made_properties
+  set_ends {place} {at} {first} {made} {mask} {head} {total} {all} [] {old} {mid} {new} h none there front sum =
+      let rest_none : made_set pool end place (drop place properties) [] ≡ Ok [] = no_set place (drop place properties) (omega (arith, h.few, length-drop place properties, properties_few)) in
+      let mask_is : mask ≡ mask_of properties (set_at 0 properties all) = omega (arith, h.mask_is, no_mask place (drop place properties)) in
+      let later = ends h.onward rest_none in
+      let two : ArePut mid new at (number_bytes bytes2 mask) 2 = subst (λ k. ArePut mid new at (number_bytes bytes2 mask) k) front.count_is front in
+      let begun : ArePut mid new at (number_bytes bytes2 (mask_of properties (set_at 0 properties all))) 2 = subst (λ k. ArePut mid new at (number_bytes bytes2 k) 2) mask_is two in
+      record {
+        bytes = number_bytes bytes2 (mask_of properties (set_at 0 properties all)) ++ later.bytes;
+        is = ap (after (Ok (number_bytes bytes2 (mask_of properties (set_at 0 properties all))))) later.is;
+        are_put = before_put later.are_put there begun refl (sum ∙ ap (λ k. cut_long (k + made)) front.count_is);
+      }
+  set_ends (node ∷ nodes) h none there front sum = absurd (omega (arith, none))

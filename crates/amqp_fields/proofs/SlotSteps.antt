@@ -1,6 +1,8 @@
 -- What fields and properties are listed as, one after another.
-use Rattle.std.proofs.Common.{Bor, ◌≡◌, ℕ, zero, suc, ◌+◌, ◌-◌, ◌<◌, ◌≤◌, Bool, true, false, List, [], ◌∷◌, ◌++◌, length, get_or, drop, map, sym, ap, subst, ◌∙◌, arith}
+use Rattle.std.proofs.Common.{Bor, ◌≡◌, ℕ, zero, suc, ◌+◌, ◌-◌, ◌/◌, ◌<◌, ◌≤◌, eqb, Bool, List, [], ◌∷◌, ◌++◌, length, get_or, drop, refl, sym, ap, ap₂, subst, ◌∙◌, arith}
 use Rattle.std.proofs.lemmas.Bool.Decides.{nat_tests}
+use Rattle.std.specs.Int.{bit_at}
+use Rattle.std.proofs.lemmas.Nat.Bits.{bit_at-suc}
 use Rattle.amqp_types.specs.Judging.{Judged, Judge, took, past, fault, ◌>>=◌}
 use Rattle.amqp_types.specs.Flags.{bit_of, flag_at, flags_from}
 use Rattle.amqp_types.specs.Numbers.{bytes2, judge_number}
@@ -11,13 +13,13 @@ use Rattle.amqp_types.specs.Tidiness.{used_by}
 use Rattle.amqp_canonical.specs.declared.shapes.Form.{Form}
 use Rattle.amqp_canonical.specs.declared.shapes.Slot.{Slot}
 use Rattle.amqp_canonical.specs.declared.shapes.Slot.TheVariants as slots
-use Rattle.amqp_canonical.specs.Shapes.{form_of, property_of, slot_of, slots_of}
+use Rattle.amqp_canonical.specs.Shapes.{form_of, slot_of, slots_of}
 use Rattle.amqp_canonical.specs.Writes.{IsRead}
 use Rattle.amqp_fields.specs.declared.node.Node.{Node}
 use Rattle.amqp_fields.specs.declared.listing.Step.{Step}
 use Rattle.amqp_fields.specs.Nodes.{numbered}
 use Rattle.amqp_fields.specs.Listing.{Grows, listing}
-use Rattle.amqp_fields.specs.Listed.{kept_count, listed_bits, listed_form, listed_option, listed_properties, listed_set, listed_slot, listed_slots, next_place, placed}
+use Rattle.amqp_fields.specs.Listed.{field_count, kept_count, listed_bits, listed_form, listed_properties, listed_set, listed_slot, listed_slots, next_place, placed}
 use Rattle.amqp_fields.specs.Finding.{Counts, Lists}
 use Rattle.amqp_fields.proofs.Pushing.{grows_more, grows_none}
 
@@ -27,14 +29,24 @@ pub no_bits : (place flags k byte count : ℕ) (old : List Node) → flags ≡ 0
 no_bits place zero k byte count old h = grows_none (listing old count)
 no_bits place (suc flags) k byte count old h = absurd (omega arith)
 
-pub bits_more : (place next flags k byte count more total : ℕ) (node : Node) (old mid new : List Node) → 0 < flags → node ≡ numbered (placed place (flags_form 1)) (bit_of (flag_at byte k)) → next ≡ next_place place 1 → Grows (listing old count) (listing mid more) (node ∷ [])
-    → Grows (listing mid more) (listing new total) (listed_bits next (flags_from (flags - 1) (k + 1) byte)) → Grows (listing old count) (listing new total) (listed_bits place (flags_from flags k byte))
-bits_more place next zero k byte count more total node old mid new some is e one h = absurd (omega arith)
-bits_more place next (suc flags) k byte count more total node old mid new some is e one h =
-    let P : ℕ → Type 0 = λ p. Grows (listing mid more) (listing new total) (listed_bits p (flags_from (suc flags - 1) (k + 1) byte)) in
-    let Q : ℕ → Type 0 = λ n. Grows (listing mid more) (listing new total) (listed_bits (next_place place 1) (flags_from n (k + 1) byte)) in
+-- from a bit on, and by the half from the bit before it on
+shifted : (count k byte : ℕ) → flags_from count (k + 1) byte ≡ flags_from count k (byte / 2)
+shifted zero k byte = refl
+shifted (suc count) k byte =
+    let bit : bit_at byte (k + 1) ≡ bit_at (byte / 2) k = ap (bit_at byte) {x = k + 1} {y = suc k} (omega arith) ∙ bit_at-suc byte k in
+    ap₂ (λ (f : Bool) (fs : List Bool). f ∷ fs) (ap (λ n. eqb n 1) bit) (shifted count (k + 1) byte)
+
+pub bits_more : (place next flags byte half count more total : ℕ) (node : Node) (old mid new : List Node) → 0 < flags → node ≡ numbered (placed place (flags_form 1)) (bit_of (flag_at byte 0)) → next ≡ next_place place 1 → half ≡ byte / 2 → Grows (listing old count) (listing mid more) (node ∷ [])
+    → Grows (listing mid more) (listing new total) (listed_bits next (flags_from (flags - 1) 0 half)) → Grows (listing old count) (listing new total) (listed_bits place (flags_from flags 0 byte))
+bits_more place next zero byte half count more total node old mid new some is e by one h = absurd (omega arith)
+bits_more place next (suc flags) byte half count more total node old mid new some is e by one h =
+    let P : ℕ → Type 0 = λ p. Grows (listing mid more) (listing new total) (listed_bits p (flags_from (suc flags - 1) 0 half)) in
+    let Q : ℕ → Type 0 = λ n. Grows (listing mid more) (listing new total) (listed_bits (next_place place 1) (flags_from n 0 half)) in
+    let S : ℕ → Type 0 = λ b. Grows (listing mid more) (listing new total) (listed_bits (next_place place 1) (flags_from flags 0 b)) in
+    let T : List Bool → Type 0 = λ fs. Grows (listing mid more) (listing new total) (listed_bits (next_place place 1) fs) in
     let R : Node → Type 0 = λ x. Grows (listing old count) (listing mid more) (x ∷ []) in
-    grows_more (listing old count) (listing mid more) (listing new total) (numbered (placed place (flags_form 1)) (bit_of (flag_at byte k)) ∷ []) (listed_bits (next_place place 1) (flags_from flags (k + 1) byte)) (subst R is one) (subst Q {x = suc flags - 1} {y = flags} (omega arith) (subst P e h))
+    let others = subst T (sym (shifted flags 0 byte)) (subst S by (subst Q {x = suc flags - 1} {y = flags} (omega arith) (subst P e h))) in
+    grows_more (listing old count) (listing mid more) (listing new total) (numbered (placed place (flags_form 1)) (bit_of (flag_at byte 0)) ∷ []) (listed_bits (next_place place 1) (flags_from flags (0 + 1) byte)) (subst R is one) others
 
 -- ---- one field
 
@@ -63,7 +75,7 @@ second (took others n) added used old mid new count more total one h = grows_mor
 second past added used old mid new count more total one h = tt
 second (fault bad) added used old mid new count more total one h = tt
 
-first : (j : Judged (List Node)) (others : Judge (List Node)) (i rest : List ℕ) (old mid new : List Node) (count total : ℕ) (step : Step) → Lists j old count mid step → rest ≡ drop step.used i → Counts (others rest) mid step.count new total
+pub first : (j : Judged (List Node)) (others : Judge (List Node)) (i rest : List ℕ) (old mid new : List Node) (count total : ℕ) (step : Step) → Lists j old count mid step → rest ≡ drop step.used i → Counts (others rest) mid step.count new total
     → Counts (j >>= λ x. others (drop x.1 i) >>= λ y. took (x.0 ++ y.0) (x.1 + y.1)) old count new total
 first past others i rest old mid new count total step one e h = tt
 first (fault bad) others i rest old mid new count total step one e h = tt
@@ -84,38 +96,35 @@ slots_listed deep end place next (shape ∷ shapes) other i rest old mid new cou
     let P : ℕ → Type 0 = λ p. Counts (listed_slots deep end p (slots_of shapes) rest) mid step.count new total in
     first (listed_slot deep end place (slot_of shape) i) (listed_slots deep end (next_place place (kept_count (slot_of shape))) (slots_of shapes)) i rest old mid new count total step one behind (subst P e h)
 
+pub place_stays : (place : ℕ) → place < 256 → place ≡ next_place place 0
+place_stays place small = grind (arith, nat_tests)
+
+pub reserved_first : (deep : Bool) (end place : ℕ) (shapes : List Slot) (other : Slot) (form : Form) (constant : Bor (List ℕ)) (i rest : List ℕ) (old new : List Node) (count total n : ℕ) → 1 ≤ length shapes → get_or shapes 0 other ≡ slots.Reserved form constant → place < 256 → (IsRead (judge_form (form_of form) i) → n ≡ used_by (judge_form (form_of form) i))
+    → rest ≡ drop n i → Counts (listed_slots deep end place (slots_of (drop 1 shapes)) rest) old count new total → Counts (listed_slots deep end place (slots_of shapes) i) old count new total
+reserved_first deep end place shapes other form constant i rest old new count total n some is small size e h =
+    let P : Slot → Type 0 = λ s. place ≡ next_place place (kept_count (slot_of s)) in
+    slots_listed deep end place place shapes other i rest old old new count total (record { used = n; count = count }) some (reserved_listed deep end place (get_or shapes 0 other) form constant i old count n is size) (subst P (sym is) (place_stays place small)) e h
+
+pub kept_first : (deep : Bool) (end place next : ℕ) (shapes : List Slot) (other : Slot) (form : Form) (i rest : List ℕ) (old mid new : List Node) (count total : ℕ) (step : Step) → 1 ≤ length shapes → get_or shapes 0 other ≡ slots.Kept form → Lists (listed_form deep end place (form_of form) i) old count mid step
+    → next ≡ next_place place (field_count (form_of form)) → rest ≡ drop step.used i → Counts (listed_slots deep end next (slots_of (drop 1 shapes)) rest) mid step.count new total → Counts (listed_slots deep end place (slots_of shapes) i) old count new total
+kept_first deep end place next shapes other form i rest old mid new count total step some is one after e h =
+    let P : Slot → Type 0 = λ s. next ≡ next_place place (kept_count (slot_of s)) in
+    slots_listed deep end place next shapes other i rest old mid new count total step some (kept_listed deep end place (get_or shapes 0 other) form i old mid count step is one) (subst P (sym is) after) e h
+
 -- ---- properties
 
 pub next_is : (place n : ℕ) → 0 < n → place + n < 256 → place + 1 ≡ next_place place 1
 next_is place n some few = grind (arith, nat_tests)
 
-pub no_options : (mask : ℕ) (deep : Bool) (end place : ℕ) (shapes : List (ℕ × Form)) (i : List ℕ) (old : List Node) (count : ℕ) → length shapes < 1 → Counts (listed_set mask deep end place (map property_of shapes) i) old count old count
-unfolding listed_set
-no_options mask deep end place [] i old count h = grows_none (listing old count)
-no_options mask deep end place (shape ∷ shapes) i old count h = absurd (omega arith)
-
-skipped : (j : Judged (List Node)) (old new : List Node) (count total : ℕ) → Counts j old count new total → Counts (j >>= λ y. took ([] ++ y.0) (0 + y.1)) old count new total
+pub skipped : (j : Judged (List Node)) (old new : List Node) (count total : ℕ) → Counts j old count new total → Counts (j >>= λ y. took ([] ++ y.0) (0 + y.1)) old count new total
 skipped (took added n) old new count total h = h
 skipped past old new count total h = tt
 skipped (fault bad) old new count total h = tt
 
-pub option_past : (mask : ℕ) (deep : Bool) (end place next : ℕ) (shapes : List (ℕ × Form)) (other : ℕ × Form) (i : List ℕ) (old new : List Node) (count total : ℕ) → 1 ≤ length shapes → flag_at mask (get_or shapes 0 other).0 ≡ false → next ≡ next_place place 1
-    → Counts (listed_set mask deep end next (map property_of (drop 1 shapes)) i) old count new total → Counts (listed_set mask deep end place (map property_of shapes) i) old count new total
-unfolding listed_set listed_option
-option_past mask deep end place next [] other i old new count total some off e h = absurd (omega arith)
-option_past mask deep end place next (shape ∷ shapes) other i old new count total some off e h =
-    let P : Bool → Type 0 = λ b. Counts (listed_option b deep end place (form_of shape.1) i >>= λ x. listed_set mask deep end (next_place place 1) (map property_of shapes) (drop x.1 i) >>= λ y. took (x.0 ++ y.0) (x.1 + y.1)) old count new total in
-    let Q : ℕ → Type 0 = λ p. Counts (listed_set mask deep end p (map property_of shapes) i) old count new total in
-    subst P (sym off) (skipped (listed_set mask deep end (next_place place 1) (map property_of shapes) i) old new count total (subst Q e h))
-
-pub option_listed : (mask : ℕ) (deep : Bool) (end place next : ℕ) (shapes : List (ℕ × Form)) (other : ℕ × Form) (i rest : List ℕ) (old mid new : List Node) (count total : ℕ) (step : Step) → 1 ≤ length shapes → flag_at mask (get_or shapes 0 other).0 ≡ true → next ≡ next_place place 1
-    → Lists (listed_form deep end place (form_of (get_or shapes 0 other).1) i) old count mid step → rest ≡ drop step.used i → Counts (listed_set mask deep end next (map property_of (drop 1 shapes)) rest) mid step.count new total → Counts (listed_set mask deep end place (map property_of shapes) i) old count new total
-unfolding listed_set listed_option
-option_listed mask deep end place next [] other i rest old mid new count total step some on e one behind h = absurd (omega arith)
-option_listed mask deep end place next (shape ∷ shapes) other i rest old mid new count total step some on e one behind h =
-    let P : Bool → Type 0 = λ b. Counts (listed_option b deep end place (form_of shape.1) i >>= λ x. listed_set mask deep end (next_place place 1) (map property_of shapes) (drop x.1 i) >>= λ y. took (x.0 ++ y.0) (x.1 + y.1)) old count new total in
-    let Q : ℕ → Type 0 = λ p. Counts (listed_set mask deep end p (map property_of shapes) rest) mid step.count new total in
-    subst P (sym on) (first (listed_form deep end place (form_of shape.1) i) (listed_set mask deep end (next_place place 1) (map property_of shapes)) i rest old mid new count total step one behind (subst Q e h))
+pub unskipped : (j : Judged (List Node)) (old new : List Node) (count total : ℕ) → Counts (j >>= λ y. took ([] ++ y.0) (0 + y.1)) old count new total → Counts j old count new total
+unskipped (took added n) old new count total h = h
+unskipped past old new count total h = tt
+unskipped (fault bad) old new count total h = tt
 
 counted : (j : Judged (List Node)) (old new : List Node) (n count total : ℕ) → Counts j old count new total → Counts (j >>= λ y. took y.0 (n + y.1)) old count new total
 counted (took added k) old new n count total h = h

@@ -3,9 +3,9 @@ use Rattle.std.proofs.Common.{◌≡◌, ℕ, ◌+◌, ◌-◌, ◌≤◌, ◌<�
 use Rattle.std.specs.Prelude.{nat_lt}
 use Rattle.std.specs.Str.{is_utf8}
 use Rattle.std.proofs.lemmas.Bool.Decides.{nat_tests}
-use Rattle.std.proofs.lemmas.List.{length-take-le}
+use Rattle.std.proofs.lemmas.List.{length-drop, length-take-le}
 use Rattle.amqp_types.proofs.Took.{guard_took, test_took, value_took, count_took}
-use Rattle.amqp_types.specs.Judging.{Judged, took, past, fault, not_utf8, ◌>>=◌}
+use Rattle.amqp_types.specs.Judging.{Judge, Judged, took, past, fault, not_utf8, ◌>>=◌}
 use Rattle.amqp_types.specs.Strings.{judge_short_string, judge_long_string}
 use Rattle.amqp_canonical.specs.Writes.{IsRead, key_in, after_key}
 use Rattle.amqp_fields.specs.declared.node.Node.{Node}
@@ -14,6 +14,7 @@ use Rattle.amqp_fields.specs.Nodes.{spanned}
 use Rattle.amqp_fields.specs.Listing.{Grows, listing}
 use Rattle.amqp_fields.specs.Listed.{listed_span, end_before}
 use Rattle.amqp_fields.specs.Finding.{Lists}
+use Rattle.amqp_fields.proofs.Spans.{long_part}
 
 -- what a short string is that was read
 pub record IsKey (i key : List ℕ) (used : ℕ) : Type 0 where
@@ -73,18 +74,22 @@ short_listed end label node i text rest at count more old new is after place one
         let it : node ≡ spanned label (end_before end (drop n i)) key = one ∙ ap (λ e. spanned label e text) (place ∙ ap (λ (xs : List ℕ). end - length xs) behind) ∙ ap (spanned label (end_before end (drop n i))) same in
         (omega (arith, k.used_is, ap length same), subst (λ (x : Node). Grows (listing old count) (listing new more) (x ∷ [])) it h)
 
-pub long_listed : (end : ℕ) (label node : Node) (i content rest : List ℕ) (used at count more : ℕ) (old new : List Node) → judge_long_string i ≡ took content used → rest ≡ drop used i → at ≡ end - length rest → node ≡ spanned label at content
+pub long_size : (i content : List ℕ) (used : ℕ) → judge_long_string i ≡ took content used → used ≡ 4 + length content
+long_size i content used h = let part = long_part i content used h in part.used_is
+
+pub long_listed : (end : ℕ) (label node : Node) (i content : List ℕ) (used count more : ℕ) (old new : List Node) → judge_long_string i ≡ took content used → node ≡ spanned label (end - (length i - (4 + length content))) content
     → Grows (listing old count) (listing new more) (node ∷ []) → Lists (listed_span judge_long_string end label i) old count new (record { used = used; count = more })
 unfolding listed_span
-long_listed end label node i content rest used at count more old new is behind place one h =
+long_listed end label node i content used count more old new is one h =
     let P : Judged (List ℕ) → Type 0 = λ j. Lists (j >>= λ x. took (spanned label (end_before end (drop x.1 i)) x.0 ∷ []) x.1) old count new (record { used = used; count = more }) in
-    let it : node ≡ spanned label (end_before end (drop used i)) content = one ∙ ap (λ e. spanned label e content) (place ∙ ap (λ (xs : List ℕ). end - length xs) behind) in
+    let place : end - (length i - (4 + length content)) ≡ end_before end (drop used i) = omega (arith, long_size i content used is, length-drop used i) in
+    let it : node ≡ spanned label (end_before end (drop used i)) content = one ∙ ap (λ e. spanned label e content) place in
     subst P (sym is) (refl, subst (λ (x : Node). Grows (listing old count) (listing new more) (x ∷ [])) it h)
 
 -- where nothing was read, nothing needs to be listed
-pub unlisted : (end : ℕ) (label : Node) (i : List ℕ) (old new : List Node) (count : ℕ) (step : Step) → (IsRead (judge_long_string i) → ⊥) → Lists (listed_span judge_long_string end label i) old count new step
+pub unlisted : (judge : Judge (List ℕ)) (end : ℕ) (label : Node) (i : List ℕ) (old new : List Node) (count : ℕ) (step : Step) → (IsRead (judge i) → ⊥) → Lists (listed_span judge end label i) old count new step
 unfolding listed_span
-unlisted end label i old new count step h = by_cases (judge_long_string i) h
+unlisted judge end label i old new count step h = by_cases (judge i) h
   where
     by_cases : (j : Judged (List ℕ)) → (IsRead j → ⊥) → Lists (j >>= λ x. took (spanned label (end_before end (drop x.1 i)) x.0 ∷ []) x.1) old count new step
     by_cases past h = tt

@@ -6,6 +6,7 @@ pub mod Listing
 pub mod Listed
 pub mod Counting
 pub mod Finding
+pub mod Decoding
 pub mod Reading
 pub mod Laws
 pub mod Contents

@@ -33,22 +33,6 @@ abbrev pub Makes : {E : Type 0} → Result (List ℕ) E → List ℕ → List �
 Makes made old new at (Ok count) = Gives made old new at count
 Makes made old new at (Err bad) = made ≡ Err bad
 
--- these bytes were made, and counted
-pub record IsMeasured {E : Type 0} (made : Result (List ℕ) E) (count : ℕ) : Type 0 where
-  pub bytes : List ℕ
-  pub is : made ≡ Ok bytes
-  pub count_is : count ≡ cut_long (length bytes)
-
--- how many bytes were made, or the refusal
-abbrev pub Measures : {E : Type 0} → Result (List ℕ) E → Result ℕ E → Type 0
-Measures made (Ok count) = IsMeasured made count
-Measures made (Err bad) = made ≡ Err bad
-
--- What was made was put at a place, and the place after it is returned: where nothing is refused, and the buffer has room.
-pub record Sets {E : Type 0} (made : Result (List ℕ) E) (old new : List ℕ) (at next : ℕ) : Type 0 where
-  pub same_length : length new ≡ length old
-  pub put : (bytes : List ℕ) → made ≡ Ok bytes → length old < 2 ^ 64 → at + length bytes ≤ length old → (new ≡ written old at bytes) × (next ≡ at + length bytes)
-
 -- a length was put in front of so many bytes, and both are counted
 pub record IsClosed (length : ℕ) (old new : List ℕ) (at count : ℕ) : Type 0 where
   pub fits : length < 2 ^ 32
@@ -59,10 +43,6 @@ pub record IsClosed (length : ℕ) (old new : List ℕ) (at count : ℕ) : Type 
 abbrev pub Closes : ℕ → ℕ → List ℕ → List ℕ → ℕ → Result ℕ Refusal → Type 0
 Closes node length old new at (Ok count) = IsClosed length old new at count
 Closes node length old new at (Err bad) = (2 ^ 32 ≤ length) × (bad ≡ refusal node whys.TooLong)
-
--- bytes were put at a place, where the buffer has room for them
-abbrev pub Places : List ℕ → List ℕ → ℕ → List ℕ → ℕ → Type 0
-Places old new at bytes next = Sets {E = Refusal} (Ok bytes) old new at next
 
 -- the node is this property, at a place or after it
 pub record IsProperty (place : ℕ) (node : Node) (p : Property) : Type 0 where
@@ -75,11 +55,6 @@ pub record IsProperty (place : ℕ) (node : Node) (p : Property) : Type 0 where
 -- it is none of them
 abbrev pub IsNoProperty : ℕ → Node → Type 0
 IsNoProperty place node = (p : Property) (later : List Property) → place ≤ node.place → drop node.place properties ≡ p ∷ later → is_field node.place p.form node ≡ false
-
--- a length of 4 bytes in front of so many, all counted; or 4 bytes do not hold it
-abbrev pub ClosesMeasured : ℕ → ℕ → Result ℕ Refusal → Type 0
-ClosesMeasured node length (Ok count) = (length < 2 ^ 32) × (count ≡ length + 4)
-ClosesMeasured node length (Err bad) = (2 ^ 32 ≤ length) × (bad ≡ refusal node whys.TooLong)
 
 -- the byte of some flags, which has no other bits
 pub record IsFlagsByte (read : Result (List Bool) Refusal) (count byte : ℕ) : Type 0 where

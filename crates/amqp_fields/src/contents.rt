@@ -14,14 +14,26 @@ use amqp_canonical::{bytes_from, judge_value};
 use amqp_types::{INNER_DEPTH, ParserError, are_bytes, parse_short_str};
 use std::str;
 
-/// Whether bytes are UTF-8.
-pub(crate) fn is_text(bytes: &[u8]) -> bool
+/// Whether bytes that are not all ASCII are UTF-8.
+#[inline(never)]
+fn is_utf8_text(bytes: &[u8]) -> bool
     ensures { result ≡ is_utf8 bytes.now }
 {
     match str::from_utf8(bytes) {
         Ok(_) => true,
         Err(_) => false,
     }
+}
+
+/// Whether bytes are UTF-8, which ASCII is.
+#[inline(always)]
+pub(crate) fn is_text(bytes: &[u8]) -> bool
+    ensures { result ≡ is_utf8 bytes.now }
+{
+    if bytes.is_ascii() {
+        return true;
+    }
+    is_utf8_text(bytes)
 }
 
 /// Decodes an entry at the front, in whose value tables and arrays may nest `depth_left` deep, and returns how many bytes it

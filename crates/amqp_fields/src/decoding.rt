@@ -1,12 +1,13 @@
 //! Whole payloads decoded: at which levels they are encoded, and the nodes of their fields.
 
-ghost use Rattle.std.specs.Prelude.{◌≡◌, None, Ok, Err, IfSome, IfOk, IfErr};
+ghost use Rattle.std.specs.Prelude.{◌≡◌, ◌≤◌, length, None, Ok, IfSome};
 ghost use Rattle.amqp_types.specs.Methods.{judge_payload, payload_bytes};
 ghost use Rattle.amqp_types.specs.Tidiness.{is_tidy_payload};
 ghost use Rattle.amqp_wire.specs.Frames.{raw_of};
-ghost use Rattle.amqp_wire.specs.Judgements.{JudgesAll, JudgesFrame};
+ghost use Rattle.amqp_wire.specs.Judgements.{JudgesAll};
 ghost use Rattle.amqp_fields.specs.Finding.{Counts};
-ghost use Rattle.amqp_fields.specs.Listed.{listed_method, listed_payload};
+ghost use Rattle.amqp_fields.specs.Decoding.{Decodes};
+ghost use Rattle.amqp_fields.specs.Listed.{listed_method};
 
 use crate::fields::list_slots;
 use crate::node::Node;
@@ -35,6 +36,7 @@ fn decode_method(
     end: u32,
     payload: &[u8],
 ) -> Option<Decoded>
+    requires within { length payload.now ≤ end }
     ensures judged { IfSome result (λ found. JudgesAll judge_payload payload_bytes is_tidy_payload payload.now (Ok found.judged)) }
     ensures counts { IfSome result (λ found. Counts (listed_method deep end payload.now) nodes.old count nodes.new found.count) }
     ensures none { result ≡ None → nodes.new ≡ nodes.old }
@@ -74,10 +76,8 @@ fn decode_any(
     deep: bool,
     end: u32,
 ) -> Result<Decoded, ParserError>
-    ensures judged { IfOk result (λ found. JudgesFrame (raw_of raw.entry) (Ok found.judged)) }
-    ensures counts { IfOk result (λ found. Counts (listed_payload raw.entry.frame_type deep end raw.entry.payload.now) nodes.old count nodes.new found.count) }
-    ensures fault { IfErr result (λ error. JudgesFrame (raw_of raw.entry) (Err error)) }
-    ensures kept { IfErr result (λ error. nodes.new ≡ nodes.old) }
+    requires within { length raw.payload.now ≤ end }
+    ensures { Decodes (raw_of raw.entry) deep end nodes.old count nodes.new result }
 {
     match judge_frame(raw) {
         Ok(judged) => {
@@ -98,10 +98,8 @@ fn decode_faulty(
     deep: bool,
     end: u32,
 ) -> Result<Decoded, ParserError>
-    ensures judged { IfOk result (λ found. JudgesFrame (raw_of raw.entry) (Ok found.judged)) }
-    ensures counts { IfOk result (λ found. Counts (listed_payload raw.entry.frame_type deep end raw.entry.payload.now) nodes.old count nodes.new found.count) }
-    ensures fault { IfErr result (λ error. JudgesFrame (raw_of raw.entry) (Err error)) }
-    ensures kept { IfErr result (λ error. nodes.new ≡ nodes.old) }
+    requires within { length raw.payload.now ≤ end }
+    ensures { Decodes (raw_of raw.entry) deep end nodes.old count nodes.new result }
 {
     decode_any(raw, nodes, count, deep, end)
 }
@@ -117,10 +115,8 @@ pub(crate) fn decode(
     deep: bool,
     end: u32,
 ) -> Result<Decoded, ParserError>
-    ensures judged { IfOk result (λ found. JudgesFrame (raw_of raw.entry) (Ok found.judged)) }
-    ensures counts { IfOk result (λ found. Counts (listed_payload raw.entry.frame_type deep end raw.entry.payload.now) nodes.old count nodes.new found.count) }
-    ensures fault { IfErr result (λ error. JudgesFrame (raw_of raw.entry) (Err error)) }
-    ensures kept { IfErr result (λ error. nodes.new ≡ nodes.old) }
+    requires within { length raw.payload.now ≤ end }
+    ensures { Decodes (raw_of raw.entry) deep end nodes.old count nodes.new result }
 {
     match raw.frame_type {
         AMQPFrameType::Method => {

@@ -1,15 +1,16 @@
 //! The nodes of the fields of methods and of the properties of messages.
 
-ghost use Rattle.std.specs.Prelude.{◌≡◌, ◌<◌, ◌+◌, length, map};
+ghost use Rattle.std.specs.Prelude.{◌≡◌, ◌≤◌, ◌<◌, ◌+◌, length};
 ghost use Rattle.amqp_types.specs.Flags.{bit_of, flag_at, flags_from, judge_flags};
 ghost use Rattle.amqp_types.specs.Sequences.{judge_map};
-ghost use Rattle.amqp_canonical.specs.Shapes.{form_of, property_of, slot_of, slots_of};
+ghost use Rattle.amqp_canonical.specs.Shapes.{form_of, slot_of, slots_of};
+ghost use Rattle.amqp_types.specs.Properties.{properties};
 ghost use Rattle.amqp_types.specs.Slots.{flags_form};
 ghost use Rattle.amqp_fields.specs.Kinds.{kind_of};
 ghost use Rattle.amqp_fields.specs.Nodes.{numbered};
 ghost use Rattle.amqp_fields.specs.Listing.{Grows, listing};
 ghost use Rattle.amqp_fields.specs.Finding.{Counts, Lists};
-ghost use Rattle.amqp_fields.specs.Listed.{kept_count, listed_bits, listed_form, listed_properties, listed_set, listed_slot, listed_slots, next_place, placed};
+ghost use Rattle.amqp_fields.specs.Listed.{field_count, kept_count, listed_bits, listed_form, listed_properties, listed_set, listed_slots, next_place, placed};
 
 use crate::listing::{Step, push};
 use crate::node::{FLAG, LONG, LONG_LONG, LONG_STRING, Node, OCTET, SHORT, SHORT_STRING, TABLE};
@@ -57,42 +58,42 @@ fn placed(place: u8, form: Form) -> Node
     }
 }
 
-/// A flag at a place, which is this bit of a byte.
+/// A flag at a place: the lowest bit of a byte.
 #[inline(always)]
-fn bit(place: u8, byte: u8, k: u8) -> Node
-    ensures { result ≡ numbered (placed place (flags_form 1)) (bit_of (flag_at byte k)) }
+fn bit(place: u8, byte: u8) -> Node
+    ensures { result ≡ numbered (placed place (flags_form 1)) (bit_of (flag_at byte 0)) }
 {
     let node = placed(place, Form::Flags(1));
-    if has_bit(byte as u16, k as u16) {
+    if has_bit(byte as u16, 0) {
         Node { number: 1, ..node }
     } else {
         Node { number: 0, ..node }
     }
 }
 
-/// So many flags of a byte from bit `k` on, at places from one on.
-#[tactic(auto, using(crate::proofs::SlotSteps::no_bits, crate::proofs::SlotSteps::bits_more))]
-fn list_bits(nodes: &mut [Node], count: u32, place: u8, byte: u8, k: u8, flags: u8) -> u32
-    requires few { k + flags < 256 }
-    ensures { Grows (listing nodes.old count) (listing nodes.new result) (listed_bits place (flags_from flags k byte)) }
+/// So many flags of a byte from its lowest bit on, at places from one on.
+#[tactic(auto, using(crate::proofs::SlotSteps::no_bits))]
+fn list_bits(nodes: &mut [Node], count: u32, place: u8, byte: u8, flags: u8) -> u32
+    ensures { Grows (listing nodes.old count) (listing nodes.new result) (listed_bits place (flags_from flags 0 byte)) }
 {
     if flags == 0 {
         return count;
     }
-    let more = push(nodes, count, bit(place, byte, k));
-    list_bits(nodes, more, further(place, 1), byte, k + 1, flags - 1)
+    let more = push(nodes, count, bit(place, byte));
+    list_bits(nodes, more, further(place, 1), byte >> 1, flags - 1)
 }
 
 /// So many flags of a byte, at places from one on.
 #[inline(always)]
 #[tactic(auto, unfolding(amqp_types::specs::Flags::judge_flags))]
 fn list_flags(nodes: &mut [Node], count: u32, place: u8, flags: u8, i: &[u8]) -> Step
-    ensures { Lists (judge_map (listed_bits place) (judge_flags flags) i.now) nodes.old count nodes.new result }
+    ensures listed { Lists (judge_map (listed_bits place) (judge_flags flags) i.now) nodes.old count nodes.new result }
+    ensures used { result.used ≤ length i.now }
 {
     match i {
         [byte, ..] => Step {
             used: 1,
-            count: list_bits(nodes, count, place, *byte, 0, flags),
+            count: list_bits(nodes, count, place, *byte, flags),
         },
         [] => Step { used: 0, count },
     }
@@ -110,7 +111,9 @@ fn list_form(
     form: Form,
     i: &[u8],
 ) -> Step
-    ensures { Lists (listed_form deep end place (form_of form) i.now) nodes.old count nodes.new result }
+    requires within { length i.now ≤ end }
+    ensures listed { Lists (listed_form deep end place (form_of form) i.now) nodes.old count nodes.new result }
+    ensures used { result.used ≤ length i.now }
 {
     let label = placed(place, form);
     match form {
@@ -131,42 +134,29 @@ fn list_form(
     }
 }
 
+/// How many fields stand in what is encoded so.
+#[inline(always)]
+fn field_count(form: Form) -> u8
+    ensures { result ≡ field_count (form_of form) }
+{
+    match form {
+        Form::Flags(flags) => flags,
+        _ => 1,
+    }
+}
+
 /// How many fields stand in what is encoded so, reserved ones not counted.
 pub(crate) fn kept_count(slot: Slot) -> u8
     ensures { result ≡ kept_count (slot_of slot) }
 {
     match slot {
-        Slot::Kept(Form::Flags(flags)) => flags,
-        Slot::Kept(_) => 1,
+        Slot::Kept(form) => field_count(form),
         Slot::Reserved(_, _) => 0,
     }
 }
 
-/// A field, or nothing where it is reserved.
-#[inline(always)]
-#[tactic(auto, using(crate::proofs::SlotSteps::reserved_listed, crate::proofs::SlotSteps::kept_listed))]
-fn list_slot(
-    nodes: &mut [Node],
-    count: u32,
-    deep: bool,
-    end: u32,
-    place: u8,
-    slot: Slot,
-    i: &[u8],
-) -> Step
-    ensures { Lists (listed_slot deep end place (slot_of slot) i.now) nodes.old count nodes.new result }
-{
-    match slot {
-        Slot::Reserved(form, _) => Step {
-            used: form_size(form, i),
-            count,
-        },
-        Slot::Kept(form) => list_form(nodes, count, deep, end, place, form, i),
-    }
-}
-
-/// Fields of these shapes, one after another, from a place on.
-#[tactic(auto, using(crate::proofs::SlotSteps::slots_listed, crate::proofs::SlotSteps::no_slots))]
+/// Fields of these shapes, one after another, from a place on. Reserved ones are passed.
+#[tactic(auto, using(crate::proofs::SlotSteps::no_slots))]
 pub(crate) fn list_slots(
     nodes: &mut [Node],
     count: u32,
@@ -176,57 +166,52 @@ pub(crate) fn list_slots(
     shapes: &[Slot],
     i: &[u8],
 ) -> u32
+    requires within { length i.now ≤ end }
     ensures { Counts (listed_slots deep end place (slots_of shapes.now) i.now) nodes.old count nodes.new result }
 {
     match shapes {
         [] => count,
-        [shape, others @ ..] => {
-            let step = list_slot(nodes, count, deep, end, place, *shape, i);
-            let place = further(place, kept_count(*shape));
-            let rest = bytes_from(i, step.used);
-            list_slots(nodes, step.count, deep, end, place, others, rest)
-        }
+        [shape, others @ ..] => match *shape {
+            Slot::Reserved(form, _) => {
+                let rest = bytes_from(i, form_size(form, i));
+                list_slots(nodes, count, deep, end, place, others, rest)
+            }
+            Slot::Kept(form) => {
+                let step = list_form(nodes, count, deep, end, place, form, i);
+                let place = further(place, field_count(form));
+                list_slots(nodes, step.count, deep, end, place, others, &i[step.used..])
+            }
+        },
     }
 }
 
-/// The properties of these bits and shapes that the mask has, from a place on.
-#[tactic(auto, using(crate::proofs::SlotSteps::option_listed, crate::proofs::SlotSteps::option_past, crate::proofs::SlotSteps::no_options))]
-fn list_set(
-    nodes: &mut [Node],
-    count: u32,
-    deep: bool,
-    end: u32,
-    place: u8,
-    mask: u16,
-    shapes: &[(u16, Form)],
-    i: &[u8],
-) -> u32
-    requires few { place + length shapes.now < 256 }
-    ensures { Counts (listed_set mask deep end place (map property_of shapes.now) i.now) nodes.old count nodes.new result }
+/// The properties that the mask has: it goes from bit to bit, from the highest on. None has bit 1 or 0.
+fn list_set(nodes: &mut [Node], count: u32, deep: bool, end: u32, mask: u16, i: &[u8]) -> u32
+    requires within { length i.now ≤ end }
+    ensures { Counts (listed_set mask deep end 0 properties i.now) nodes.old count nodes.new result }
 {
-    match shapes {
-        [] => count,
-        [shape, others @ ..] => {
-            let next = place + 1;
-            if !has_bit(mask, shape.0) {
-                return list_set(nodes, count, deep, end, next, mask, others, i);
-            }
-            let step = list_form(nodes, count, deep, end, place, shape.1, i);
-            let rest = bytes_from(i, step.used);
-            list_set(nodes, step.count, deep, end, next, mask, others, rest)
-        }
+    if mask < 4 {
+        return count;
     }
+    let bit = mask.ilog2();
+    let place = 15 - bit;
+    let form = property_shapes()[place as usize].1;
+    let step = list_form(nodes, count, deep, end, place as u8, form, i);
+    let others = mask - (1 << bit);
+    list_set(nodes, step.count, deep, end, others, &i[step.used..])
 }
 
 /// The properties that are set, out of the bytes from their mask on.
 #[tactic(auto, using(crate::proofs::SlotSteps::properties_listed, crate::proofs::Counted::shapes_few), unfolding(crate::specs::Listed::listed_properties))]
+#[inline(never)]
 pub(crate) fn list_properties(nodes: &mut [Node], count: u32, deep: bool, end: u32, i: &[u8]) -> u32
+    requires within { length i.now ≤ end }
     ensures { Counts (listed_properties deep end i.now) nodes.old count nodes.new result }
 {
     match i {
         [a, b, rest @ ..] => {
             let mask = u16::from_be_bytes([*a, *b]);
-            list_set(nodes, count, deep, end, 0, mask, property_shapes(), rest)
+            list_set(nodes, count, deep, end, mask, rest)
         }
         _ => count,
     }

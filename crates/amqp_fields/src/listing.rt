@@ -1,10 +1,10 @@
 //! A list of nodes that is filled as far as it goes, while all of them are counted.
 
-ghost use Rattle.std.specs.Prelude.{◌≡◌, ◌+◌, ◌-◌, ◌∷◌, [], set};
-ghost use Rattle.amqp_fields.specs.Nodes.{cut, held};
+ghost use Rattle.std.specs.Prelude.{◌≡◌, ◌-◌, ◌∷◌, [], get_or, set};
+ghost use Rattle.amqp_fields.specs.Nodes.{blank, cut, held};
 ghost use Rattle.amqp_fields.specs.Listing.{Grows, listing};
 
-use crate::node::Node;
+use crate::node::{Node, cut};
 
 /// Puts a node at a place, where the list has it.
 #[inline(always)]
@@ -25,7 +25,7 @@ pub(crate) fn push(nodes: &mut [Node], count: u32, node: Node) -> u32
     ensures { Grows (listing nodes.old count) (listing nodes.new result) (node ∷ []) }
 {
     put(nodes, count, node);
-    count.saturating_add(1)
+    count.wrapping_add(1)
 }
 
 /// How far a walk came.
@@ -42,29 +42,24 @@ pub(crate) struct Step {
 #[derive(Clone, Copy)]
 pub(crate) struct Filled {
     /// How many entries or values.
-    pub(crate) items: u32,
+    pub(crate) items: usize,
 
     /// How many nodes there are.
     pub(crate) count: u32,
 }
 
-/// One more entry or value, or the greatest number.
-#[inline(always)]
-pub(crate) fn one_more(items: u32) -> u32
-    ensures { result ≡ cut (items + 1) }
-{
-    items.saturating_add(1)
-}
-
 /// Says in the node of a table or an array, at its place, what fills it after the nodes that stood there when it was begun.
 #[inline(always)]
-pub(crate) fn close(nodes: &mut [Node], place: u32, begun: u32, node: Node, filled: Filled)
-    ensures { nodes.new ≡ set nodes.old place (held node (filled.count - begun) filled.items) }
+#[tactic(auto, using(crate::proofs::Pushing::set_beyond))]
+pub(crate) fn close(nodes: &mut [Node], place: u32, begun: u32, filled: Filled)
+    ensures { nodes.new ≡ set nodes.old place (held (get_or nodes.old place blank) (filled.count - begun) (cut filled.items)) }
 {
-    let node = Node {
-        inside: filled.count.saturating_sub(begun),
-        items: filled.items,
-        ..node
-    };
-    put(nodes, place, node);
+    let place = place as usize;
+    if place < nodes.len() {
+        nodes[place] = Node {
+            inside: filled.count.saturating_sub(begun),
+            items: cut(filled.items),
+            ..nodes[place]
+        };
+    }
 }

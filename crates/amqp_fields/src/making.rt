@@ -1,5 +1,5 @@
-//! Writing frames and contents that heads and nodes mean, without memory. Each is gone through twice: it is tested and
-//! measured, and then put into the caller's buffer.
+//! Writing frames and contents that heads and nodes mean, without memory. They are made where a refusal does no harm, and
+//! then stand in the caller's buffer.
 
 ghost use Rattle.std.specs.Prelude.{◌≡◌, ◌∷◌, List, None, Some, length, IfOk, IfSome};
 ghost use Rattle.amqp_types.specs.Levels.{plain};
@@ -7,19 +7,20 @@ ghost use Rattle.amqp_types.specs.Values.{Entry, FieldValue};
 ghost use Rattle.amqp_wire.specs.Frames.{Frame};
 ghost use Rattle.amqp_wire.specs.Spelling.{SpellsFrames};
 ghost use Rattle.amqp_fields.specs.MadeFrames.{made_frames};
-ghost use Rattle.amqp_fields.specs.Makes.{Measures, Sets};
+ghost use Rattle.amqp_fields.specs.Makes.{Makes};
 ghost use Rattle.amqp_fields.specs.Making.{EncodesEntries, EncodesFrames, EncodesOrIsLong, EncodesValues, SpellsEntries, SpellsValues, TellEntries, TellValues, Writes, made_entries, made_values};
 ghost use Rattle.amqp_fields.specs.Meant.{TellFrames};
 
 use crate::head::Head;
-use crate::measuring_frames::measure_frame;
-use crate::measuring_values::{measure_entries, measure_values};
+use crate::making_frames::make_frame;
+use crate::making_values::{make_entries, make_values};
 use crate::node::Node;
 use crate::putting::plus;
-use crate::putting_frames::put_frame;
-use crate::putting_values::{put_entries, put_values};
 use crate::refusals::{Refusal, WriteError};
-use amqp_types::{INNER_DEPTH, are_bytes};
+use amqp_types::{INNER_DEPTH, are_bytes, put_bytes};
+
+/// How many bytes are made beside the buffer at first, where a refusal leaves nothing. Frames that have more are made twice.
+const SCRATCH: usize = 1024;
 
 /// A refusal within the frame of a head.
 fn within(head: usize, bad: Refusal) -> WriteError
@@ -44,56 +45,35 @@ fn first_head(heads: &[Head]) -> Option<(Head, &[Head])>
     }
 }
 
-/// How many bytes frames have, one after another, or the greatest number.
-fn measure_frames(
-    pool: &[u8],
-    nodes: &[Node],
-    heads: &[Head],
-    max_payload: u32,
-) -> Result<usize, WriteError>
-    ensures { Measures (made_frames pool.now nodes.now max_payload 0 heads.now) result }
-{
-    let mut rest = heads;
-    let mut size = 0;
-    while !rest.is_empty() {
-        let (head, others) = match first_head(rest) {
-            Some(found) => found,
-            None => return Ok(size),
-        };
-        match measure_frame(pool, nodes, head, max_payload) {
-            Ok(n) => size = plus(size, n),
-            Err(bad) => return Err(within(heads.len() - rest.len(), bad)),
-        }
-        rest = others;
-    }
-    Ok(size)
-}
-
-/// Puts frames one after another, which were measured before.
-fn put_frames(
+/// Frames one after another, from the front of a buffer on, as far as it has room. Returns how many bytes they have, or the
+/// greatest number.
+#[inline(never)]
+fn make_frames(
     buf: &mut [u8],
     pool: &[u8],
     nodes: &[Node],
     heads: &[Head],
     max_payload: u32,
-) -> usize
-    ensures { Sets (made_frames pool.now nodes.now max_payload 0 heads.now) buf.old buf.new 0 result }
+) -> Result<usize, WriteError>
+    ensures { Makes (made_frames pool.now nodes.now max_payload 0 heads.now) buf.old buf.new 0 result }
 {
     let mut rest = heads;
-    let mut place = 0;
+    let mut made = 0;
     while !rest.is_empty() {
         let (head, others) = match first_head(rest) {
             Some(found) => found,
-            None => return place,
+            None => return Ok(made),
         };
-        place = put_frame(buf, place, pool, nodes, head, max_payload);
+        match make_frame(buf, made, pool, nodes, head, max_payload) {
+            Ok(n) => made = plus(made, n),
+            Err(bad) => return Err(within(heads.len() - rest.len(), bad)),
+        }
         rest = others;
     }
-    place
+    Ok(made)
 }
 
-/// Writes frames, or says why not. Split for the proof.
-#[tactic(auto, using(crate::proofs::FramesPlaced::all_written))]
+/// Writes frames, or says why not: from a scratch that holds small ones, and else by making them once more. Split for the proof.
 fn fill_frames(
     out: &mut [u8],
     pool: &[u8],
@@ -103,7 +83,8 @@ fn fill_frames(
 ) -> Result<usize, WriteError>
     ensures { Writes (made_frames pool.now nodes.now max_payload 0 heads.now) out.old out.new result }
 {
-    let needed = match measure_frames(pool, nodes, heads, max_payload) {
+    let mut scratch = [0; SCRATCH];
+    let needed = match make_frames(&mut scratch, pool, nodes, heads, max_payload) {
         Ok(needed) => needed,
         Err(error) => return Err(error),
     };
@@ -112,8 +93,11 @@ fn fill_frames(
             needed: needed as u64,
         });
     }
-    put_frames(out, pool, nodes, heads, max_payload);
-    Ok(needed)
+    if needed <= SCRATCH {
+        put_bytes(out, 0, &scratch[..needed]);
+        return Ok(needed);
+    }
+    make_frames(out, pool, nodes, heads, max_payload)
 }
 
 /// Writes the frames that heads and nodes mean, one after another, and returns how many bytes they have. Reserved fields
@@ -140,30 +124,21 @@ pub fn write_frames(
     fill_frames(out, pool, nodes, heads, max_payload)
 }
 
-/// How many bytes entries have, one after another, or the greatest number.
-fn measure_all_entries(nodes: &[Node], pool: &[u8]) -> Result<usize, WriteError>
-    ensures { Measures (made_entries pool.now nodes.now) result }
+/// Entries one after another, as far as a buffer has room, and how many bytes they have, or the greatest number.
+fn make_all_entries(buf: &mut [u8], nodes: &[Node], pool: &[u8]) -> Result<usize, WriteError>
+    ensures { Makes (made_entries pool.now nodes.now) buf.old buf.new 0 result }
 {
-    match measure_entries(pool, nodes.len(), nodes, INNER_DEPTH) {
+    match make_entries(buf, 0, pool, nodes.len(), nodes, INNER_DEPTH) {
         Ok(n) => Ok(n),
         Err(bad) => Err(within(0, bad)),
     }
 }
 
-/// Puts entries one after another, which were measured before.
-#[tactic(auto, using(crate::proofs::FramesPlaced::at_set))]
-fn put_all_entries(buf: &mut [u8], nodes: &[Node], pool: &[u8]) -> usize
-    ensures { Sets (made_entries pool.now nodes.now) buf.old buf.new 0 result }
-{
-    put_entries(buf, 0, pool, nodes.len(), nodes, INNER_DEPTH)
-}
-
 /// Writes entries, or says why not. Split for the proof.
-#[tactic(auto, using(crate::proofs::FramesPlaced::all_written))]
 fn fill_entries(out: &mut [u8], nodes: &[Node], pool: &[u8]) -> Result<usize, WriteError>
     ensures { Writes (made_entries pool.now nodes.now) out.old out.new result }
 {
-    let needed = match measure_all_entries(nodes, pool) {
+    let needed = match make_all_entries(&mut [], nodes, pool) {
         Ok(needed) => needed,
         Err(error) => return Err(error),
     };
@@ -172,8 +147,7 @@ fn fill_entries(out: &mut [u8], nodes: &[Node], pool: &[u8]) -> Result<usize, Wr
             needed: needed as u64,
         });
     }
-    put_all_entries(out, nodes, pool);
-    Ok(needed)
+    make_all_entries(out, nodes, pool)
 }
 
 /// Writes the content of a table alone, without its length: the entries that nodes mean, in their order. Tables and arrays
@@ -188,30 +162,21 @@ pub fn write_entries(nodes: &[Node], pool: &[u8], out: &mut [u8]) -> Result<usiz
     fill_entries(out, nodes, pool)
 }
 
-/// How many bytes values have, one after another, or the greatest number.
-fn measure_all_values(nodes: &[Node], pool: &[u8]) -> Result<usize, WriteError>
-    ensures { Measures (made_values pool.now nodes.now) result }
+/// Values one after another, as far as a buffer has room, and how many bytes they have, or the greatest number.
+fn make_all_values(buf: &mut [u8], nodes: &[Node], pool: &[u8]) -> Result<usize, WriteError>
+    ensures { Makes (made_values pool.now nodes.now) buf.old buf.new 0 result }
 {
-    match measure_values(pool, nodes.len(), nodes, INNER_DEPTH) {
+    match make_values(buf, 0, pool, nodes.len(), nodes, INNER_DEPTH) {
         Ok(n) => Ok(n),
         Err(bad) => Err(within(0, bad)),
     }
 }
 
-/// Puts values one after another, which were measured before.
-#[tactic(auto, using(crate::proofs::FramesPlaced::at_set))]
-fn put_all_values(buf: &mut [u8], nodes: &[Node], pool: &[u8]) -> usize
-    ensures { Sets (made_values pool.now nodes.now) buf.old buf.new 0 result }
-{
-    put_values(buf, 0, pool, nodes.len(), nodes, INNER_DEPTH)
-}
-
 /// Writes values, or says why not. Split for the proof.
-#[tactic(auto, using(crate::proofs::FramesPlaced::all_written))]
 fn fill_values(out: &mut [u8], nodes: &[Node], pool: &[u8]) -> Result<usize, WriteError>
     ensures { Writes (made_values pool.now nodes.now) out.old out.new result }
 {
-    let needed = match measure_all_values(nodes, pool) {
+    let needed = match make_all_values(&mut [], nodes, pool) {
         Ok(needed) => needed,
         Err(error) => return Err(error),
     };
@@ -220,8 +185,7 @@ fn fill_values(out: &mut [u8], nodes: &[Node], pool: &[u8]) -> Result<usize, Wri
             needed: needed as u64,
         });
     }
-    put_all_values(out, nodes, pool);
-    Ok(needed)
+    make_all_values(out, nodes, pool)
 }
 
 /// Writes the content of an array alone, without its length: the values that nodes mean, whose keys are not looked at.

@@ -1,7 +1,7 @@
 //! A node: a field of a frame, or a value in a table or an array, by a number or by a span of the payload.
 
-ghost use Rattle.std.specs.Prelude.{◌≡◌, ◌-◌, length};
-ghost use Rattle.amqp_fields.specs.Nodes.{blank, cut, cut_byte, keyed, spanned};
+ghost use Rattle.std.specs.Prelude.{◌≡◌, ◌≤◌, ◌+◌, ◌-◌, length};
+ghost use Rattle.amqp_fields.specs.Nodes.{blank, cut, spanned};
 
 /// The kind of a field of one byte.
 pub const OCTET: u8 = 1;
@@ -96,42 +96,40 @@ pub(crate) fn cut(n: usize) -> u32
     }
 }
 
-/// A number as a byte holds it, or the greatest that it holds.
-#[inline(always)]
-pub(crate) fn cut_byte(n: usize) -> u8
-    ensures { result ≡ cut_byte n }
-{
-    if n < 255 { n as u8 } else { 255 }
-}
-
 /// The place that is before these bytes, which end at a place of the payload.
 #[inline(always)]
 pub(crate) fn before(end: u32, rest: &[u8]) -> u32
+    requires within { length rest.now ≤ end }
     ensures { result ≡ end - length rest.now }
 {
-    (end as usize).saturating_sub(rest.len()) as u32
+    end - rest.len() as u32
 }
 
 /// The node with a span: some bytes that end at this place of the payload.
 #[inline(always)]
+#[tactic(auto, using(crate::proofs::Spans::cut_below))]
 pub(crate) fn spanned(label: Node, end: u32, content: &[u8]) -> Node
+    requires within { length content.now ≤ end }
     ensures { result ≡ spanned label end content.now }
 {
     Node {
-        start: cut((end as usize).saturating_sub(content.len())),
-        length: cut(content.len()),
+        start: end - content.len() as u32,
+        length: content.len() as u32,
         ..label
     }
 }
 
-/// The node with the span of a key: some bytes that end at this place of the payload.
+/// The node with the span of what a length of 4 bytes covers at the front of some bytes, which end at this place of the payload.
 #[inline(always)]
-pub(crate) fn keyed(end: u32, key: &[u8]) -> Node
-    ensures { result ≡ keyed end key.now }
+#[tactic(auto, using(crate::proofs::Spans::cut_below))]
+pub(crate) fn covered(label: Node, end: u32, i: &[u8], content: &[u8]) -> Node
+    requires within { length i.now ≤ end }
+    requires size { 4 + length content.now ≤ length i.now }
+    ensures { result ≡ spanned label (end - (length i.now - (4 + length content.now))) content.now }
 {
     Node {
-        key_start: cut((end as usize).saturating_sub(key.len())),
-        key_length: cut_byte(key.len()),
-        ..Node::default()
+        start: before(end, i) + 4,
+        length: content.len() as u32,
+        ..label
     }
 }

@@ -8,14 +8,15 @@ ghost use Rattle.amqp_fields.specs.Finding.{FindsContent, Lists};
 ghost use Rattle.amqp_fields.specs.Listed.{listed_boolean, listed_decimal, listed_number, listed_signed, listed_span};
 
 use crate::listing::{Step, push};
-use crate::node::{Node, before, spanned};
-use amqp_canonical::{bytes_from, split_key};
+use crate::node::{Node, before, covered, spanned};
 use amqp_types::parse_long_bytes;
 
 /// What a length of 4 bytes covers at the front, and how many bytes both take.
 #[inline(always)]
+#[tactic(auto, using(crate::proofs::Strings::long_size))]
 pub(crate) fn split_long(i: &[u8]) -> Option<(usize, &[u8])>
     ensures found { FindsContent (λ content. content.now) result (judge_long_string i.now) }
+    ensures size { IfSome result (λ found. found.0 ≡ 4 + length found.1.now) }
     ensures bound { IfSome result (λ found. found.0 ≤ length i.now) }
 {
     match parse_long_bytes(i) {
@@ -100,7 +101,7 @@ pub(crate) fn list_signed_short(nodes: &mut [Node], count: u32, label: Node, i: 
 
 /// A short string.
 #[inline(always)]
-#[tactic(auto, using(crate::proofs::Strings::short_listed))]
+#[tactic(auto, using(crate::proofs::Strings::short_listed, crate::proofs::Strings::unlisted))]
 pub(crate) fn list_short_string(
     nodes: &mut [Node],
     count: u32,
@@ -108,14 +109,20 @@ pub(crate) fn list_short_string(
     label: Node,
     i: &[u8],
 ) -> Step
-    ensures { Lists (listed_span judge_short_string end label i.now) nodes.old count nodes.new result }
+    requires within { length i.now ≤ end }
+    ensures listed { Lists (listed_span judge_short_string end label i.now) nodes.old count nodes.new result }
+    ensures used { result.used ≤ length i.now }
 {
-    let (text, rest) = split_key(i);
-    let node = spanned(label, before(end, rest), text);
-    let count = push(nodes, count, node);
-    Step {
-        used: 1 + text.len(),
-        count,
+    match split_short(i) {
+        Some((text, rest)) => {
+            let node = spanned(label, before(end, rest), text);
+            let count = push(nodes, count, node);
+            Step {
+                used: 1 + text.len(),
+                count,
+            }
+        }
+        None => Step { used: 0, count },
     }
 }
 
@@ -129,13 +136,13 @@ pub(crate) fn list_long_string(
     label: Node,
     i: &[u8],
 ) -> Step
+    requires within { length i.now ≤ end }
     ensures listed { Lists (listed_span judge_long_string end label i.now) nodes.old count nodes.new result }
     ensures used { result.used ≤ length i.now }
 {
     match split_long(i) {
         Some((used, content)) => {
-            let rest = bytes_from(i, used);
-            let node = spanned(label, before(end, rest), content);
+            let node = covered(label, end, i, content);
             let count = push(nodes, count, node);
             Step { used, count }
         }

@@ -1,6 +1,6 @@
 //! The nodes of the fields of whole payloads.
 
-ghost use Rattle.std.specs.Prelude.{◌≡◌, true};
+ghost use Rattle.std.specs.Prelude.{◌≡◌, ◌≤◌, length, true};
 ghost use Rattle.amqp_canonical.specs.Shapes.{have_constants, slots_of};
 ghost use Rattle.amqp_fields.specs.Finding.{Counts};
 ghost use Rattle.amqp_fields.specs.Listed.{listed_header, listed_method, listed_payload, version_slots};
@@ -29,6 +29,7 @@ pub(crate) fn version_shapes() -> &'static [Slot]
 /// The fields of a method, out of its payload.
 #[tactic(auto, using(crate::proofs::PayloadSteps::method_listed, crate::proofs::PayloadSteps::no_method, crate::proofs::PayloadSteps::no_ids))]
 fn list_method(nodes: &mut [Node], count: u32, deep: bool, end: u32, payload: &[u8]) -> u32
+    requires within { length payload.now ≤ end }
     ensures { Counts (listed_method deep end payload.now) nodes.old count nodes.new result }
 {
     match payload {
@@ -47,6 +48,7 @@ fn list_method(nodes: &mut [Node], count: u32, deep: bool, end: u32, payload: &[
 /// The fields of a whole payload of this type, which ends at the place `end` of the bytes in which spans are counted. They are
 /// put after `count` nodes. A body and a heartbeat have none.
 #[tactic(auto, unfolding(crate::specs::Listed::listed_payload, crate::specs::Listed::listed_header))]
+#[inline(always)]
 pub(crate) fn list_payload(
     nodes: &mut [Node],
     count: u32,
@@ -55,6 +57,7 @@ pub(crate) fn list_payload(
     end: u32,
     payload: &[u8],
 ) -> u32
+    requires within { length payload.now ≤ end }
     ensures { Counts (listed_payload frame_type deep end payload.now) nodes.old count nodes.new result }
 {
     match frame_type {

@@ -1,12 +1,13 @@
-//! Putting bytes where a buffer has room for them.
-#![tactic(auto, using(crate::proofs::Placed::placed, crate::proofs::Placed::not_placed))]
+//! Putting bytes where a buffer has room for them, while all of them are counted.
 
-ghost use Rattle.std.specs.Prelude.{◌≡◌, ◌^◌, ◌%◌, ◌+◌, length, option_copied};
-ghost use Rattle.amqp_types.specs.Numbers.{bytes1, bytes2, bytes4, bytes8, number_bytes};
-ghost use Rattle.amqp_fields.specs.Made.{made_long, made_span, made_text, span_in};
-ghost use Rattle.amqp_fields.specs.Makes.{Places, Sets, cut_long};
+ghost use Rattle.std.specs.Prelude.{◌≡◌, ◌+◌, length, nat_le, option_copied};
+ghost use Rattle.amqp_types.specs.Numbers.{bytes2, bytes4, bytes8, number_bytes};
+ghost use Rattle.amqp_fields.specs.Made.{made_if, made_long, made_text, span_in};
+ghost use Rattle.amqp_fields.specs.Makes.{ArePut, Closes, Makes, cut_long};
 
-use amqp_types::put_bytes;
+use crate::contents::is_text;
+use crate::refusals::{Refusal, WriteRefusal};
+use amqp_types::{ParserError, put_bytes};
 
 /// The sum, or the greatest number.
 #[inline(always)]
@@ -16,96 +17,134 @@ pub(crate) fn plus(a: usize, b: usize) -> usize
     a.saturating_add(b)
 }
 
-/// Puts bytes at a place, where the buffer has room for them, and returns the place after them.
+/// Whether so many bytes at a place end within a buffer of this length.
 #[inline(always)]
-pub(crate) fn put_at(buf: &mut [u8], at: usize, bytes: &[u8]) -> usize
-    ensures { Places buf.old buf.new at bytes.now result }
+fn has_room(length: usize, at: usize, count: usize) -> bool
+    ensures { result ≡ nat_le (at + count) length }
 {
-    if at <= buf.len() && bytes.len() <= buf.len() - at {
-        put_bytes(buf, at, bytes)
-    } else {
-        at
+    match at.checked_add(count) {
+        Some(end) => end <= length,
+        None => false,
     }
 }
 
-/// Puts the lowest byte of a number.
+/// Puts bytes at a place, where the buffer has room for them, and returns how many they are.
 #[inline(always)]
-pub(crate) fn put_octet(buf: &mut [u8], at: usize, number: u64) -> usize
-    ensures { Places buf.old buf.new at (number_bytes bytes1 (number % 2 ^ 8)) result }
+pub(crate) fn put(buf: &mut [u8], at: usize, bytes: &[u8]) -> usize
+    ensures { ArePut buf.old buf.new at bytes.now result }
 {
-    put_at(buf, at, &((number % 0x100) as u8).to_be_bytes())
+    if has_room(buf.len(), at, bytes.len()) {
+        put_bytes(buf, at, bytes);
+    }
+    bytes.len()
 }
 
-/// Puts the lowest 2 bytes of a number.
+/// Puts bytes where a test holds; else the node is refused.
 #[inline(always)]
-pub(crate) fn put_short(buf: &mut [u8], at: usize, number: u64) -> usize
-    ensures { Places buf.old buf.new at (number_bytes bytes2 (number % 2 ^ 16)) result }
+pub(crate) fn put_if(
+    buf: &mut [u8],
+    at: usize,
+    index: usize,
+    holds: bool,
+    bytes: &[u8],
+) -> Result<usize, Refusal>
+    ensures { Makes (made_if holds index bytes.now) buf.old buf.new at result }
 {
-    put_at(buf, at, &((number % 0x1_0000) as u16).to_be_bytes())
+    if holds {
+        Ok(put(buf, at, bytes))
+    } else {
+        Err(Refusal::bad(index))
+    }
 }
 
-/// Puts the lowest 4 bytes of a number.
+/// Puts a number of 4 bytes.
 #[inline(always)]
-pub(crate) fn put_long(buf: &mut [u8], at: usize, number: u64) -> usize
-    ensures { Places buf.old buf.new at (number_bytes bytes4 (number % 2 ^ 32)) result }
+fn put_count(buf: &mut [u8], at: usize, n: u32) -> usize
+    ensures { ArePut buf.old buf.new at (number_bytes bytes4 n) result }
 {
-    put_at(buf, at, &((number % 0x1_0000_0000) as u32).to_be_bytes())
+    put(buf, at, &n.to_be_bytes())
+}
+
+/// Puts a number of 2 bytes.
+#[inline(always)]
+pub(crate) fn put_short(buf: &mut [u8], at: usize, n: u16) -> usize
+    ensures { ArePut buf.old buf.new at (number_bytes bytes2 n) result }
+{
+    put(buf, at, &n.to_be_bytes())
 }
 
 /// Puts a number of 8 bytes.
 #[inline(always)]
-pub(crate) fn put_long_long(buf: &mut [u8], at: usize, number: u64) -> usize
-    ensures { Places buf.old buf.new at (number_bytes bytes8 (number % 2 ^ 64)) result }
+pub(crate) fn put_long_long(buf: &mut [u8], at: usize, n: u64) -> usize
+    ensures { ArePut buf.old buf.new at (number_bytes bytes8 n) result }
 {
-    put_at(buf, at, &number.to_be_bytes())
+    put(buf, at, &n.to_be_bytes())
 }
 
-/// Puts a length of 4 bytes, and after it some bytes.
+/// Puts a length of 4 bytes, and after it some bytes. The node is refused where 4 bytes do not count them.
 #[inline(always)]
-pub(crate) fn put_content(buf: &mut [u8], at: usize, index: usize, bytes: &[u8]) -> usize
-    ensures { Sets (made_long index bytes.now) buf.old buf.new at result }
-{
-    let next = put_long(buf, at, bytes.len() as u64);
-    put_at(buf, next, bytes)
-}
-
-/// Puts a length of 4 bytes, and the bytes of a span.
-#[inline(always)]
-pub(crate) fn put_long_string(
+pub(crate) fn put_long(
     buf: &mut [u8],
     at: usize,
-    pool: &[u8],
     index: usize,
-    start: u32,
-    count: u32,
-) -> usize
-    ensures { Sets (made_span (made_long index) index (span_in pool.now start count)) buf.old buf.new at result }
+    bytes: &[u8],
+) -> Result<usize, Refusal>
+    ensures { Makes (made_long index bytes.now) buf.old buf.new at result }
 {
-    match span(pool, start, count) {
-        Some(bytes) => put_content(buf, at, index, bytes),
-        None => at,
+    if bytes.len() > u32::MAX as usize {
+        return Err(Refusal {
+            node: index,
+            why: WriteRefusal::TooLong,
+        });
     }
+    let head = put_count(buf, at, bytes.len() as u32);
+    let n = put(buf, plus(at, head), bytes);
+    Ok(plus(head, n))
 }
 
-/// Puts a length of 1 byte, and the text of a span.
+/// Puts a length of 1 byte, and after it a text. The node is refused where one byte does not count it, or it is not UTF-8.
 #[inline(always)]
 pub(crate) fn put_text(
     buf: &mut [u8],
     at: usize,
-    pool: &[u8],
     index: usize,
-    start: u32,
-    count: u32,
-) -> usize
-    ensures { Sets (made_span (made_text index) index (span_in pool.now start count)) buf.old buf.new at result }
+    text: &[u8],
+) -> Result<usize, Refusal>
+    ensures { Makes (made_text index text.now) buf.old buf.new at result }
 {
-    match span(pool, start, count) {
-        Some(text) => {
-            let next = put_at(buf, at, &[(text.len() % 256) as u8]);
-            put_at(buf, next, text)
-        }
-        None => at,
+    if text.len() > 255 {
+        return Err(Refusal {
+            node: index,
+            why: WriteRefusal::TooLong,
+        });
     }
+    if !is_text(text) {
+        return Err(Refusal::payload(index, ParserError::NotUtf8));
+    }
+    let head = put(buf, at, &[text.len() as u8]);
+    let n = put(buf, plus(at, head), text);
+    Ok(plus(head, n))
+}
+
+/// Puts a length of 4 bytes in front of so many bytes, which stand after it. The node is refused where 4 bytes do not count
+/// them.
+#[inline(always)]
+pub(crate) fn put_length(
+    buf: &mut [u8],
+    at: usize,
+    index: usize,
+    count: usize,
+) -> Result<usize, Refusal>
+    ensures { Closes index count buf.old buf.new at result }
+{
+    if count > u32::MAX as usize {
+        return Err(Refusal {
+            node: index,
+            why: WriteRefusal::TooLong,
+        });
+    }
+    let head = put_count(buf, at, count as u32);
+    Ok(plus(head, count))
 }
 
 /// The bytes of a span, where it lies within the pool.

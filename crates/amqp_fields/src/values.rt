@@ -1,21 +1,20 @@
 //! The nodes of values, arrays and tables, and of all that lies inside them.
 #![tactic(auto, using(crate::proofs::Stepping::listed_next), unfolding(crate::specs::Listed::listed_behind))]
 
-ghost use Rattle.std.specs.Prelude.{◌≡◌, ◌≤◌, ◌<◌, length};
-ghost use Rattle.amqp_types.specs.Tags.{tag_at};
+ghost use Rattle.std.specs.Prelude.{◌≡◌, ◌≤◌, ◌<◌, ◌+◌, None, Some, IfSome, drop, get_or, length};
+ghost use Rattle.amqp_types.specs.Tags.{tag_at, tag_byte};
 ghost use Rattle.amqp_types.specs.ValueJudging.{filled};
 ghost use Rattle.amqp_fields.specs.Nodes.{blank};
-ghost use Rattle.amqp_fields.specs.Finding.{Lists, ListsAll};
-ghost use Rattle.amqp_fields.specs.Listed.{listed_array, listed_behind, listed_entry, listed_nested, listed_table, listed_value};
+ghost use Rattle.amqp_fields.specs.Finding.{Lists, ListsAll, key_label};
+ghost use Rattle.amqp_fields.specs.Listed.{listed_array, listed_behind, listed_entry, listed_nested, listed_table, listed_value, of_kind};
 
-use crate::listing::{Filled, Step, close, one_more, push};
-use crate::node::{Node, before, keyed, spanned};
+use crate::listing::{Filled, Step, close, push};
+use crate::node::{Node, before, covered};
 use crate::numbers::{
     list_boolean, list_decimal, list_long, list_long_long, list_long_string, list_octet,
     list_short, list_signed_long, list_signed_long_long, list_signed_octet, list_signed_short,
-    split_long, split_short,
+    split_long,
 };
-use amqp_canonical::bytes_from;
 use amqp_types::{
     FieldTag, TAG_BOOLEAN, TAG_BYTE_ARRAY, TAG_DECIMAL_VALUE, TAG_DOUBLE, TAG_FIELD_ARRAY,
     TAG_FIELD_TABLE, TAG_FLOAT, TAG_LONG_INT, TAG_LONG_LONG_INT, TAG_LONG_LONG_INT_READ,
@@ -51,38 +50,75 @@ fn tag_of(byte: u8) -> Option<FieldTag>
     }
 }
 
-/// A value at the front. Tables and arrays may nest `depth_left` deep in it. It is put after `count` nodes, what is known
-/// of it is in `label`, and the bytes end at the place `end` of the payload.
-#[inline(always)]
-#[cycle(list)]
-pub(crate) fn list_value(
-    nodes: &mut [Node],
-    count: u32,
-    end: u32,
+/// A tag that was read: the node of what is known then, and what stands after it.
+#[derive(Clone, Copy)]
+struct Tagged<'a> {
+    /// The node, of its kind.
     label: Node,
-    i: &[u8],
-    depth_left: usize,
-) -> Step
-    ensures listed { Lists (listed_value depth_left end label i.now) nodes.old count nodes.new result }
-    ensures some { 0 < length i.now → 0 < result.used }
-    ensures bound { result.used ≤ length i.now }
+
+    /// The tag.
+    tag: FieldTag,
+
+    /// What stands after the tag.
+    behind: &'a [u8],
+}
+
+/// The tag at the front of a value.
+#[inline(always)]
+fn split_tag(label: Node, i: &[u8]) -> Option<Tagged<'_>>
+    ensures tag { IfSome result (λ found. tag_at (get_or i.now 0 0) ≡ Some found.tag) }
+    ensures label { IfSome result (λ found. found.label ≡ of_kind label (tag_byte found.tag)) }
+    ensures behind { IfSome result (λ found. found.behind.now ≡ drop 1 i.now) }
+    ensures some { IfSome result (λ found. 1 ≤ length i.now) }
+    ensures none { result ≡ None → 1 ≤ length i.now → tag_at (get_or i.now 0 0) ≡ None }
 {
     match i {
-        [] => Step { used: 0, count },
-        [byte, rest @ ..] => match tag_of(*byte) {
+        [] => None,
+        [byte, behind @ ..] => match tag_of(*byte) {
             Some(tag) => {
                 let label = Node {
                     kind: tag.to_byte(),
                     ..label
                 };
-                let step = list_after_tag(nodes, count, end, label, tag, rest, depth_left);
-                Step {
-                    used: 1 + step.used,
-                    count: step.count,
-                }
+                Some(Tagged { label, tag, behind })
             }
-            None => Step { used: 1, count },
+            None => None,
         },
+    }
+}
+
+/// The tag of the value of an entry, whose bytes end at this place of the payload: it stands after the key.
+#[inline(always)]
+fn split_entry(end: u32, i: &[u8]) -> Option<Tagged<'_>>
+    requires within { length i.now ≤ end }
+    ensures tag { IfSome result (λ found. tag_at (get_or i.now (get_or i.now 0 0 + 1) 0) ≡ Some found.tag) }
+    ensures label { IfSome result (λ found. found.label ≡ of_kind (key_label end i.now) (tag_byte found.tag)) }
+    ensures behind { IfSome result (λ found. found.behind.now ≡ drop (2 + get_or i.now 0 0) i.now) }
+    ensures size { IfSome result (λ found. 2 + get_or i.now 0 0 ≤ length i.now) }
+    ensures byte { IfSome result (λ found. get_or i.now 0 0 < 256) }
+    ensures none { result ≡ None → 2 + get_or i.now 0 0 ≤ length i.now → tag_at (get_or i.now (get_or i.now 0 0 + 1) 0) ≡ None }
+{
+    match i {
+        [] => None,
+        [n, ..] => {
+            let at = *n as usize + 1;
+            if at >= i.len() {
+                return None;
+            }
+            match tag_of(i[at]) {
+                Some(tag) => {
+                    let label = Node {
+                        key_start: before(end, i) + 1,
+                        key_length: *n,
+                        kind: tag.to_byte(),
+                        ..Node::default()
+                    };
+                    let behind = &i[at + 1..];
+                    Some(Tagged { label, tag, behind })
+                }
+                None => None,
+            }
+        }
     }
 }
 
@@ -98,9 +134,11 @@ fn list_after_tag(
     i: &[u8],
     depth_left: usize,
 ) -> Step
+    requires within { length i.now ≤ end }
     ensures listed { Lists (listed_behind (listed_nested depth_left) end label tag i.now) nodes.old count nodes.new result }
     ensures used { result.used ≤ length i.now }
 {
+    // Kinds that are encoded alike have an arm each, in which the kind is a constant.
     match tag {
         FieldTag::Boolean => list_boolean(nodes, count, label, i),
         FieldTag::ShortShortInt => list_signed_octet(nodes, count, label, i),
@@ -108,11 +146,14 @@ fn list_after_tag(
         FieldTag::ShortInt => list_signed_short(nodes, count, label, i),
         FieldTag::ShortUInt => list_short(nodes, count, label, i),
         FieldTag::LongInt => list_signed_long(nodes, count, label, i),
-        FieldTag::LongUInt | FieldTag::Float => list_long(nodes, count, label, i),
+        FieldTag::LongUInt => list_long(nodes, count, label, i),
+        FieldTag::Float => list_long(nodes, count, label, i),
         FieldTag::LongLongInt => list_signed_long_long(nodes, count, label, i),
-        FieldTag::Double | FieldTag::Timestamp => list_long_long(nodes, count, label, i),
+        FieldTag::Double => list_long_long(nodes, count, label, i),
+        FieldTag::Timestamp => list_long_long(nodes, count, label, i),
         FieldTag::DecimalValue => list_decimal(nodes, count, label, i),
-        FieldTag::LongString | FieldTag::ByteArray => list_long_string(nodes, count, end, label, i),
+        FieldTag::LongString => list_long_string(nodes, count, end, label, i),
+        FieldTag::ByteArray => list_long_string(nodes, count, end, label, i),
         FieldTag::FieldArray if depth_left == 0 => Step { used: 0, count },
         FieldTag::FieldArray => list_array(nodes, count, end, label, i, depth_left - 1),
         FieldTag::FieldTable if depth_left == 0 => Step { used: 0, count },
@@ -135,16 +176,17 @@ fn list_array(
     i: &[u8],
     depth_left: usize,
 ) -> Step
+    requires within { length i.now ≤ end }
     ensures listed { Lists (listed_array (listed_value depth_left) end label i.now) nodes.old count nodes.new result }
     ensures used { result.used ≤ length i.now }
 {
     match split_long(i) {
         Some((used, content)) => {
-            let inner = before(end, bytes_from(i, used));
-            let node = spanned(label, inner, content);
+            let inner = before(end, &i[used..]);
+            let node = covered(label, end, i, content);
             let begun = push(nodes, count, node);
             let filled = list_values(nodes, begun, inner, content, depth_left);
-            close(nodes, count, begun, node, filled);
+            close(nodes, count, begun, filled);
             Step {
                 used,
                 count: filled.count,
@@ -165,16 +207,17 @@ pub(crate) fn list_table(
     i: &[u8],
     depth_left: usize,
 ) -> Step
+    requires within { length i.now ≤ end }
     ensures listed { Lists (listed_table (listed_value depth_left) end label i.now) nodes.old count nodes.new result }
     ensures used { result.used ≤ length i.now }
 {
     match split_long(i) {
         Some((used, content)) => {
-            let inner = before(end, bytes_from(i, used));
-            let node = spanned(label, inner, content);
+            let inner = before(end, &i[used..]);
+            let node = covered(label, end, i, content);
             let begun = push(nodes, count, node);
             let filled = list_entries(nodes, begun, inner, content, depth_left);
-            close(nodes, count, begun, node, filled);
+            close(nodes, count, begun, filled);
             Step {
                 used,
                 count: filled.count,
@@ -194,16 +237,23 @@ pub(crate) fn list_values(
     content: &[u8],
     depth_left: usize,
 ) -> Filled
+    requires within { length content.now ≤ end }
     ensures { ListsAll (filled (listed_value depth_left end blank) 0 content.now) nodes.old count nodes.new result }
 {
     let mut rest = content;
     let mut items = 0;
     let mut now = count;
     while !rest.is_empty() {
-        let step = list_value(nodes, now, end, Node::default(), rest, depth_left);
-        now = step.count;
-        items = one_more(items);
-        rest = &rest[step.used..];
+        match split_tag(Node::default(), rest) {
+            Some(found) => {
+                let Tagged { label, tag, behind } = found;
+                let step = list_after_tag(nodes, now, end, label, tag, behind, depth_left);
+                now = step.count;
+                items += 1;
+                rest = &behind[step.used..];
+            }
+            None => return Filled { items, count: now },
+        }
     }
     Filled { items, count: now }
 }
@@ -218,40 +268,23 @@ pub(crate) fn list_entries(
     content: &[u8],
     depth_left: usize,
 ) -> Filled
+    requires within { length content.now ≤ end }
     ensures { ListsAll (filled (listed_entry (listed_value depth_left) end) 0 content.now) nodes.old count nodes.new result }
 {
     let mut rest = content;
     let mut items = 0;
     let mut now = count;
     while !rest.is_empty() {
-        let step = list_entry(nodes, now, end, rest, depth_left);
-        now = step.count;
-        items = one_more(items);
-        rest = &rest[step.used..];
+        match split_entry(end, rest) {
+            Some(found) => {
+                let Tagged { label, tag, behind } = found;
+                let step = list_after_tag(nodes, now, end, label, tag, behind, depth_left);
+                now = step.count;
+                items += 1;
+                rest = &behind[step.used..];
+            }
+            None => return Filled { items, count: now },
+        }
     }
     Filled { items, count: now }
-}
-
-/// An entry: its key and its value.
-#[inline(always)]
-#[cycle(list)]
-fn list_entry(nodes: &mut [Node], count: u32, end: u32, i: &[u8], depth_left: usize) -> Step
-    ensures listed { Lists (listed_entry (listed_value depth_left) end i.now) nodes.old count nodes.new result }
-    ensures some { 0 < length i.now → 0 < result.used }
-    ensures bound { result.used ≤ length i.now }
-{
-    match split_short(i) {
-        Some((key, value)) => {
-            let label = keyed(before(end, value), key);
-            let step = list_value(nodes, count, end, label, value, depth_left);
-            Step {
-                used: 1 + key.len() + step.used,
-                count: step.count,
-            }
-        }
-        None => Step {
-            used: i.len(),
-            count,
-        },
-    }
 }

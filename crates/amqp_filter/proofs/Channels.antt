@@ -10,18 +10,17 @@ use Rattle.amqp_turns.specs.declared.fault.ContentFault.{ContentFault}
 use Rattle.amqp_turns.specs.declared.fault.ContentFault.TheVariants as faults
 use Rattle.amqp_turns.specs.declared.mark.Mark.{Mark}
 use Rattle.amqp_turns.specs.declared.mark.Mark.TheVariants as marks
-use Rattle.amqp_turns.specs.declared.progress.Progress.{Progress}
 use Rattle.amqp_turns.specs.declared.progress.Progress.TheVariants as progresses
 use Rattle.amqp_turns.specs.Units.{is_content, is_opening_id, size_in, bytes_in, Begun, Nothing, Opened, Headed}
 use Rattle.amqp_turns.specs.Answers.{Wrong}
 use Rattle.amqp_turns.specs.Stands.{State, At, Lost}
-use Rattle.amqp_turns.specs.Steps.{mark_after, step}
+use Rattle.amqp_turns.specs.Steps.{step}
 use Rattle.amqp_turns.proofs.Moving.{bytes_in-push}
 use Rattle.amqp_filter.specs.declared.messages.Open.{Open}
 use Rattle.amqp_turns.specs.InTurn.{greatest}
 use Rattle.amqp_filter.specs.Kept.{decider}
 use Rattle.amqp_filter.specs.Stepping.{kept_marked, held_marked, mark_held}
-use Rattle.amqp_filter.proofs.Turning.{IsFresh}
+use Rattle.amqp_in_turn.proofs.Turning.{IsFresh}
 
 -- what is kept of a channel on which this has come
 abbrev pub held_of_state : (FrameOutline → Bool) → State Frame → Option Open
@@ -89,29 +88,6 @@ module _ (keeps : FrameOutline → Bool) where
   on_channel begun (BadBeat channel) content = absurd cc
 
 -- ---- frames outside of content
-
-pub passed_mark : (held : Option Open) (frame : Frame) → is_content (outline_of frame) ≡ false → mark_held held frame ≡ marks.Passed
-passed_mark None (Proto major minor revision) h = refl
-passed_mark None Beat h = refl
-passed_mark None (BadBeat channel) h = refl
-passed_mark held (Meth channel m) h = absurd cc
-passed_mark held (Head channel header) h = absurd cc
-passed_mark held (Body channel content) h = absurd cc
-passed_mark (Some held) frame h = by_progress held.progress frame h
-  where
-    by_progress : (progress : Progress) (frame : Frame) → is_content (outline_of frame) ≡ false → mark_after greatest (Some progress) (outline_of frame) ≡ marks.Passed
-    by_progress progresses.Opened (Proto major minor revision) h = refl
-    by_progress progresses.Opened Beat h = refl
-    by_progress progresses.Opened (BadBeat channel) h = refl
-    by_progress (progresses.Headed size seen) (Proto major minor revision) h = refl
-    by_progress (progresses.Headed size seen) Beat h = refl
-    by_progress (progresses.Headed size seen) (BadBeat channel) h = refl
-    by_progress progresses.Faulted (Proto major minor revision) h = refl
-    by_progress progresses.Faulted Beat h = refl
-    by_progress progresses.Faulted (BadBeat channel) h = refl
-    by_progress progress (Meth channel m) h = absurd cc
-    by_progress progress (Head channel header) h = absurd cc
-    by_progress progress (Body channel content) h = absurd cc
 
 -- such a frame decides of itself
 pub itself_decides : (state : State Frame) (frame : Frame) → is_content (outline_of frame) ≡ false → decider state frame ≡ frame

@@ -1,7 +1,8 @@
 -- What is written for one frame, and what is kept then, by its mark.
 use Rattle.std.proofs.Common.{◌≡◌, ◌≢◌, ℕ, ◌+◌, Bool, true, false, eqb, leb, List, [], ◌∷◌, refl, sym, ap, subst, ◌∙◌, inl, inr, Option, Some, None, Ok, Err}
-use Rattle.std.specs.Prelude.{IsSome}
-use Rattle.std.proofs.lemmas.Bool.{cases_eq, eq-eqb, ne_eqb}
+use Rattle.std.specs.Prelude.{IsOk, IsSome, Result}
+use Rattle.std.proofs.lemmas.Bool.{cases_eq, eqb-true, eq-eqb, ne_eqb}
+use Rattle.std.specs.FinMap as finite
 use Rattle.amqp_types.specs.Methods.{judge_payload}
 use Rattle.amqp_types.specs.ContentHeaders.{judge_content_header}
 use Rattle.amqp_wire.specs.declared.frame_type.AMQPFrameType.{AMQPFrameType}
@@ -20,14 +21,15 @@ use Rattle.amqp_turns.specs.declared.progress.Progress.TheVariants as progresses
 use Rattle.amqp_turns.specs.Units.{is_content, is_opening_id}
 use Rattle.amqp_turns.specs.Steps.{mark_after, progress_after, progress_marked, header_mark, method_mark, body_mark}
 use Rattle.amqp_select.specs.Matching.{decides}
-use Rattle.amqp_filter.specs.declared.errors.Refusal.TheVariants as refusals
+use Rattle.amqp_in_turn.specs.declared.errors.Refusal.TheVariants as refusals
 use Rattle.amqp_filter.specs.declared.messages.Open.{Open}
 use Rattle.amqp_filter.specs.declared.message_filter.MessageFilter.{MessageFilter}
 use Rattle.amqp_turns.specs.InTurn.{greatest}
 use Rattle.amqp_filter.specs.Held.{progress_in, kept_in, held_with}
-use Rattle.amqp_filter.specs.Stepping.{given, held_more, mark_held, held_at, with_held, step_marked, step_filtering, StepsTo}
-use Rattle.amqp_turns.proofs.Holding.{set_at-same}
-use Rattle.amqp_filter.proofs.Channels.{passed_mark}
+use Rattle.amqp_filter.specs.Stepping.{held_more, mark_held, held_at, with_held, step_marked, step_filtering, StepsTo}
+use Rattle.amqp_turns.proofs.Holding.{none_held, set_at-same}
+use Rattle.amqp_in_turn.specs.Judging.{given}
+use Rattle.amqp_in_turn.proofs.Judging.{passed_mark}
 
 -- ---- the channel of a frame
 
@@ -52,13 +54,21 @@ beat_outside channel = elim (cases_eq channel 0) [
   | inr some ↦ rw (ne_eqb channel 0 some) refl
 ]
 
+beat_of : (channel : ℕ) (payload : List ℕ) (frame : Frame) → whole_as kinds.Heartbeat channel payload ≡ Ok frame → is_content (outline_of frame) ≡ false
+unfolding whole_as
+beat_of channel payload frame h = let is : beat_on channel ≡ frame = cc in ap (λ f. is_content (outline_of f)) (sym is) ∙ beat_outside channel
+
+-- a heartbeat stands outside of all content, also one on a channel
+pub beat_passed : (raw : Raw) (frame : Frame) → raw.kind ≡ kinds.Heartbeat → whole raw ≡ Ok frame → mark_after greatest None (outline_of frame) ≡ marks.Passed
+beat_passed raw frame is h = passed_mark None frame (beat_of raw.channel raw.payload frame (subst (λ kind. whole_as kind raw.channel raw.payload ≡ Ok frame) is h))
+
 placed_as : (kind : AMQPFrameType) (channel : ℕ) (payload : List ℕ) (frame : Frame) → whole_as kind channel payload ≡ Ok frame → IsPlaced channel frame
 unfolding whole_as
 placed_as kinds.ProtocolHeader channel payload frame h = proto_placed channel payload frame h
 placed_as kinds.Method channel payload frame h = let read = read_as (λ x. Meth channel x) (all_of judge_payload payload) frame h in here (ap channel_id_of (sym read.2))
 placed_as kinds.Header channel payload frame h = let read = read_as (λ x. Head channel x) (all_of judge_content_header payload) frame h in here (ap channel_id_of (sym read.2))
 placed_as kinds.Body channel payload frame h = let is : Body channel payload ≡ frame = cc in here (ap channel_id_of (sym is))
-placed_as kinds.Heartbeat channel payload frame h = let is : beat_on channel ≡ frame = cc in outside (ap (λ f. is_content (outline_of f)) (sym is) ∙ beat_outside channel)
+placed_as kinds.Heartbeat channel payload frame h = outside (beat_of channel payload frame h)
 
 placed : (raw : Raw) (frame : Frame) → whole raw ≡ Ok frame → IsPlaced raw.channel frame
 placed raw frame h = placed_as raw.kind raw.channel raw.payload frame h
@@ -88,7 +98,7 @@ marked_by s raw outline mark frame is e h = by_place (placed raw frame h)
 
     by_place : IsPlaced raw.channel frame → mark_held (held_at s (channel_id_of frame)) frame ≡ mark
     by_place (here channel) = ap (λ c. mark_held (held_at s c) frame) channel ∙ same
-    by_place (outside content) = passed_mark (held_at s (channel_id_of frame)) frame content ∙ sym (passed_mark (held_at s raw.channel) frame content) ∙ same
+    by_place (outside content) = passed_mark (progress_in (held_at s (channel_id_of frame))) frame content ∙ sym (passed_mark (progress_in (held_at s raw.channel)) frame content) ∙ same
 
 -- a frame that is not passed is on that channel
 channel_by : (s : MessageFilter) (raw : Raw) (mark : Mark) (frame : Frame) → mark_held (held_at s (channel_id_of frame)) frame ≡ mark → mark ≢ marks.Passed → whole raw ≡ Ok frame → channel_id_of frame ≡ raw.channel
@@ -96,33 +106,48 @@ channel_by s raw mark frame e other h = by_place (placed raw frame h)
   where
     by_place : IsPlaced raw.channel frame → channel_id_of frame ≡ raw.channel
     by_place (here channel) = channel
-    by_place (outside content) = absurd (other (sym e ∙ passed_mark (held_at s (channel_id_of frame)) frame content))
+    by_place (outside content) = absurd (other (sym e ∙ passed_mark (progress_in (held_at s (channel_id_of frame))) frame content))
 
 -- ---- steps by marks
+
+-- what a result gives that is no error
+pub given_by : {A E : Type 0} (result : Result A E) → IsOk result → (a : A) × (result ≡ Ok a)
+given_by (Ok a) h = (a, refl)
+given_by (Err e) h = absurd cc
 
 pub refused_steps : (s : MessageFilter) (raw : Raw) (outline : FrameOutline) (bad : ContentFault) → IsOutlineOf raw outline → marks.Fault bad ≡ mark_raw s raw outline → (frame : Frame) → whole raw ≡ Ok frame → step_filtering s frame ≡ Err (refusals.BadContent bad)
 refused_steps s raw outline bad is e frame h = ap (step_marked s (held_at s (channel_id_of frame)) frame) (marked_by s raw outline (marks.Fault bad) frame is e h)
 
-pub passed_steps : (s : MessageFilter) (raw : Raw) (outline : FrameOutline) → IsOutlineOf raw outline → marks.Passed ≡ mark_raw s raw outline → StepsTo s s raw (decides s.rules.now outline)
-passed_steps s raw outline is e frame h =
-    let channel = channel_id_of frame in
-    let held = held_at s channel in
-    let mark = marked_by s raw outline marks.Passed frame is e h in
-    let same = same_outline outline (outline_of frame) (is frame h) in
-    ap (step_marked s held frame) mark
-    ∙ ap (λ m. Ok (given (decides s.rules.now (outline_of frame)) frame, record s { messages = m })) (sym (set_at-same s.messages channel))
-    ∙ ap (λ o. Ok (given (decides s.rules.now o) frame, s)) (sym same)
+-- what is decided of the frame that a payload is
+abbrev pub IsDecided : MessageFilter → Raw → Bool → Type 0
+IsDecided s raw kept = (frame : Frame) → whole raw ≡ Ok frame → kept ≡ decides s.rules (outline_of frame)
 
-pub opening_steps : (s : MessageFilter) (raw : Raw) (outline : FrameOutline) → IsOutlineOf raw outline → marks.Opening ≡ mark_raw s raw outline → StepsTo s (with_held s raw.channel (held_with (Some progresses.Opened) (decides s.rules.now outline))) raw (decides s.rules.now outline)
-opening_steps s raw outline is e frame h =
+-- a frame of no message is decided of by itself, and all stays
+passed_step : (s : MessageFilter) (frame : Frame) (kept : Bool) → mark_held (held_at s (channel_id_of frame)) frame ≡ marks.Passed → kept ≡ decides s.rules (outline_of frame) → step_filtering s frame ≡ Ok (given kept frame, s)
+passed_step s frame kept mark decided =
+    ap (step_marked s (held_at s (channel_id_of frame)) frame) mark
+    ∙ ap (λ m. Ok (given (decides s.rules (outline_of frame)) frame, record s { messages = m })) (sym (set_at-same s.messages (channel_id_of frame)))
+    ∙ ap (λ (b : Bool). Ok (given b frame, s)) (sym decided)
+
+pub passed_steps : (s : MessageFilter) (raw : Raw) (outline : FrameOutline) (kept : Bool) → IsOutlineOf raw outline → marks.Passed ≡ mark_raw s raw outline → IsDecided s raw kept → StepsTo s s raw kept
+passed_steps s raw outline kept is e decided frame h = passed_step s frame kept (marked_by s raw outline marks.Passed frame is e h) (decided frame h)
+
+-- the same where no message has begun
+pub alone_steps : (s : MessageFilter) (raw : Raw) (kept empty : Bool) → empty ≡ eqb (finite.len s.messages) 0 → empty ≡ true → ((frame : Frame) → whole raw ≡ Ok frame → mark_after greatest None (outline_of frame) ≡ marks.Passed) → IsDecided s raw kept → StepsTo s s raw kept
+alone_steps s raw kept empty is none passed decided frame h =
+    let here : held_at s (channel_id_of frame) ≡ None = none_held s.messages (eqb-true (finite.len s.messages) 0 (sym is ∙ none)) (channel_id_of frame) in
+    let mark : mark_held (held_at s (channel_id_of frame)) frame ≡ marks.Passed = ap (λ (k : Option Open). mark_after greatest (progress_in k) (outline_of frame)) here ∙ passed frame h in
+    passed_step s frame kept mark (decided frame h)
+
+pub opening_steps : (s : MessageFilter) (raw : Raw) (outline : FrameOutline) (kept : Bool) → IsOutlineOf raw outline → marks.Opening ≡ mark_raw s raw outline → IsDecided s raw kept → StepsTo s (with_held s raw.channel (held_with (Some progresses.Opened) kept)) raw kept
+opening_steps s raw outline kept is e decided frame h =
     let held = held_at s (channel_id_of frame) in
     let mark = marked_by s raw outline marks.Opening frame is e h in
     let channel = channel_by s raw marks.Opening frame mark (λ same. absurd cc) h in
-    let same = same_outline outline (outline_of frame) (is frame h) in
     ap (step_marked s held frame) mark
-    ∙ ap (λ p. Ok (given (decides s.rules.now (outline_of frame)) frame, with_held s (channel_id_of frame) (held_with p (decides s.rules.now (outline_of frame))))) (ap (progress_marked (progress_in held) (outline_of frame)) mark)
-    ∙ ap (λ c. Ok (given (decides s.rules.now (outline_of frame)) frame, with_held s c (held_with (Some progresses.Opened) (decides s.rules.now (outline_of frame))))) channel
-    ∙ ap (λ o. Ok (given (decides s.rules.now o) frame, with_held s raw.channel (held_with (Some progresses.Opened) (decides s.rules.now o)))) (sym same)
+    ∙ ap (λ p. Ok (given (decides s.rules (outline_of frame)) frame, with_held s (channel_id_of frame) (held_with p (decides s.rules (outline_of frame))))) (ap (progress_marked (progress_in held) (outline_of frame)) mark)
+    ∙ ap (λ c. Ok (given (decides s.rules (outline_of frame)) frame, with_held s c (held_with (Some progresses.Opened) (decides s.rules (outline_of frame))))) channel
+    ∙ ap (λ (b : Bool). Ok (given b frame, with_held s raw.channel (held_with (Some progresses.Opened) b))) (sym (decided frame h))
 
 -- a content header or a body in a message
 abbrev pub IsWithin : Mark → Type 0

@@ -4,19 +4,19 @@ use Rattle.amqp_wire.specs.declared.outline.FrameOutline.{FrameOutline}
 use Rattle.amqp_wire.specs.Frames.{Frame}
 use Rattle.amqp_wire.specs.Canonical.{canon_frames}
 use Rattle.amqp_stream.specs.Ends.{Supply, Store}
-use Rattle.amqp_filter.specs.declared.errors.FilterError.{FilterError}
+use Rattle.amqp_in_turn.specs.declared.errors.TurnError.{TurnError}
 use Rattle.amqp_filter.specs.Kept.{kept_of}
 use Rattle.amqp_filter.specs.Stepping.{is_method_type}
-use Rattle.amqp_filter.specs.Turning.{GoesInTurn, GoesExactly}
+use Rattle.amqp_in_turn.specs.Turning.{GoesInTurn, GoesExactly}
 
 -- the canonical bytes of the frames that are kept
 abbrev pub kept_bytes : (FrameOutline → Bool) → List Frame → List ℕ
 kept_bytes keeps frames = canon_frames (kept_of keeps frames)
 
 -- A whole call, which writes the canonical bytes of the frames that are kept; memory may run out at methods.
-abbrev pub Filters : (FrameOutline → Bool) → ℕ → ℕ → Supply → Supply → Store → Store → Result (Unit {0}) FilterError → Type 0
+abbrev pub Filters : (FrameOutline → Bool) → ℕ → ℕ → Supply → Supply → Store → Store → Result (Unit {0}) TurnError → Type 0
 Filters keeps m turns a b k l result = GoesInTurn (kept_bytes keeps) is_method_type m turns a b k l result
 
 -- what a call returns and writes over a source that reports its bytes
-abbrev pub FiltersExactly : (FrameOutline → Bool) → ℕ → List ℕ → Store → Store → Result (Unit {0}) FilterError → Type 0
+abbrev pub FiltersExactly : (FrameOutline → Bool) → ℕ → List ℕ → Store → Store → Result (Unit {0}) TurnError → Type 0
 FiltersExactly keeps m bytes k l result = GoesExactly (kept_bytes keeps) m bytes k l result

@@ -2,8 +2,6 @@
 pub use Rattle.amqp_turns.specs.InTurn
 pub mod Kept
 pub mod Held
-pub mod Errors
-pub mod Turning
 pub mod Stepping
 pub mod Filtering
 pub mod Laws

@@ -1,5 +1,5 @@
 -- How filtering goes from frame to frame: what is written for a frame, and what is kept after it.
-use Rattle.std.specs.Prelude.{◌≡◌, ℕ, ◌==◌, Bool, true, false, List, [], Option, Some, None, Result, Ok, Err, if◌then◌else◌}
+use Rattle.std.specs.Prelude.{◌≡◌, ℕ, ◌==◌, Bool, true, false, List, Option, Some, None, Result, Ok, Err, if◌then◌else◌}
 use Rattle.std.specs.FinMap as finite
 use Rattle.amqp_types.specs.Levels.{plain}
 use Rattle.amqp_wire.specs.declared.frame_type.AMQPFrameType.{AMQPFrameType}
@@ -7,34 +7,23 @@ use Rattle.amqp_wire.specs.declared.frame_type.AMQPFrameType.TheVariants as kind
 use Rattle.amqp_wire.specs.declared.outline.FrameOutline.{FrameOutline}
 use Rattle.amqp_wire.specs.Frames.{Raw, Frame, channel_id_of}
 use Rattle.amqp_wire.specs.Outlines.{outline_of}
-use Rattle.amqp_wire.specs.Canonical.{canon}
-use Rattle.amqp_wire.specs.Judgements.{IsJudged}
 use Rattle.amqp_wire.specs.Verdicts.{whole}
-use Rattle.amqp_turns.specs.declared.fault.ContentFault.{ContentFault}
 use Rattle.amqp_turns.specs.declared.mark.Mark.{Mark}
 use Rattle.amqp_turns.specs.declared.mark.Mark.TheVariants as marks
 use Rattle.amqp_turns.specs.Steps.{mark_after, progress_after}
 use Rattle.amqp_select.specs.Matching.{decides}
-use Rattle.amqp_stream.specs.declared.decision.Decision.{Decision}
-use Rattle.amqp_stream.specs.declared.decision.Decision.TheVariants as decisions
-use Rattle.amqp_stream.specs.declared.errors.StreamError.{StreamError}
-use Rattle.amqp_stream.specs.Errors.{Cause, faulty, cause_of}
+use Rattle.amqp_stream.specs.declared.errors.RunError.{RunError}
+use Rattle.amqp_stream.specs.Decisions.{RefusesTo}
 use Rattle.amqp_stream.specs.Steps.{Manner}
-use Rattle.amqp_stream.specs.Streaming.{Ending, finished, refused_by, stopped_by}
-use Rattle.amqp_stream.specs.Writing.{IsFaulty}
-use Rattle.amqp_filter.specs.declared.errors.Refusal.{Refusal}
-use Rattle.amqp_filter.specs.declared.errors.Refusal.TheVariants as refusals
+use Rattle.amqp_in_turn.specs.declared.errors.Refusal.{Refusal}
+use Rattle.amqp_in_turn.specs.declared.errors.Refusal.TheVariants as refusals
+use Rattle.amqp_in_turn.specs.Judging.{given}
 use Rattle.amqp_filter.specs.declared.messages.Open.{Open}
 use Rattle.amqp_filter.specs.declared.message_filter.MessageFilter.{MessageFilter}
 use Rattle.amqp_turns.specs.InTurn.{greatest}
 use Rattle.amqp_filter.specs.Held.{progress_in, kept_in, held_with, set_at}
 
 -- ---- one frame
-
--- the canonical bytes of a frame, where it is kept
-abbrev pub given : Bool → Frame → List ℕ
-given true frame = canon frame
-given false frame = []
 
 -- Whether a frame with this mark is kept: in a message what was decided at its opening.
 abbrev pub kept_marked : (FrameOutline → Bool) → Option Open → Frame → Mark → Bool
@@ -72,32 +61,13 @@ with_held s channel held = record s { messages = set_at s.messages channel held 
 abbrev pub step_marked : MessageFilter → Option Open → Frame → Mark → Result (List ℕ × MessageFilter) Refusal
 step_marked s held frame (marks.Fault bad) = Err (refusals.BadContent bad)
 step_marked s held frame mark =
-    Ok (given (kept_marked (decides s.rules.now) held frame mark) frame, with_held s (channel_id_of frame) (held_marked (decides s.rules.now) held frame mark))
+    Ok (given (kept_marked (decides s.rules) held frame mark) frame, with_held s (channel_id_of frame) (held_marked (decides s.rules) held frame mark))
 
 -- A step of filtering: of all that is kept, only what is kept of the channel of the frame matters, and only that changes.
 abbrev pub step_filtering : MessageFilter → Frame → Result (List ℕ × MessageFilter) Refusal
 step_filtering s frame = step_marked s (held_at s (channel_id_of frame)) frame (mark_held (held_at s (channel_id_of frame)) frame)
 
 -- ---- calls of the writer
-
--- a fault of a payload
-abbrev pub IsFaultyBy : Raw → Cause → Type 0
-IsFaultyBy raw (faulty bad) = IsFaulty plain raw bad
-IsFaultyBy raw cause = ⊥
-
--- What is decided of a whole frame that is kept, or is not; or why it is none.
-abbrev pub JudgesKept : Bool → Raw → Result Decision StreamError → Type 0
-JudgesKept kept raw (Ok (decisions.Kept judged)) = (kept ≡ true) × IsJudged raw judged
-JudgesKept kept raw (Ok decisions.Dropped) = (kept ≡ false) × ((frame : Frame) × (whole raw ≡ Ok frame))
-JudgesKept kept raw (Err error) = IsFaultyBy raw (cause_of error)
-
--- A frame is refused for this fault, or for a fault of its payload.
-abbrev pub RefusesFrame : Raw → ContentFault → Ending Refusal → Type 0
-RefusesFrame raw fault (refused_by (refusals.BadContent bad)) = (frame : Frame) × (whole raw ≡ Ok frame) × (bad ≡ fault)
-RefusesFrame raw fault (refused_by refusals.OpenContent) = ⊥
-RefusesFrame raw fault (stopped_by (faulty bad)) = IsFaulty plain raw bad
-RefusesFrame raw fault (stopped_by cause) = ⊥
-RefusesFrame raw fault finished = ⊥
 
 -- A step that gives a frame, where it is kept, and keeps this of its channel.
 abbrev pub StepsTo : MessageFilter → MessageFilter → Raw → Bool → Type 0
@@ -120,3 +90,8 @@ end_filtering s = if finite.len s.messages == 0 then None else Some refusals.Ope
 -- filtering as a manner of writing: frames are read at level plain, and a content fault, or a message that is open at the end of input, is refused
 abbrev pub filtering : Manner MessageFilter Refusal
 filtering = record { level = plain; step = step_filtering; end = end_filtering; wants = is_method_type; compact = true }
+
+-- A whole frame that is kept, or is not, and what the writer keeps then; or why it is refused.
+abbrev pub KeepsBy : MessageFilter → MessageFilter → Raw → Result Bool (RunError Refusal) → Type 0
+KeepsBy s t raw (Ok kept) = StepsTo s t raw kept
+KeepsBy s t raw (Err error) = RefusesTo filtering s t raw error

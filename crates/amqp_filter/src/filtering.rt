@@ -4,27 +4,16 @@ ghost use Rattle.std.specs.Prelude.{◌≡◌, ◌≢◌, ◌⊎◌, ℕ, List, 
 ghost use Rattle.amqp_types.specs.Levels.{plain};
 ghost use Rattle.amqp_stream.specs.Transcribing.{IsValid, NoFaults};
 ghost use Rattle.amqp_select.specs.Matching.{decides};
-ghost use Rattle.amqp_filter.specs.Errors.{as_filtered};
-ghost use Rattle.amqp_filter.specs.Turning.{NeverBegan, IsComplete, IsOkOrNoMemory};
+ghost use Rattle.amqp_in_turn.specs.Turning.{NeverBegan, IsComplete, IsOkOrNoMemory};
 ghost use Rattle.amqp_filter.specs.Filtering.{Filters, FiltersExactly};
 
-use crate::errors::{FilterError, Refusal};
 use crate::message_filter::MessageFilter;
+use amqp_in_turn::{TurnError as FilterError, as_turned};
 use amqp_select::Rules;
-use amqp_stream::{RunError, Sink, Source, StreamError, run_stream};
+use amqp_stream::{Sink, Source, StreamError, run_stream};
 use amqp_turns::ContentFault;
 use amqp_types::ChunkSize;
 use std::alloc::Global;
-
-/// What a run returns, as filtering returns it.
-fn as_filtered(answer: Result<(), RunError<Refusal>>) -> Result<(), FilterError>
-    ensures { result ≡ as_filtered answer }
-{
-    match answer {
-        Ok(()) => Ok(()),
-        Err(error) => Err(FilterError::from(error)),
-    }
-}
 
 /// Writes the canonical bytes of the messages whose openings rules keep, and of each other frame that they keep. All
 /// others are read and decoded all the same. It goes on to the end of input, the first frame that is not in turn, or an
@@ -56,5 +45,5 @@ pub fn filter<S: Source, K: Sink>(
         → IsOkOrNoMemory result }
 {
     let mut writer = MessageFilter::new(alloc, rules);
-    as_filtered(run_stream(alloc, &mut writer, source, sink, max_payload, turns))
+    as_turned(run_stream(alloc, &mut writer, source, sink, max_payload, turns))
 }

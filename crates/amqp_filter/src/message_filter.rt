@@ -1,43 +1,77 @@
 //! What filtering keeps from frame to frame, and how it keeps, drops or refuses a frame.
 
-use crate::errors::Refusal;
-use crate::messages::{Messages, Open, is_kept, message_with, progress_of};
+ghost use Rattle.std.specs.Prelude.{◌≡◌, ◌↔◌, None, Ok, IsOk, IsTrue};
+ghost use Rattle.amqp_wire.specs.Frames.{Frame, raw_of};
+ghost use Rattle.amqp_wire.specs.Outlines.{outline_of};
+ghost use Rattle.amqp_wire.specs.Verdicts.{whole};
+ghost use Rattle.amqp_turns.specs.Steps.{mark_after};
+ghost use Rattle.amqp_turns.specs.InTurn.{greatest};
+
+use crate::asked_rules::AskedRules;
+use crate::messages::{Open, is_kept, message_with, progress_of};
+use amqp_in_turn::{OpenMessages, Refusal};
 use amqp_select::Rules;
 use amqp_stream::{
     Decision, FrameWriter, OutputBuffer, RunError, Sink, StreamError, payload_error, put_decided,
 };
 use amqp_turns::{Mark, Progress, step};
+use amqp_types::ChannelId;
 use amqp_wire::{
     AMQPFrameType, AMQPRawFrame, FrameJudgement, FrameOutline, judge_frame, outline_raw,
 };
 use std::alloc::Global;
 
+/// Whether a frame is of no message, where none has begun: it is no opening, no content header and no body.
+#[inline(always)]
+fn is_passed(outline: FrameOutline) -> bool
+    ensures { IsTrue result ↔ (mark_after greatest None outline ≡ Mark.Passed) }
+{
+    match step(u64::MAX, None, outline).0 {
+        Mark::Passed => true,
+        _ => false,
+    }
+}
+
+/// Whether a whole frame is a method or a heartbeat of no message, where none has begun.
+#[inline(always)]
+fn stands_alone(raw: AMQPRawFrame<'_>) -> bool
+    requires { IsOk (whole (raw_of raw)) }
+    ensures { (frame : Frame) → whole (raw_of raw.entry) ≡ Ok frame → IsTrue result → mark_after greatest None (outline_of frame) ≡ Mark.Passed }
+{
+    match raw.frame_type {
+        AMQPFrameType::Method => is_passed(outline_raw(raw)),
+        AMQPFrameType::Heartbeat => true,
+        _ => false,
+    }
+}
+
 /// Writes the canonical bytes of the messages whose openings rules keep, and of each other frame that they keep.
 #[derive(Drop)]
 pub(crate) struct MessageFilter<'a> {
-    rules: &'a Rules,
-    messages: Messages,
+    rules: AskedRules<'a>,
+    messages: OpenMessages<Open>,
 }
 
 impl<'a> MessageFilter<'a> {
-    ghost use Rattle.std.specs.Prelude.{◌≡◌, Ok, Some, None, IsSome};
+    ghost use Rattle.std.specs.Prelude.{◌≡◌, Ok, Some, None, IsOk, IsSome};
     ghost use Rattle.std.specs.FinMap as finite;
     ghost use Rattle.amqp_wire.specs.Frames.{Frame, Raw, raw_of};
     ghost use Rattle.amqp_wire.specs.Judgements.{IsJudged};
     ghost use Rattle.amqp_wire.specs.Outlines.{outline_of, outline_front};
-    ghost use Rattle.amqp_wire.specs.Verdicts.{whole};
+    ghost use Rattle.amqp_wire.specs.Verdicts.{whole, whole_as};
     ghost use Rattle.amqp_stream.specs.Decisions.{DecidesBy};
+    ghost use Rattle.amqp_in_turn.specs.Judging.{JudgesKept};
     ghost use Rattle.amqp_filter.specs.Held.{held_with};
-    ghost use Rattle.amqp_filter.specs.Stepping.{filtering, held_at, with_held, JudgesKept, StepsTo};
+    ghost use Rattle.amqp_filter.specs.Stepping.{filtering, held_at, with_held, StepsTo, KeepsBy};
 
     /// A writer that has taken no frame.
     pub(crate) fn new(alloc: Global, rules: &'a Rules) -> MessageFilter<'a>
-        ensures rules { result.rules.now ≡ rules.now }
+        ensures rules { result.rules ≡ rules.now }
         ensures messages { result.messages ≡ finite.empty }
     {
         MessageFilter {
-            rules,
-            messages: Messages::new(alloc),
+            rules: AskedRules::new(rules),
+            messages: OpenMessages::new(alloc),
         }
     }
 
@@ -53,19 +87,13 @@ impl<'a> MessageFilter<'a> {
         }
     }
 
-    /// Begins a message with its opening.
+    /// Begins a message with its opening, and returns whether it is kept.
     #[inline(always)]
-    fn begin(
-        &mut self,
-        raw: AMQPRawFrame<'_>,
-        kept: bool,
-        decision: Decision,
-    ) -> Result<Decision, RunError<Refusal>>
+    fn begin(&mut self, raw: AMQPRawFrame<'_>, kept: bool) -> Result<bool, RunError<Refusal>>
         requires method { raw.frame_type ≡ AMQPFrameType.Method }
         requires none { held_at self.old raw.channel_id ≡ None }
-        requires judged { JudgesKept kept (raw_of raw) (Ok decision) }
         requires steps { StepsTo self.old (with_held self.old raw.channel_id (held_with (Some Progress.Opened) kept)) (raw_of raw) kept }
-        ensures { DecidesBy filtering self.old self.new (raw_of raw.entry) result }
+        ensures { KeepsBy self.old self.new (raw_of raw.entry) result }
     {
         let message = Open {
             progress: Progress::Opened,
@@ -73,60 +101,85 @@ impl<'a> MessageFilter<'a> {
         };
         match self.messages.begin(raw.channel_id, message) {
             Err(_) => Err(RunError::Stream(StreamError::NoMemory)),
-            Ok(()) => Ok(decision),
+            Ok(()) => Ok(kept),
         }
     }
 
-    /// Goes on with a message, to how far it has come after one more frame.
+    /// Goes on with a message, to how far it has come after one more frame, and returns whether it is kept.
     #[inline(always)]
-    fn go_on(
-        &mut self,
-        raw: AMQPRawFrame<'_>,
-        progress: Option<Progress>,
-        kept: bool,
-        decision: Decision,
-    ) -> Result<Decision, RunError<Refusal>>
+    fn go_on(&mut self, raw: AMQPRawFrame<'_>, progress: Option<Progress>, kept: bool) -> bool
         requires there { IsSome (held_at self.old raw.channel_id) }
-        requires judged { JudgesKept kept (raw_of raw) (Ok decision) }
         requires steps { StepsTo self.old (with_held self.old raw.channel_id (held_with progress kept)) (raw_of raw) kept }
-        ensures { DecidesBy filtering self.old self.new (raw_of raw.entry) result }
+        ensures { StepsTo self.old self.new (raw_of raw.entry) result }
     {
         self.messages
             .replace(raw.channel_id, message_with(progress, kept));
-        Ok(decision)
+        kept
     }
 
-    /// Takes a whole frame by its mark.
+    /// Takes a whole frame by its mark, and returns whether it is kept.
     #[inline(always)]
-    fn decide_outlined(
+    fn keep_outlined(
         &mut self,
         raw: AMQPRawFrame<'_>,
-        judged: FrameJudgement,
         outline: FrameOutline,
-    ) -> Result<Decision, RunError<Refusal>>
-        requires judged { IsJudged (raw_of raw) judged }
+    ) -> Result<bool, RunError<Refusal>>
+        requires is_whole { IsOk (whole (raw_of raw)) }
         requires front { outline ≡ outline_front (raw_of raw) }
         requires whole { (frame : Frame) → whole (raw_of raw) ≡ Ok frame → Some outline ≡ Some (outline_of frame) }
-        ensures { DecidesBy filtering self.old self.new (raw_of raw.entry) result }
+        ensures { KeepsBy self.old self.new (raw_of raw.entry) result }
     {
-        let held = self.messages.get(raw.channel_id);
+        let held = self.messages.get(raw.channel_id).copied();
         let stepped = step(u64::MAX, progress_of(held), outline);
         match stepped.0 {
             Mark::Fault(fault) => Err(RunError::Refused(Refusal::BadContent(fault))),
             Mark::Passed => {
-                let kept = self.rules.decide_outline(outline);
-                Ok(MessageFilter::decision_of(judged, kept))
+                let kept = self.rules.decide(raw);
+                Ok(kept)
             }
             Mark::Opening => {
-                let kept = self.rules.decide_outline(outline);
-                self.begin(raw, kept, MessageFilter::decision_of(judged, kept))
+                let kept = self.rules.decide(raw);
+                self.begin(raw, kept)
             }
             Mark::Header | Mark::Body { .. } => {
                 let kept = is_kept(held);
-                let decision = MessageFilter::decision_of(judged, kept);
-                self.go_on(raw, stepped.1, kept, decision)
+                Ok(self.go_on(raw, stepped.1, kept))
             }
         }
+    }
+
+    /// The same where messages have begun, or the frame may begin one. It is part of the loop's code: as a call it would cost
+    /// small messages a tenth more instructions, and save others a twentieth.
+    #[inline(always)]
+    fn keep_apart(
+        &mut self,
+        frame_type: AMQPFrameType,
+        channel_id: ChannelId,
+        payload: &[u8],
+    ) -> Result<bool, RunError<Refusal>>
+        requires { IsOk (whole_as frame_type channel_id payload.now) }
+        ensures { KeepsBy self.old self.new (record { kind = frame_type; channel = channel_id; payload = payload.now }) result }
+    {
+        let raw = AMQPRawFrame {
+            frame_type,
+            channel_id,
+            payload,
+        };
+        self.keep_outlined(raw, outline_raw(raw))
+    }
+
+    /// Takes a whole frame, and returns whether it is kept. Where no message has begun, one that stands alone is looked up
+    /// nowhere.
+    #[inline(always)]
+    fn keep(&mut self, raw: AMQPRawFrame<'_>) -> Result<bool, RunError<Refusal>>
+        requires { IsOk (whole (raw_of raw)) }
+        ensures { KeepsBy self.old self.new (raw_of raw.entry) result }
+    {
+        if self.messages.is_empty() && stands_alone(raw) {
+            let kept = self.rules.decide(raw);
+            return Ok(kept);
+        }
+        self.keep_apart(raw.frame_type, raw.channel_id, raw.payload)
     }
 
     /// Takes a frame: a fault of its payload comes first.
@@ -136,7 +189,10 @@ impl<'a> MessageFilter<'a> {
     {
         match judge_frame(raw) {
             Err(error) => Err(RunError::Stream(payload_error(error))),
-            Ok(judged) => self.decide_outlined(raw, judged, outline_raw(raw)),
+            Ok(judged) => match self.keep(raw) {
+                Err(error) => Err(error),
+                Ok(kept) => Ok(MessageFilter::decision_of(judged, kept)),
+            },
         }
     }
 }

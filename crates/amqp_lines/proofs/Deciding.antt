@@ -1,5 +1,5 @@
 -- Whether a text is the line of a frame can be decided, and so some sequence of lines in front of a text is the longest.
-use Rattle.std.proofs.Common.{◌≡◌, ◌≢◌, ◌⊎◌, ℕ, zero, suc, ◌+◌, ◌-◌, ◌≤◌, Bool, true, false, List, [], ◌∷◌, ◌++◌, length, take, drop, Option, Some, None, refl, sym, ap, subst, ◌∙◌, inl, inr, append_assoc, arith}
+use Rattle.std.proofs.Common.{◌≡◌, ◌≢◌, ◌⊎◌, ℕ, zero, suc, ◌+◌, ◌-◌, ◌≤◌, Bool, true, false, List, [], ◌∷◌, ◌++◌, length, take, drop, Some, refl, sym, ap, subst, ◌∙◌, inl, inr, append_assoc, arith}
 use Rattle.std.specs.Str.{bytes_eq}
 use Rattle.std.proofs.lemmas.Bool.{cases_lt}
 use Rattle.std.proofs.lemmas.List.{length-append, length-drop, take_at, take-append-drop}
@@ -18,7 +18,7 @@ use Rattle.amqp_lines.specs.Laws.{IsStrict}
 use Rattle.amqp_lines.specs.Lines.{words, line, lines}
 use Rattle.amqp_lines.specs.LineReading.{HasNoNewline, IsFirstLine}
 use Rattle.amqp_lines.specs.OneLine.{IsStrictWithin, IsNoLine}
-use Rattle.amqp_lines.specs.ReadingLines.{read_words}
+use Rattle.amqp_lines.specs.Reading.{read_words}
 use Rattle.amqp_lines.proofs.ReadLines.{kind_of}
 use Rattle.amqp_lines.proofs.ReadWords.{bytes_behind, bytes_front}
 use Rattle.amqp_lines.proofs.LinesApart.{raw_canon, strict_back}
@@ -34,7 +34,7 @@ words_in : (f : Frame) (text : List ℕ) → text ≡ line f → take (length te
 unfolding line
 words_in f text e = ap (λ (xs : List ℕ). take (length xs - 1) xs) e ∙ take_at (words f) (10 ∷ []) (length (words f ++ 10 ∷ []) - 1) (omega (arith, length-append (words f) (10 ∷ [])))
 
-pub line_back : (f : Frame) (text : List ℕ) → IsStrict f → text ≡ line f → read_words (take (length text - 1) text) ≡ Some (raw_in f)
+pub line_back : (f : Frame) (text : List ℕ) → IsStrict f → text ≡ line f → read_words (take (length text - 1) text) ≡ raw_in f
 line_back f text h e = ap read_words (words_in f text e) ∙ strict_back f h
 
 -- ---- tests
@@ -64,42 +64,38 @@ pub record IsALine (m : ℕ) (text : List ℕ) : Type 0 where
   pub is_line : text ≡ line frame
 
 -- what the bytes of a frame are decoded as, of which a text is the line
-judged_line : (m : ℕ) (text : List ℕ) (raw : Raw) (f : Frame) → read_words (take (length text - 1) text) ≡ Some raw → IsStrictWithin m f → text ≡ line f → raw_bytes raw ≡ canon f
-judged_line m text raw f found good e =
-    let same : raw ≡ raw_in f = let x = sym found ∙ line_back f text good.is_strict e in cc in
-    ap raw_bytes same ∙ raw_canon f
+judged_line : (m : ℕ) (text : List ℕ) (f : Frame) → IsStrictWithin m f → text ≡ line f → raw_bytes (read_words (take (length text - 1) text)) ≡ canon f
+judged_line m text f good e = ap raw_bytes (line_back f text good.is_strict e) ∙ raw_canon f
 
 verdict_line : (m : ℕ) (f : Frame) → IsStrictWithin m f → verdict strict (Some m) (canon f) ≡ took f (length (canon f))
 verdict_line m f good = verdict-spelled strict (Some m) (canon f) f good.is_strict.encodes good.within
 
-by_verdict : (m : ℕ) (text : List ℕ) (raw : Raw) (v : Judged Frame) → read_words (take (length text - 1) text) ≡ Some raw → verdict strict (Some m) (raw_bytes raw) ≡ v → IsALine m text ⊎ IsNoLine m text
-by_verdict m text raw past found h = inr (λ f good e. absurd (let x = sym h ∙ ap (verdict strict (Some m)) (judged_line m text raw f found good e) ∙ verdict_line m f good in cc))
-by_verdict m text raw (fault bad) found h = inr (λ f good e. absurd (let x = sym h ∙ ap (verdict strict (Some m)) (judged_line m text raw f found good e) ∙ verdict_line m f good in cc))
-by_verdict m text raw (took g n) found h = elim (bytes_or (raw_bytes raw)) [
-  | inr never ↦ inr (λ f good e. absurd (never (subst (λ (bs : List ℕ). IsBytes bs) (sym (judged_line m text raw f found good e)) good.is_strict.are_bytes)))
-  | inl fits ↦ elim (same_or text (line g)) [
-    | inr other ↦ inr (λ f good e. absurd (other (e ∙ ap line (value_took f g (length (canon f)) n (sym (verdict_line m f good) ∙ ap (verdict strict (Some m)) (sym (judged_line m text raw f found good e)) ∙ h)))))
-    | inl same ↦
-        let spelled = verdict-spells strict (Some m) (raw_bytes raw) g n fits h in
-        let is = first_is_canon (take n (raw_bytes raw)) g spelled.0 in
-        let front = bytes_front (take n (raw_bytes raw)) (drop n (raw_bytes raw)) (raw_bytes raw) (sym (take-append-drop n (raw_bytes raw))) fits in
-        inl (record {
-          frame = g;
-          good = record {
-            is_strict = record { are_bytes = subst (λ (bs : List ℕ). IsBytes bs) is front; encodes = subst (λ (bs : List ℕ). Spells strict bs g) is spelled.0 };
-            within = subst (λ (bs : List ℕ). length bs ≤ m + 8) is spelled.1;
-          };
-          is_line = same;
-        })
-  ]
-]
-
-by_words : (m : ℕ) (text : List ℕ) (found : Option Raw) → read_words (take (length text - 1) text) ≡ found → IsALine m text ⊎ IsNoLine m text
-by_words m text None h = inr (λ f good e. absurd (let x = sym h ∙ line_back f text good.is_strict e in cc))
-by_words m text (Some raw) h = by_verdict m text raw (verdict strict (Some m) (raw_bytes raw)) h refl
+by_verdict : (m : ℕ) (text : List ℕ) (v : Judged Frame) → verdict strict (Some m) (raw_bytes (read_words (take (length text - 1) text))) ≡ v → IsALine m text ⊎ IsNoLine m text
+by_verdict m text past h = inr (λ f good e. absurd (let x = sym h ∙ ap (verdict strict (Some m)) (judged_line m text f good e) ∙ verdict_line m f good in cc))
+by_verdict m text (fault bad) h = inr (λ f good e. absurd (let x = sym h ∙ ap (verdict strict (Some m)) (judged_line m text f good e) ∙ verdict_line m f good in cc))
+by_verdict m text (took g n) h =
+    let bytes = raw_bytes (read_words (take (length text - 1) text)) in
+    elim (bytes_or bytes) [
+      | inr never ↦ inr (λ f good e. absurd (never (subst (λ (bs : List ℕ). IsBytes bs) (sym (judged_line m text f good e)) good.is_strict.are_bytes)))
+      | inl fits ↦ elim (same_or text (line g)) [
+        | inr different ↦ inr (λ f good e. absurd (different (e ∙ ap line (value_took f g (length (canon f)) n (sym (verdict_line m f good) ∙ ap (verdict strict (Some m)) (sym (judged_line m text f good e)) ∙ h)))))
+        | inl same ↦
+            let spelled = verdict-spells strict (Some m) bytes g n fits h in
+            let is = first_is_canon (take n bytes) g spelled.0 in
+            let front = bytes_front (take n bytes) (drop n bytes) bytes (sym (take-append-drop n bytes)) fits in
+            inl (record {
+              frame = g;
+              good = record {
+                is_strict = record { are_bytes = subst (λ (bs : List ℕ). IsBytes bs) is front; encodes = subst (λ (bs : List ℕ). Spells strict bs g) is spelled.0 };
+                within = subst (λ (bs : List ℕ). length bs ≤ m + 8) is spelled.1;
+              };
+              is_line = same;
+            })
+      ]
+    ]
 
 decide_line : (m : ℕ) (text : List ℕ) → IsALine m text ⊎ IsNoLine m text
-decide_line m text = by_words m text (read_words (take (length text - 1) text)) refl
+decide_line m text = by_verdict m text (verdict strict (Some m) (raw_bytes (read_words (take (length text - 1) text)))) refl
 
 -- ---- the first line of a text
 

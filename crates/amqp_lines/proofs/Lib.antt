@@ -10,9 +10,7 @@ pub mod ReadWords
 pub mod ReadBack
 pub mod ReadSteps
 pub mod ReadSlots
-pub mod SlotSteps
 pub mod ReadLines
-pub mod LineSteps
 pub mod LinesApart
 pub mod TextFronts
 pub mod Deciding

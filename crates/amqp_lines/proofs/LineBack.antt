@@ -1,5 +1,5 @@
--- What is read of a line is its frame, and a text of which none is read is the line of none.
-use Rattle.std.proofs.Common.{◌≡◌, ◌≢◌, ℕ, ◌+◌, ◌-◌, ◌^◌, ◌<◌, ◌≤◌, ◌↔◌, IsTrue, Bool, true, false, List, [], ◌∷◌, ◌++◌, length, take, Option, None, Result, Ok, Err, refl, sym, ap, subst, ◌∙◌, append-nil, arith, inl, inr}
+-- What is read of a line is its frame, so a text that is not the line of what is read of it is the line of no frame.
+use Rattle.std.proofs.Common.{◌≡◌, ◌≢◌, ℕ, ◌+◌, ◌-◌, ◌^◌, ◌<◌, ◌≤◌, ◌↔◌, IsTrue, Bool, true, false, List, [], ◌∷◌, ◌++◌, length, take, None, Result, Ok, Err, refl, sym, ap, subst, ◌∙◌, append-nil, arith, inl, inr}
 use Rattle.std.proofs.lemmas.Bool.{cases_lt, ne_eqb}
 use Rattle.amqp_types.specs.declared.errors.NoMemory.{NoMemory}
 use Rattle.amqp_types.specs.Levels.{plain, strict}
@@ -22,13 +22,11 @@ use Rattle.amqp_wire.proofs.Typed.{method_whole, header_whole}
 use Rattle.amqp_stream.specs.declared.errors.StreamError.{StreamError}
 use Rattle.amqp_stream.specs.declared.errors.StreamError.TheVariants as errors
 use Rattle.amqp_stream.specs.Errors.{cause_of}
-use Rattle.amqp_lines.specs.declared.errors.TextError.{TextError}
-use Rattle.amqp_lines.specs.declared.errors.TextError.TheVariants as texts
 use Rattle.amqp_lines.specs.Lines.{line}
 use Rattle.amqp_lines.specs.LineTexts.{HasNoLine, PutsBoth}
 use Rattle.amqp_lines.specs.LineReading.{RendersLine}
 use Rattle.amqp_lines.specs.OneLine.{IsStrictWithin, IsNoLine, IsLineOf}
-use Rattle.amqp_lines.specs.ReadingLines.{ReadsWords, read_words}
+use Rattle.amqp_lines.specs.Reading.{ReadsWords, read_words}
 use Rattle.amqp_lines.proofs.TextFronts.{first_is_canon}
 use Rattle.amqp_lines.proofs.Deciding.{raw_in, line_back}
 
@@ -63,10 +61,7 @@ raw_same found payload raw h = rw (h.0, h.1, h.2) refl
 -- what is found of a line
 found_back : (m : ℕ) (text payload : List ℕ) (found : AMQPFrameType × ℕ) → ReadsWords (read_words (take (length text - 1) text)) [] payload (Ok found) → (f : Frame) → IsStrictWithin m f → text ≡ line f → found_raw found payload ≡ raw_in f
 found_back m text payload found h f good e =
-    raw_same found payload (raw_in f) (subst (λ (r : Option Raw). ReadsWords r [] payload (Ok found)) (line_back f text good.is_strict e) h)
-
-pub none_read : (m : ℕ) (text payload : List ℕ) → ReadsWords (read_words (take (length text - 1) text)) [] payload (Err texts.BadText) → IsNoLine m text
-none_read m text payload h f good e = subst (λ (r : Option Raw). ReadsWords r [] payload (Err texts.BadText)) (line_back f text good.is_strict e) h
+    raw_same found payload (raw_in f) (subst (λ (r : Raw). ReadsWords r [] payload (Ok found)) (line_back f text good.is_strict e) h)
 
 pub none_long : (m : ℕ) (text payload : List ℕ) (found : AMQPFrameType × ℕ) → ReadsWords (read_words (take (length text - 1) text)) [] payload (Ok found) → 2 ^ 32 ≤ length payload → IsNoLine m text
 none_long m text payload found h long f good e = absurd (omega (arith, ap (λ (r : Raw). length r.payload) (found_back m text payload found h f good e), payload_few f good.is_strict.encodes))
@@ -130,8 +125,8 @@ is_line m text payload canonical lined found done fits c l p bytes within same =
 -- ---- what is returned for a text
 
 -- what is read of a text but its last byte, into an empty vector
-pub read_here : (text front old payload : List ℕ) (r : Result (AMQPFrameType × ℕ) TextError) → front ≡ take (length text - 1) text → old ≡ [] → ReadsWords (read_words front) old payload r → ReadsWords (read_words (take (length text - 1) text)) [] payload r
-read_here text front old payload r is none h = rw (is, none) at h
+pub read_here : (text front old payload : List ℕ) (found : AMQPFrameType × ℕ) → front ≡ take (length text - 1) text → old ≡ [] → ReadsWords (read_words front) old payload (Ok found) → ReadsWords (read_words (take (length text - 1) text)) [] payload (Ok found)
+read_here text front old payload found is none h = rw (is, none) at h
 
 pub refused_line : (m : ℕ) (text payload canonical : List ℕ) (found : AMQPFrameType × ℕ) (error : StreamError) (r : Result Bool NoMemory) → ReadsWords (read_words (take (length text - 1) text)) [] payload (Ok found) → HasNoLine (found_raw found payload) (cause_of error) → r ≢ Ok true → (r ≡ Ok false → error ≢ errors.NoMemory) → RendersLine m text canonical r
 refused_line m text payload canonical found error (Ok true) h u never none = absurd (never refl)

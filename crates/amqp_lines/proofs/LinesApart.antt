@@ -1,5 +1,5 @@
 -- Equal lines are those of equal frames, and equal texts those of equal sequences.
-use Rattle.std.proofs.Common.{◌≡◌, ◌≢◌, ℕ, List, [], ◌∷◌, ◌++◌, length, take, Option, Some, refl, sym, ap, ap₂, subst, ◌∙◌, append_assoc, arith}
+use Rattle.std.proofs.Common.{◌≡◌, ◌≢◌, ℕ, List, [], ◌∷◌, ◌++◌, length, take, refl, sym, ap, ap₂, subst, ◌∙◌, append_assoc, arith}
 use Rattle.std.specs.Prelude.{codes, None}
 use Rattle.std.specs.List.{AllByRecursion, flat_map}
 use Rattle.std.proofs.lemmas.List.{length-append, take_at}
@@ -12,7 +12,7 @@ use Rattle.amqp_types.specs.ContentHeaders.{SpellsContentHeader}
 use Rattle.amqp_types.proofs.Took.{value_took}
 use Rattle.amqp_laws.proofs.MethodLaws.{payloads_lawful}
 use Rattle.amqp_laws.proofs.HeaderLaws.{content_headers_lawful}
-use Rattle.amqp_wire.specs.Frames.{Frame, Proto, Meth, Head, Body, Beat, BadBeat, Raw, channel_id_of}
+use Rattle.amqp_wire.specs.Frames.{Frame, Proto, Meth, Head, Body, Beat, BadBeat, channel_id_of}
 use Rattle.amqp_wire.specs.Spelling.{Spells, framed, head, raw_bytes}
 use Rattle.amqp_wire.specs.Canonical.{canon, payload_of}
 use Rattle.amqp_wire.specs.Verdicts.{verdict}
@@ -20,7 +20,7 @@ use Rattle.amqp_wire.proofs.Spelled.{verdict-spelled}
 use Rattle.amqp_lines.specs.Lines.{words, line, lines}
 use Rattle.amqp_lines.specs.Payloads.{IsPayload}
 use Rattle.amqp_lines.specs.Laws.{IsStrict}
-use Rattle.amqp_lines.specs.ReadingLines.{read_words}
+use Rattle.amqp_lines.specs.Reading.{read_words}
 use Rattle.amqp_lines.proofs.ReadWords.{bytes_behind, bytes_front}
 use Rattle.amqp_lines.proofs.ReadLines.{IsNumbered, kind_of, words_back}
 use Rattle.amqp_lines.proofs.Newlines.{one_newline}
@@ -68,19 +68,14 @@ raw_canon Beat = refl
 raw_canon (BadBeat channel) = refl
 
 -- what is read of its words
-pub strict_back : (f : Frame) → IsStrict f → read_words (words f) ≡ Some (record { kind = kind_of f; channel = channel_id_of f; payload = payload_of f })
+pub strict_back : (f : Frame) → IsStrict f → read_words (words f) ≡ record { kind = kind_of f; channel = channel_id_of f; payload = payload_of f }
 strict_back f h = words_back f (payload_of f) (payload_fits f h.are_bytes) (payload_is f h.encodes) (numbers_fit f h.are_bytes h.encodes)
 
 -- ---- one frame
 
-raw_in : Option Raw → List ℕ
-raw_in None = []
-raw_in (Some raw) = raw_bytes raw
-
 same_words : (f g : Frame) → IsStrict f → IsStrict g → words f ≡ words g → f ≡ g
-unfolding raw_in
 same_words f g p q h =
-    let bytes : canon f ≡ canon g = sym (raw_canon f) ∙ ap raw_in (sym (strict_back f p) ∙ ap read_words h ∙ strict_back g q) ∙ raw_canon g in
+    let bytes : canon f ≡ canon g = sym (raw_canon f) ∙ ap raw_bytes (sym (strict_back f p) ∙ ap read_words h ∙ strict_back g q) ∙ raw_canon g in
     value_took f g (length (canon f)) (length (canon g)) (sym (verdict-spelled strict None (canon f) f p.encodes tt) ∙ ap (verdict strict None) bytes ∙ verdict-spelled strict None (canon g) g q.encodes tt)
 
 same_front : (a b end : List ℕ) → a ++ end ≡ b ++ end → a ≡ b

@@ -1,8 +1,8 @@
 -- What calls write of the canonical bytes of values, step by step.
-use Rattle.std.proofs.Common.{◌≡◌, ℕ, ℤ, zero, suc, ◌+◌, ◌-◌, ◌<◌, ◌≤◌, List, [], ◌∷◌, ◌++◌, length, get_or, drop, map, Bool, true, false, Option, Some, None, Result, Ok, Err, refl, sym, ap, subst, ◌∙◌, append_assoc, append-nil, arith, inl}
+use Rattle.std.proofs.Common.{◌≡◌, ℕ, ℤ, zero, suc, ◌+◌, ◌-◌, ◌<◌, List, [], ◌∷◌, ◌++◌, length, get_or, drop, map, Some, None, Result, Ok, Err, refl, sym, ap, subst, ◌∙◌, append_assoc, append-nil, arith, inl}
 use Rattle.std.specs.Prelude.{codes}
 use Rattle.std.specs.Fmt.{decimal, signed_decimal}
-use Rattle.std.proofs.lemmas.List.{length-append, take_at, drop_at, nil_from_length}
+use Rattle.std.proofs.lemmas.List.{length-append, take_at, drop_at}
 use Rattle.amqp_types.specs.Levels.{plain, strict}
 use Rattle.amqp_types.specs.Judging.{Judged, Judge, IsExact, took, past, fault, ◌>>=◌}
 use Rattle.amqp_types.specs.Sequences.{judge_map}
@@ -23,7 +23,7 @@ use Rattle.amqp_types.proofs.Texts.{signed_exact, long_string_exact}
 use Rattle.amqp_types.proofs.Sequences.{map_taken}
 use Rattle.amqp_types.proofs.Took.{value_took, count_took}
 use Rattle.amqp_laws.proofs.Conversions.{entries_of-pairs, pairs-entries_of}
-use Rattle.amqp_laws.proofs.Filled.{HasBytes, entry_some}
+use Rattle.amqp_laws.proofs.Filled.{HasBytes}
 use Rattle.amqp_laws.proofs.Exactly.{value_some, decimal_exact}
 use Rattle.amqp_laws.proofs.Tags.{tag_read}
 use Rattle.amqp_canonical.specs.Writes.{IsRead, key_in, after_key}

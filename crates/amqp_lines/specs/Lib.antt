@@ -13,5 +13,4 @@ pub mod Laws
 pub mod UndumpLaws
 pub mod Errors
 pub mod Reading
-pub mod ReadingLines
 pub mod LineReading

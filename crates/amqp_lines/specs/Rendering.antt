@@ -3,7 +3,7 @@ use Rattle.std.specs.Prelude.{◌≡◌, ℕ, ◌-◌, ◌<◌, Option, Some, No
 use Rattle.std.specs.Fmt.{decimal, signed_decimal}
 use Rattle.amqp_canonical.specs.Writes.{IsRead}
 use Rattle.amqp_types.specs.Levels.{strict}
-use Rattle.amqp_types.specs.Judging.{Judged, Judge, took, past, ◌>>=◌}
+use Rattle.amqp_types.specs.Judging.{Judged, Judge, took}
 use Rattle.amqp_types.specs.Sequences.{judge_map}
 use Rattle.amqp_types.specs.Numbers.{NumberWidth, bytes1, bytes2, bytes4, bytes8, judge_number}
 use Rattle.amqp_types.specs.Signed.{judge_signed}

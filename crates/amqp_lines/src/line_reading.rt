@@ -3,7 +3,6 @@
 ghost use Rattle.std.specs.Prelude.{◌≡◌, ◌≢◌, ◌↔◌, ◌+◌, ◌≤◌, true, false, length, IsTrue, Ok};
 ghost use Rattle.amqp_lines.specs.LineReading.{RendersLine};
 
-use crate::errors::TextError;
 use crate::line_text::{LineText, without_last};
 use crate::reading::lines::read_words;
 use amqp_stream::StreamError;
@@ -64,21 +63,17 @@ impl LineReader {
         ensures { RendersLine max_payload text.now self.new.text.canonical.bytes result }
     {
         self.payload.clear();
-        let (frame_type, channel_id) = match read_words(&mut self.payload, without_last(text)) {
-            Ok(found) => found,
-            Err(TextError::BadText) => return Ok(false),
-            Err(TextError::NoMemory) => return Err(NoMemory),
-        };
+        let found = read_words(&mut self.payload, without_last(text))?;
         if self.payload.len() > u32::MAX as usize {
             return Ok(false);
         }
         let raw = AMQPRawFrame {
-            frame_type,
-            channel_id,
+            frame_type: found.0,
+            channel_id: found.1,
             payload: self.payload.as_slice(),
         };
         are_bytes(raw.payload);
-        short_held(channel_id);
+        short_held(found.1);
         match self.text.put(raw) {
             Err(error) => return refused(error),
             Ok(()) => {}

@@ -11,49 +11,29 @@ use Rattle.amqp_select.specs.Matching.{decides}
 use Rattle.amqp_select.specs.Refusals.{Spell}
 use Rattle.amqp_select.specs.Covering.{uncovered}
 use Rattle.amqp_select.proofs.Covered.{decides_same}
-use Rattle.amqp_filter.specs.declared.errors.FilterError.{FilterError}
-use Rattle.amqp_filter.specs.declared.errors.FilterError.TheVariants as filters
-use Rattle.amqp_filter.specs.Errors.{filter_error_status}
+use Rattle.amqp_in_turn.specs.declared.errors.TurnError.{TurnError}
+use Rattle.amqp_in_turn.specs.declared.errors.TurnError.TheVariants as turns
+use Rattle.amqp_in_turn.specs.Turning.{NeverBegan, IsComplete, IsOkOrNoMemory}
 use Rattle.amqp_filter.specs.Filtering.{Filters, FiltersExactly}
-use Rattle.amqp_filter.specs.Turning.{NeverBegan, IsComplete, IsOkOrNoMemory}
 use Rattle.amqp_program.specs.Commands.{AreNamed}
 use Rattle.amqp_program.specs.Reports.{max_payload}
-use Rattle.amqp_program.specs.Runs.{IsDoneOrNoMemory, RunsFilter, raw_turns, filter_status_of}
+use Rattle.amqp_program.specs.Runs.{IsDoneOrNoMemory, RunsFilter, raw_turns, turn_status_of}
 use Rattle.amqp_program.proofs.Selections.{one_spelling}
-use Rattle.amqp_program.proofs.Statuses.{not_two, below_23}
-
-filter_done : (r : Result (Unit {0}) FilterError) → IsOkOrNoMemory r → IsDoneOrNoMemory (filter_status_of r)
-filter_done (Ok done) h = inl refl
-filter_done (Err (filters.Stream errors.NoMemory)) h = inr refl
-filter_done (Err (filters.Stream error)) h = absurd h
-filter_done (Err (filters.BadContent fault)) h = absurd h
-filter_done (Err filters.OpenContent) h = absurd h
-
-answer_not_two : (r : Result (Unit {0}) FilterError) → filter_status_of r ≢ 2
-answer_not_two (Ok done) e = absurd (omega arith)
-answer_not_two (Err (filters.Stream error)) e = not_two error e
-answer_not_two (Err (filters.BadContent fault)) e = absurd (omega arith)
-answer_not_two (Err filters.OpenContent) e = absurd (omega arith)
+use Rattle.amqp_program.proofs.TurnStatuses.{turned_done, turned_not_two}
 
 pub filter_not_two : (rules : List Rule) (a b : Supply) (k l : Store) (status : ℕ) → RunsFilter rules a b k l status → status ≢ 2
-filter_not_two rules a b k l status run h = answer_not_two run.answer (sym run.status_is ∙ h)
+filter_not_two rules a b k l status run h = turned_not_two run.answer (sym run.status_is ∙ h)
 
 -- a run with this result
-pub filter_runs : (rules : List Rule) (a b : Supply) (k l : Store) (answer : Result (Unit {0}) FilterError) (status : ℕ) → status ≡ filter_status_of answer → Filters (decides rules) max_payload raw_turns a b k l answer ⊎ NeverBegan a b k l answer
+pub filter_runs : (rules : List Rule) (a b : Supply) (k l : Store) (answer : Result (Unit {0}) TurnError) (status : ℕ) → status ≡ turn_status_of answer → Filters (decides rules) max_payload raw_turns a b k l answer ⊎ NeverBegan a b k l answer
     → ((input : List ℕ) → a.left ≡ Some input → FiltersExactly (decides rules) max_payload input k l answer) → ((input : List ℕ) → a.left ≡ Some input → IsValid plain max_payload raw_turns input → IsComplete max_payload input → NoFaults a b k l → IsOkOrNoMemory answer) → RunsFilter rules a b k l status
 filter_runs rules a b k l answer status e stream exact complete = record {
   answer = answer;
   status_is = e;
   stream = stream;
   exact = exact;
-  complete = λ input left valid whole none. subst IsDoneOrNoMemory (sym e) (filter_done answer (complete input left valid whole none));
+  complete = λ input left valid whole none. subst IsDoneOrNoMemory (sym e) (turned_done answer (complete input left valid whole none));
 }
-
--- what status an error has that is none of NotTidy
-pub own_statuses : (e : FilterError) (r : Result (Unit {0}) FilterError) → r ≢ Err (filters.Stream errors.NotTidy) → r ≡ Err e → 23 ≤ filter_error_status e → (filter_error_status e ≡ 24) ⊎ (filter_error_status e ≡ 25)
-own_statuses (filters.Stream error) r other is most = let below = below_23 error (Err error) (λ same. other (is ∙ (let e : error ≡ errors.NotTidy = cc in ap (λ x. Err (filters.Stream x)) e))) refl in absurd (omega (arith, below, most))
-own_statuses (filters.BadContent fault) r other is most = inl refl
-own_statuses filters.OpenContent r other is most = inr refl
 
 -- by the rules that no earlier one covers the same is written
 same_deciding : (rules : List Rule) → decides (uncovered rules) ≡ decides rules
@@ -73,8 +53,8 @@ runs_named words found rules a b k l status named spell run =
 
 -- memory ran out before the run began
 pub filter_without_memory : (rules : List Rule) (a : Supply) (k : Store) → RunsFilter rules a a k k 3
-filter_without_memory rules a k = let never : NeverBegan a a k k (Err (filters.Stream errors.NoMemory)) = record { no_memory = refl; source = refl; sink = refl } in record {
-  answer = Err (filters.Stream errors.NoMemory);
+filter_without_memory rules a k = let never : NeverBegan a a k k (Err (turns.Stream errors.NoMemory)) = record { no_memory = refl; source = refl; sink = refl } in record {
+  answer = Err (turns.Stream errors.NoMemory);
   status_is = refl;
   stream = inr never;
   exact = λ input left. record { written = []; gains = Gains-none k; answer = tt };

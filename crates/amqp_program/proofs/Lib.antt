@@ -3,6 +3,7 @@ pub mod TextReading
 pub mod HexRuns
 pub mod HexApart
 pub mod RawRuns
+pub mod TurnStatuses
 pub mod RecutRuns
 pub mod FilterRuns
 pub mod TextRuns

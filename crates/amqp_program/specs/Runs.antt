@@ -13,14 +13,11 @@ use Rattle.amqp_stream.specs.Writing.{IsPrefix}
 use Rattle.amqp_select.specs.declared.rule.Rule.{Rule}
 use Rattle.amqp_select.specs.Matching.{decides}
 use Rattle.amqp_select.specs.Selecting.{selection}
-use Rattle.amqp_recut.specs.declared.errors.RecutError.{RecutError}
-use Rattle.amqp_recut.specs.Errors.{recut_error_status}
-use Rattle.amqp_recut.specs.Recutting.{Recuts, RecutsExactly, IsComplete}
-use Rattle.amqp_recut.specs.Recutting.{NeverBegan as NeverRecut}
-use Rattle.amqp_filter.specs.declared.errors.FilterError.{FilterError}
-use Rattle.amqp_filter.specs.Errors.{filter_error_status}
+use Rattle.amqp_in_turn.specs.declared.errors.TurnError.{TurnError}
+use Rattle.amqp_in_turn.specs.Errors.{turn_error_status}
+use Rattle.amqp_in_turn.specs.Turning.{NeverBegan as NeverWritten, IsComplete as AreWhole}
+use Rattle.amqp_recut.specs.Recutting.{Recuts, RecutsExactly}
 use Rattle.amqp_filter.specs.Filtering.{Filters, FiltersExactly}
-use Rattle.amqp_filter.specs.Turning.{NeverBegan as NeverFiltered, IsComplete as AreWhole}
 use Rattle.amqp_lines.specs.Lines.{lines}
 use Rattle.amqp_lines.specs.Dumping.{Dumps}
 use Rattle.amqp_lines.specs.Undumping.{Undumps, UndumpsExactly}
@@ -130,29 +127,24 @@ pub record RunsUndump (a b : Supply) (k l : Store) (status : ℕ) : Type 0 where
   pub exact : (input : List ℕ) → a.left ≡ Some input → UndumpsExactly max_payload input k l answer
   pub complete : (input : List ℕ) → a.left ≡ Some input → IsValidText max_payload raw_turns input → NoFaults a b k l → IsDoneOrNoMemory status
 
--- the status of a result of recutting
-abbrev pub recut_status_of : Result (Unit {0}) RecutError → ℕ
-recut_status_of (Ok done) = 0
-recut_status_of (Err error) = recut_error_status error
+-- the status of a result of recutting or filtering
+abbrev pub turn_status_of : Result (Unit {0}) TurnError → ℕ
+turn_status_of (Ok done) = 0
+turn_status_of (Err error) = turn_error_status error
 
 -- the canonical bytes of the frames were written, with the bodies of messages cut into so many bytes
 pub record RunsRecut (size : ℕ) (a b : Supply) (k l : Store) (status : ℕ) : Type 0 where
-  pub answer : Result (Unit {0}) RecutError
-  pub status_is : status ≡ recut_status_of answer
-  pub stream : Recuts max_payload size raw_turns a b k l answer ⊎ NeverRecut a b k l answer
+  pub answer : Result (Unit {0}) TurnError
+  pub status_is : status ≡ turn_status_of answer
+  pub stream : Recuts max_payload size raw_turns a b k l answer ⊎ NeverWritten a b k l answer
   pub exact : (input : List ℕ) → a.left ≡ Some input → RecutsExactly max_payload size input k l answer
-  pub complete : (input : List ℕ) → a.left ≡ Some input → IsValid plain max_payload raw_turns input → IsComplete max_payload input → NoFaults a b k l → IsDoneOrNoMemory status
-
--- the status of a result of filtering
-abbrev pub filter_status_of : Result (Unit {0}) FilterError → ℕ
-filter_status_of (Ok done) = 0
-filter_status_of (Err error) = filter_error_status error
+  pub complete : (input : List ℕ) → a.left ≡ Some input → IsValid plain max_payload raw_turns input → AreWhole max_payload input → NoFaults a b k l → IsDoneOrNoMemory status
 
 -- the canonical bytes of the messages whose openings rules keep were written, and of each other frame that they keep
 pub record RunsFilter (rules : List Rule) (a b : Supply) (k l : Store) (status : ℕ) : Type 0 where
-  pub answer : Result (Unit {0}) FilterError
-  pub status_is : status ≡ filter_status_of answer
-  pub stream : Filters (decides rules) max_payload raw_turns a b k l answer ⊎ NeverFiltered a b k l answer
+  pub answer : Result (Unit {0}) TurnError
+  pub status_is : status ≡ turn_status_of answer
+  pub stream : Filters (decides rules) max_payload raw_turns a b k l answer ⊎ NeverWritten a b k l answer
   pub exact : (input : List ℕ) → a.left ≡ Some input → FiltersExactly (decides rules) max_payload input k l answer
   pub complete : (input : List ℕ) → a.left ≡ Some input → IsValid plain max_payload raw_turns input → AreWhole max_payload input → NoFaults a b k l → IsDoneOrNoMemory status
 

@@ -11,12 +11,11 @@ use Rattle.amqp_turns.specs.declared.fault.ContentFault.{ContentFault}
 use Rattle.amqp_turns.specs.declared.fault.ContentFault.TheVariants as faults
 use Rattle.amqp_turns.specs.declared.mark.Mark.{Mark}
 use Rattle.amqp_turns.specs.declared.mark.Mark.TheVariants as marks
-use Rattle.amqp_turns.specs.declared.progress.Progress.{Progress}
 use Rattle.amqp_turns.specs.declared.progress.Progress.TheVariants as progresses
 use Rattle.amqp_turns.specs.Units.{is_content, is_opening_id, size_in, bytes_in, Begun, Nothing, Opened, Headed, IsBegun}
 use Rattle.amqp_turns.specs.Answers.{Wrong}
 use Rattle.amqp_turns.specs.Stands.{State, At, Lost}
-use Rattle.amqp_turns.specs.Steps.{mark_after, step}
+use Rattle.amqp_turns.specs.Steps.{step}
 use Rattle.amqp_turns.specs.Messages.{joined}
 use Rattle.amqp_turns.proofs.Moving.{bytes_in-push}
 use Rattle.amqp_turns.proofs.Telling.{joined-push, length-joined}
@@ -26,6 +25,8 @@ use Rattle.amqp_recut.specs.Held.{Held, progress_in, kept_in, held_with}
 use Rattle.amqp_turns.specs.Splits.{left_over}
 use Rattle.amqp_recut.specs.Stepping.{written_marked, mark_held, held_after}
 use Rattle.amqp_turns.proofs.Pieces.{left-more}
+use Rattle.amqp_in_turn.proofs.Turning.{IsFresh}
+use Rattle.amqp_in_turn.proofs.Judging.{passed_mark}
 use Rattle.amqp_recut.proofs.Cutting.{brought}
 
 -- what is kept of a channel on which this has come
@@ -34,11 +35,6 @@ held_of_state size (At Nothing) = None
 held_of_state size (At (Opened opening)) = Some (record { progress = progresses.Opened; kept = [] })
 held_of_state size (At (Headed opening header bodies)) = Some (record { progress = progresses.Headed (size_in (outline_of header)) (bytes_in outline_of bodies); kept = left_over size (joined bodies) })
 held_of_state size Lost = Some (record { progress = progresses.Faulted; kept = [] })
-
--- the first fault of a channel, and only of a size that no header can announce that it is too large
-pub record IsFresh (bad : ContentFault) (frame : Frame) : Type 0 where
-  pub other : bad ≢ faults.Faulted
-  pub large : bad ≡ faults.BodyTooLarge → greatest < size_in (outline_of frame)
 
 -- a frame that is in turn is written as it is recut; one that is not is refused
 pub data OnChannel (size : ℕ) (state : State Frame) (frame : Frame) : Type 0 where
@@ -119,29 +115,6 @@ pub record IsOutside (size : ℕ) (held : Option Held) (state : State Frame) (fr
   pub keeps : held_after size held frame ≡ held
   pub recut_is : canon frame ≡ canon_frames (frame_recut size state frame)
 
-pub passed_mark : (held : Option Held) (frame : Frame) → is_content (outline_of frame) ≡ false → mark_held held frame ≡ marks.Passed
-passed_mark None (Proto major minor revision) h = refl
-passed_mark None Beat h = refl
-passed_mark None (BadBeat channel) h = refl
-passed_mark held (Meth channel m) h = absurd cc
-passed_mark held (Head channel header) h = absurd cc
-passed_mark held (Body channel content) h = absurd cc
-passed_mark (Some held) frame h = by_progress held.progress frame h
-  where
-    by_progress : (progress : Progress) (frame : Frame) → is_content (outline_of frame) ≡ false → mark_after greatest (Some progress) (outline_of frame) ≡ marks.Passed
-    by_progress progresses.Opened (Proto major minor revision) h = refl
-    by_progress progresses.Opened Beat h = refl
-    by_progress progresses.Opened (BadBeat channel) h = refl
-    by_progress (progresses.Headed size seen) (Proto major minor revision) h = refl
-    by_progress (progresses.Headed size seen) Beat h = refl
-    by_progress (progresses.Headed size seen) (BadBeat channel) h = refl
-    by_progress progresses.Faulted (Proto major minor revision) h = refl
-    by_progress progresses.Faulted Beat h = refl
-    by_progress progresses.Faulted (BadBeat channel) h = refl
-    by_progress progress (Meth channel m) h = absurd cc
-    by_progress progress (Head channel header) h = absurd cc
-    by_progress progress (Body channel content) h = absurd cc
-
 held_again : (held : Option Held) → held_with (progress_in held) (kept_in held) ≡ held
 held_again None = refl
 held_again (Some held) = refl
@@ -159,4 +132,4 @@ recut_outside size state (Head channel header) h = absurd cc
 recut_outside size state (Body channel content) h = absurd cc
 
 pub outside : (size : ℕ) (held : Option Held) (state : State Frame) (frame : Frame) → is_content (outline_of frame) ≡ false → IsOutside size held state frame
-outside size held state frame h = record { passes = passed_mark held frame h; keeps = passed_keeps size held frame (passed_mark held frame h); recut_is = recut_outside size state frame h }
+outside size held state frame h = record { passes = passed_mark (progress_in held) frame h; keeps = passed_keeps size held frame (passed_mark (progress_in held) frame h); recut_is = recut_outside size state frame h }

@@ -5,7 +5,6 @@ pub mod Piecing
 pub mod Channels
 pub mod Stepping
 pub mod Running
-pub mod Streams
 pub mod Writing
 pub mod LawsChannels
 pub mod LawsPieces

@@ -25,17 +25,17 @@ use Rattle.amqp_stream.specs.declared.errors.StreamError.{StreamError}
 use Rattle.amqp_stream.specs.Errors.{Cause, faulty, cut_short, turns_spent, read_failed, write_failed, out_of_memory, cause_of}
 use Rattle.amqp_stream.specs.Ends.{Store}
 use Rattle.amqp_stream.specs.Writing.{IsUnwritten, WritesFrame}
-use Rattle.amqp_stream.specs.Streaming.{Ending, finished, refused_by, stopped_by, ending_of, as_run, WritesBy}
+use Rattle.amqp_stream.specs.Streaming.{refused_by, stopped_by, ending_of, as_run, WritesBy}
 use Rattle.amqp_stream.proofs.Writes.{kept, is_faulty}
-use Rattle.amqp_recut.specs.declared.errors.Refusal.{Refusal}
-use Rattle.amqp_recut.specs.declared.errors.Refusal.TheVariants as refusals
+use Rattle.amqp_in_turn.specs.declared.errors.Refusal.TheVariants as refusals
 use Rattle.amqp_recut.specs.declared.recutter.Recutter.{Recutter}
 use Rattle.amqp_turns.specs.InTurn.{greatest}
 use Rattle.amqp_recut.specs.Held.{Held, progress_in, kept_in, held_with, set_at}
 use Rattle.amqp_turns.specs.Splits.{frames_given, left_over}
-use Rattle.amqp_recut.specs.Stepping.{bytes_kept, mark_held, held_at, step_marked, step_recutting, recutting, is_content_type, body_raw, RefusesFrame}
+use Rattle.amqp_recut.specs.Stepping.{bytes_kept, mark_held, held_at, step_marked, step_recutting, recutting, is_content_type, body_raw}
 use Rattle.amqp_turns.proofs.Holding.{set_at-same}
-use Rattle.amqp_recut.proofs.Channels.{passed_mark, passed_keeps}
+use Rattle.amqp_in_turn.proofs.Judging.{passed_mark}
+use Rattle.amqp_recut.proofs.Channels.{passed_keeps}
 
 -- ---- which frames there are of a type
 
@@ -180,7 +180,7 @@ typed_part s raw outline mark progress typed is part e after frame h =
     ∙ ap (λ p. Ok (canon frame, record s { messages = set_at s.messages raw.channel (held_with p []) })) (ap (progress_after greatest (progress_in (held_at s raw.channel))) (sym same) ∙ sym after)
 
 pub outside_passed : (s : Recutter) (raw : Raw) → IsOutsideType raw.kind → (frame : Frame) → whole raw ≡ Ok frame → step_recutting s frame ≡ Ok (canon frame, s)
-outside_passed s raw out frame h = passed_step s frame (passed_mark (held_at s (channel_id_of frame)) frame (outside_whole raw.kind raw.channel raw.payload frame out h))
+outside_passed s raw out frame h = passed_step s frame (passed_mark (progress_in (held_at s (channel_id_of frame))) frame (outside_whole raw.kind raw.channel raw.payload frame out h))
 
 pub proto_is_outside : IsOutsideType kinds.ProtocolHeader
 unfolding IsOutsideType
@@ -191,18 +191,6 @@ unfolding IsOutsideType
 beat_is_outside = tt
 
 -- ---- what is returned
-
-pub refused_as : (s : Recutter) (raw : Raw) (bad : ContentFault) (ending : Ending Refusal) (a : Store) (x y : List ℕ) → y ≡ x → ((frame : Frame) → whole raw ≡ Ok frame → step_recutting s frame ≡ Err (refusals.BadContent bad)) → RefusesFrame raw bad ending → WritesBy recutting s s raw a a x y ending
-refused_as s raw bad (refused_by (refusals.BadContent other)) a x y same steps h =
-    (record { frame = h.0; is_whole = h.1; at_level = refl; refuses = steps h.0 h.1 ∙ ap (λ f. Err (refusals.BadContent f)) (sym h.2) }, kept a x y same, refl)
-refused_as s raw bad (refused_by refusals.OpenContent) a x y same steps h = absurd h
-refused_as s raw bad finished a x y same steps h = absurd h
-refused_as s raw bad (stopped_by (faulty worse)) a x y same steps h = (h, kept a x y same, refl)
-refused_as s raw bad (stopped_by cut_short) a x y same steps h = absurd h
-refused_as s raw bad (stopped_by turns_spent) a x y same steps h = absurd h
-refused_as s raw bad (stopped_by read_failed) a x y same steps h = absurd h
-refused_as s raw bad (stopped_by write_failed) a x y same steps h = absurd h
-refused_as s raw bad (stopped_by out_of_memory) a x y same steps h = absurd h
 
 passing_cause : (s : Recutter) (raw : Raw) (a b : Store) (x y : List ℕ) (cause : Cause) → ((frame : Frame) → whole raw ≡ Ok frame → step_recutting s frame ≡ Ok (canon frame, s)) → IsUnwritten raw a b x y cause → WritesBy recutting s s raw a b x y (stopped_by cause)
 passing_cause s raw a b x y (faulty bad) steps h = (is_faulty plain raw bad h.0 h.1, h.2, refl)

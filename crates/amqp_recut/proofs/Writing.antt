@@ -1,85 +1,36 @@
 -- What the writer returns for a frame, by what its calls return.
-use Rattle.std.proofs.Common.{◌≡◌, ◌≢◌, ℕ, ◌%◌, ◌≤◌, Bool, true, false, eqb, List, [], ◌∷◌, ◌++◌, map, length, refl, sym, ap, subst, ◌∙◌, arith, append-nil, Some, None, Ok, Err}
+use Rattle.std.proofs.Common.{◌≡◌, ℕ, ◌%◌, ◌≤◌, Bool, true, false, eqb, List, [], ◌∷◌, ◌++◌, map, length, refl, sym, ap, subst, ◌∙◌, arith, append-nil, Some, None, Ok}
 use Rattle.std.specs.FinMap as finite
 use Rattle.std.proofs.lemmas.Bool.{ne_eqb}
 use Rattle.std.proofs.lemmas.List.{length-append}
 use Rattle.std.proofs.lemmas.Nat.{div-add-mod'}
-use Rattle.amqp_types.specs.Levels.{plain}
-use Rattle.amqp_types.specs.Answers.{RefusesWhole}
-use Rattle.amqp_types.specs.declared.errors.ParserError.{ParserError}
-use Rattle.amqp_types.specs.declared.errors.ParserError.TheVariants as parses
 use Rattle.amqp_wire.specs.declared.frame_type.AMQPFrameType.{AMQPFrameType}
 use Rattle.amqp_wire.specs.declared.frame_type.AMQPFrameType.TheVariants as kinds
-use Rattle.amqp_wire.specs.Frames.{Raw, Frame, Body, IsTyped}
+use Rattle.amqp_wire.specs.Frames.{Raw, Body}
 use Rattle.amqp_wire.specs.Canonical.{canon, canon_frames}
-use Rattle.amqp_wire.specs.Judgements.{IsPayloadFault}
 use Rattle.amqp_wire.specs.Outlines.{outline_of}
-use Rattle.amqp_wire.specs.Verdicts.{whole, whole_as}
+use Rattle.amqp_wire.specs.Verdicts.{whole_as}
 use Rattle.amqp_wire.proofs.Judged.{body_frame}
-use Rattle.amqp_turns.specs.declared.fault.ContentFault.{ContentFault}
 use Rattle.amqp_stream.specs.declared.errors.RunError.{RunError}
 use Rattle.amqp_stream.specs.declared.errors.RunError.TheVariants as runs
 use Rattle.amqp_stream.specs.Errors.{Cause, faulty, cut_short, turns_spent, read_failed, write_failed, out_of_memory, cause_of}
 use Rattle.amqp_stream.specs.Ends.{Store}
-use Rattle.amqp_stream.specs.declared.decision.Decision.{Decision}
-use Rattle.amqp_stream.specs.declared.decision.Decision.TheVariants as decisions
-use Rattle.amqp_stream.specs.declared.errors.StreamError.{StreamError}
-use Rattle.amqp_stream.specs.declared.errors.StreamError.TheVariants as errors
-use Rattle.amqp_stream.specs.Decisions.{IsKept, TakesTo, RefusesTo}
-use Rattle.amqp_stream.specs.Writing.{Keeps, payload_fault}
+use Rattle.amqp_stream.specs.Decisions.{IsKept}
+use Rattle.amqp_stream.specs.Writing.{Keeps}
 use Rattle.amqp_stream.specs.Streaming.{error_ending, stopped_by, WritesBy}
-use Rattle.amqp_stream.proofs.Writes.{IsNone, is_none, refusing, is_faulty, kept}
-use Rattle.amqp_recut.specs.declared.errors.Refusal.{Refusal}
+use Rattle.amqp_in_turn.specs.declared.errors.Refusal.{Refusal}
 use Rattle.amqp_recut.specs.declared.recutter.Recutter.{Recutter}
 use Rattle.amqp_turns.specs.declared.mark.Mark.TheVariants as marks
 use Rattle.amqp_turns.specs.declared.progress.Progress.{Progress}
 use Rattle.amqp_turns.specs.Steps.{progress_after}
 use Rattle.amqp_turns.specs.InTurn.{greatest}
 use Rattle.amqp_recut.specs.Held.{progress_in, kept_in}
-use Rattle.amqp_recut.specs.declared.errors.Refusal.TheVariants as refusals
 use Rattle.amqp_turns.specs.Splits.{frames_given, left_over}
 use Rattle.amqp_turns.proofs.Pieces.{given-ended, left-none, one-whole}
-use Rattle.amqp_recut.specs.Stepping.{recutting, step_recutting, mark_held, held_at, IsFaultyBy, JudgesWhole, RefusesFrame}
-use Rattle.amqp_recut.proofs.Stepping.{refused_as, typed_wants, body_ends, body_goes_on}
+use Rattle.amqp_recut.specs.Stepping.{recutting, step_recutting, mark_held, held_at}
+use Rattle.amqp_recut.proofs.Stepping.{body_ends, body_goes_on}
 
--- ---- a payload that is none
-
-not_memory : (error : ParserError) → error ≢ parses.NoMemory → refusing error ≢ Err parses.NoMemory
-not_memory error some e = some cc
-
-no_frame : (raw : Raw) (error : ParserError) → IsPayloadFault error → RefusesWhole error (whole raw) → IsNone raw (cause_of (payload_fault error))
-no_frame raw error fault h = is_none raw error fault.0 (not_memory error fault.1) h
-
-pub faulty_by : (raw : Raw) (error : ParserError) → IsPayloadFault error → RefusesWhole error (whole raw) → IsFaultyBy raw (cause_of (payload_fault error))
-faulty_by raw error fault h = let none = no_frame raw error fault h in subst (IsFaultyBy raw) none.tells (is_faulty plain raw none.bad none.is_whole none.other)
-
--- ---- before anything is written for a frame
-
--- what the step gives for a whole frame is its canonical bytes
-abbrev pub StepsAs : Recutter → Recutter → Raw → Type 0
-StepsAs s t raw = (frame : Frame) → whole raw ≡ Ok frame → step_recutting s frame ≡ Ok (canon frame, t)
-
-pub judged_takes : (s t u : Recutter) (raw : Raw) (decision : Decision) → u ≡ t → StepsAs s t raw → JudgesWhole raw (Ok decision) → TakesTo recutting s u raw decision
-judged_takes s t u raw (decisions.Kept judged) is steps h = record {
-  is_judged = h;
-  step = record { frame = h.frame; is_whole = h.is; at_level = refl; steps = steps h.frame h.is ∙ ap (λ v. Ok (canon h.frame, v)) (sym is) };
-  compact = refl;
-}
-judged_takes s t u raw decisions.Dropped is steps h = absurd h
-
-faulty_at : (s : Recutter) (raw : Raw) (cause : Cause) (store : Store) (pending : List ℕ) → IsFaultyBy raw cause → WritesBy recutting s s raw store store pending pending (stopped_by cause)
-faulty_at s raw (faulty bad) store pending h = (h, kept store pending pending refl, refl)
-faulty_at s raw cause store pending h = absurd h
-
-pub judged_refuses : (s : Recutter) (raw : Raw) (error : StreamError) → JudgesWhole raw (Err error) → RefusesTo recutting s s raw (runs.Stream error)
-judged_refuses s raw error h = λ store pending. faulty_at s raw (cause_of error) store pending h
-
-pub turn_refuses : (s : Recutter) (raw : Raw) (bad : ContentFault) (error : RunError Refusal) → ((frame : Frame) → whole raw ≡ Ok frame → step_recutting s frame ≡ Err (refusals.BadContent bad)) → RefusesFrame raw bad (error_ending error) → RefusesTo recutting s s raw error
-turn_refuses s raw bad error steps h = λ store pending. refused_as s raw bad (error_ending error) store pending pending refl steps h
-
--- memory ran out at a method or content header
-pub memory_refuses : (s u : Recutter) (raw : Raw) → IsTyped raw.kind → RefusesTo recutting s u raw (runs.Stream errors.NoMemory)
-memory_refuses s u raw typed = λ store pending. (typed_wants raw.kind typed, kept store pending pending refl)
+-- ---- bodies
 
 -- a body that is one piece
 pub body_kept : (s t : Recutter) (raw : Raw) → raw.kind ≡ kinds.Body → step_recutting s (Body raw.channel raw.payload) ≡ Ok (canon (Body raw.channel raw.payload), t) → IsKept recutting s t raw (record { canonical = true; tidy = true })

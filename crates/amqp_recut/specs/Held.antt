@@ -2,20 +2,11 @@
 use Rattle.std.specs.Prelude.{ℕ, List, [], Option, Some, None}
 use Rattle.amqp_turns.specs.declared.progress.Progress.{Progress}
 pub use Rattle.amqp_turns.specs.ByChannel.{ByChannel, set_at}
-use Rattle.amqp_recut.specs.declared.message.Message.{Message}
 
 -- how far a message has come, and the bytes of its body that are not written yet
 pub record Held : Type 0 where
   pub progress : Progress
   pub kept : List ℕ
-
--- a message as contracts see it, its kept bytes as a list
-abbrev pub held_of : Message → Held
-held_of message = record { progress = message.progress; kept = message.kept.items }
-
--- a channel with its message as contracts see it
-abbrev pub entry_held : ℕ × Message → ℕ × Held
-entry_held entry = (entry.0, held_of entry.1)
 
 -- what is kept of each channel of which something is
 abbrev pub HeldByChannel : Type 0

@@ -2,7 +2,6 @@
 pub use Rattle.amqp_turns.specs.InTurn
 pub mod Cuts
 pub mod Held
-pub mod Errors
 pub mod Stepping
 pub mod Recutting
 pub mod Laws

@@ -1,131 +1,21 @@
--- What recutting a stream does: which bytes are taken, which are written, and why it ends.
-use Rattle.std.specs.Prelude.{◌≡◌, ℕ, ◌+◌, ◌≤◌, IsTrue, List, ◌++◌, length, Some, Result, Ok, Err}
-use Rattle.amqp_types.specs.Levels.{plain}
-use Rattle.amqp_types.specs.Judging.{IsBytes}
+-- What recutting a stream does.
+use Rattle.std.specs.Prelude.{ℕ, List, Result}
 use Rattle.amqp_wire.specs.Frames.{Frame}
 use Rattle.amqp_wire.specs.Canonical.{canon_frames}
-use Rattle.amqp_wire.specs.Fronts.{front}
-use Rattle.amqp_wire.specs.Outer.{BeginsWith}
-use Rattle.amqp_stream.specs.declared.errors.StreamError.TheVariants as streams
-use Rattle.amqp_stream.specs.Errors.{Cause, write_failed, out_of_memory, cause_of}
-use Rattle.amqp_stream.specs.Ends.{Supply, Store, Takes, Gains, IsEmpty}
-use Rattle.amqp_stream.specs.Writing.{IsPrefix}
-use Rattle.amqp_stream.specs.Transcribing.{IsSequence, IsCausedBy, UnlessStopped, IsOutOfMemory, answer_to, IsWrittenUnless}
-use Rattle.amqp_recut.specs.declared.errors.RecutError.{RecutError}
-use Rattle.amqp_recut.specs.declared.errors.RecutError.TheVariants as errors
-use Rattle.amqp_turns.specs.InTurn.{IsLongestInTurn, IsNextFault, IsOpen, NoneIsOpen, AreInTurn}
+use Rattle.amqp_stream.specs.Ends.{Supply, Store}
+use Rattle.amqp_in_turn.specs.declared.errors.TurnError.{TurnError}
+use Rattle.amqp_in_turn.specs.Turning.{GoesInTurn, GoesExactly}
 use Rattle.amqp_recut.specs.Cuts.{recut}
 use Rattle.amqp_recut.specs.Stepping.{is_content_type}
-
--- the frames at the front of some bytes
-abbrev pub frames_at : ℕ → List ℕ → List Frame
-frames_at m bytes = front plain (Some m) bytes
 
 -- what is written for frames
 abbrev pub recut_bytes : ℕ → List Frame → List ℕ
 recut_bytes size frames = canon_frames (recut size frames)
 
--- A sequence of frames was written for, as far as it is in turn, and then a method, a content header or a body has come.
-pub record AtContent (m size : ℕ) (taken written : List ℕ) : Type 0 where
-  pub sequence : List ℕ
-  pub rest : List ℕ
-  pub parts : taken ≡ sequence ++ rest
-  pub is_sequence : IsSequence plain m sequence
-  pub content : BeginsWith (λ kind. IsTrue (is_content_type kind)) (Some m) rest
-  pub frames : List Frame
-  pub in_turn : IsLongestInTurn (frames_at m sequence) frames
-  pub written_is : written ≡ recut_bytes size frames
+-- A whole call, which writes the canonical bytes of frames recut; memory may run out at methods, content headers and bodies.
+abbrev pub Recuts : ℕ → ℕ → ℕ → Supply → Supply → Store → Store → Result (Unit {0}) TurnError → Type 0
+Recuts m size turns a b k l result = GoesInTurn (recut_bytes size) is_content_type m turns a b k l result
 
--- At most n of the bytes taken come after a sequence of frames that was written for, as far as it is in turn.
-pub record IsRecutBehindBy (m size : ℕ) (taken written : List ℕ) (n : ℕ) : Type 0 where
-  pub sequence : List ℕ
-  pub rest : List ℕ
-  pub parts : taken ≡ sequence ++ rest
-  pub is_sequence : IsSequence plain m sequence
-  pub frames : List Frame
-  pub in_turn : IsLongestInTurn (frames_at m sequence) frames
-  pub written_begins : IsPrefix (recut_bytes size frames) written
-  pub few : length rest ≤ n
-
--- Unless a write or memory failed, all frames at the front are in turn.
-abbrev pub IsAllInTurn : List Frame → List Frame → Cause → Type 0
-IsAllInTurn all frames write_failed = Unit {0}
-IsAllInTurn all frames out_of_memory = Unit {0}
-IsAllInTurn all frames cause = frames ≡ all
-
--- When each result comes. `frames` is the longest prefix in turn of the frames at the front of the bytes taken.
-abbrev pub HasCauseRecut : ℕ → ℕ → ℕ → List ℕ → List ℕ → List Frame → Supply → Supply → Store → Store → Result (Unit {0}) RecutError → Type 0
-HasCauseRecut m size turns taken written frames a b k l (Ok done) = IsSequence plain m taken × IsEmpty b.left × (frames ≡ frames_at m taken) × NoneIsOpen frames
-HasCauseRecut m size turns taken written frames a b k l (Err (errors.BadContent fault)) = IsNextFault (frames_at m taken) frames fault
-HasCauseRecut m size turns taken written frames a b k l (Err errors.OpenContent) = IsSequence plain m taken × IsEmpty b.left × (frames ≡ frames_at m taken) × IsOpen frames
-HasCauseRecut m size turns taken written frames a b k l (Err (errors.Stream error)) =
-    IsCausedBy plain m turns taken a b k l (AtContent m size taken written) (cause_of error) × IsAllInTurn (frames_at m taken) frames (cause_of error)
-
--- what was written of a text, by the result: all of it, unless a write or memory failed
-abbrev pub HasWrittenRecut : List ℕ → List ℕ → Result (Unit {0}) RecutError → Type 0
-HasWrittenRecut text written (Ok done) = written ≡ text
-HasWrittenRecut text written (Err (errors.BadContent fault)) = written ≡ text
-HasWrittenRecut text written (Err errors.OpenContent) = written ≡ text
-HasWrittenRecut text written (Err (errors.Stream error)) = IsWrittenUnless text written (cause_of error)
-
--- A whole call: a is the source before it and b after it, k and l the sink.
-pub record Recuts (m size turns : ℕ) (a b : Supply) (k l : Store) (result : Result (Unit {0}) RecutError) : Type 0 where
-  pub taken : List ℕ
-  pub are_bytes : IsBytes taken
-  pub reads : ℕ
-  pub takes : Takes a b taken reads
-  pub at_most : reads ≤ turns
-  pub all_turns : result ≡ Err (errors.Stream streams.TurnsSpent) → reads ≡ turns
-  pub written : List ℕ
-  pub gains : Gains k l written
-  pub frames : List Frame
-  pub in_turn : IsLongestInTurn (frames_at m taken) frames
-  pub writes : HasWrittenRecut (recut_bytes size frames) written result
-  pub cause : HasCauseRecut m size turns taken written frames a b k l result
-  pub behind : IsRecutBehindBy m size taken written (m + 8)
-
--- memory ran out before anything was taken or written
-pub record NeverBegan (a b : Supply) (k l : Store) (result : Result (Unit {0}) RecutError) : Type 0 where
-  pub no_memory : result ≡ Err (errors.Stream streams.NoMemory)
-  pub source : b ≡ a
-  pub sink : l ≡ k
-
--- What is returned for all the bytes of a source: the fault of the first frame that is not in turn; or else the result of canonicalizing them, and where
--- that is Ok, whether content is open.
-abbrev pub IsAnsweredTo : ℕ → List ℕ → List Frame → Result (Unit {0}) RecutError → Type 0
-IsAnsweredTo m bytes frames (Ok done) = (frames ≡ frames_at m bytes) × (answer_to plain m bytes ≡ Ok tt) × NoneIsOpen frames
-IsAnsweredTo m bytes frames (Err (errors.BadContent fault)) = IsNextFault (frames_at m bytes) frames fault
-IsAnsweredTo m bytes frames (Err errors.OpenContent) = (frames ≡ frames_at m bytes) × (answer_to plain m bytes ≡ Ok tt) × IsOpen frames
-IsAnsweredTo m bytes frames (Err (errors.Stream error)) = (frames ≡ frames_at m bytes) × (answer_to plain m bytes ≡ Err error)
-
--- what is written and returned, by the bytes alone
-pub record IsRecutExactly (m size : ℕ) (bytes written : List ℕ) (result : Result (Unit {0}) RecutError) : Type 0 where
-  pub frames : List Frame
-  pub in_turn : IsLongestInTurn (frames_at m bytes) frames
-  pub answered : IsAnsweredTo m bytes frames result
-  pub written_is : written ≡ recut_bytes size frames
-
--- This is so, but for memory that ran out, a spent read budget, and faults of the two ends.
-abbrev pub UnlessStoppedRecut : Result (Unit {0}) RecutError → Type 0 → Type 0
-UnlessStoppedRecut (Ok done) So = So
-UnlessStoppedRecut (Err (errors.BadContent fault)) So = So
-UnlessStoppedRecut (Err errors.OpenContent) So = So
-UnlessStoppedRecut (Err (errors.Stream error)) So = UnlessStopped (cause_of error) So
-
--- what a call returns over a source that reports its bytes
-pub record RecutsExactly (m size : ℕ) (bytes : List ℕ) (k l : Store) (result : Result (Unit {0}) RecutError) : Type 0 where
-  pub written : List ℕ
-  pub gains : Gains k l written
-  pub answer : UnlessStoppedRecut result (IsRecutExactly m size bytes written result)
-
--- the frames at the front of the bytes are in turn, and at their end no content is open
-pub record IsComplete (m : ℕ) (bytes : List ℕ) : Type 0 where
-  pub in_turn : AreInTurn (frames_at m bytes)
-  pub none_open : NoneIsOpen (frames_at m bytes)
-
--- the result is Ok, or memory ran out
-abbrev pub IsOkOrNoMemory : Result (Unit {0}) RecutError → Type 0
-IsOkOrNoMemory (Ok done) = Unit {0}
-IsOkOrNoMemory (Err (errors.BadContent fault)) = ⊥
-IsOkOrNoMemory (Err errors.OpenContent) = ⊥
-IsOkOrNoMemory (Err (errors.Stream error)) = IsOutOfMemory (cause_of error)
+-- what a call returns and writes over a source that reports its bytes
+abbrev pub RecutsExactly : ℕ → ℕ → List ℕ → Store → Store → Result (Unit {0}) TurnError → Type 0
+RecutsExactly m size bytes k l result = GoesExactly (recut_bytes size) m bytes k l result

@@ -1,5 +1,5 @@
 -- How recutting goes from frame to frame: what is written for a frame, and what is kept after it.
-use Rattle.std.specs.Prelude.{◌≡◌, ℕ, ◌==◌, Bool, true, false, List, [], ◌++◌, Option, Some, None, Result, Ok, Err, if◌then◌else◌}
+use Rattle.std.specs.Prelude.{ℕ, ◌==◌, Bool, true, false, List, [], ◌++◌, Option, Some, None, Result, Ok, Err, if◌then◌else◌}
 use Rattle.std.specs.FinMap as finite
 use Rattle.amqp_types.specs.Levels.{plain}
 use Rattle.amqp_wire.specs.declared.frame_type.AMQPFrameType.{AMQPFrameType}
@@ -7,23 +7,14 @@ use Rattle.amqp_wire.specs.declared.frame_type.AMQPFrameType.TheVariants as kind
 use Rattle.amqp_wire.specs.Frames.{Raw, Frame, channel_id_of}
 use Rattle.amqp_wire.specs.Outlines.{outline_of}
 use Rattle.amqp_wire.specs.Canonical.{canon, canon_frames}
-use Rattle.amqp_wire.specs.Judgements.{IsJudged}
-use Rattle.amqp_wire.specs.Verdicts.{whole}
-use Rattle.amqp_turns.specs.declared.fault.ContentFault.{ContentFault}
 use Rattle.amqp_turns.specs.declared.mark.Mark.{Mark}
 use Rattle.amqp_turns.specs.declared.mark.Mark.TheVariants as marks
 use Rattle.amqp_turns.specs.Messages.{bytes_of}
 use Rattle.amqp_turns.specs.Splits.{frames_given, left_over}
 use Rattle.amqp_turns.specs.Steps.{mark_after, progress_after}
-use Rattle.amqp_stream.specs.declared.decision.Decision.{Decision}
-use Rattle.amqp_stream.specs.declared.decision.Decision.TheVariants as decisions
-use Rattle.amqp_stream.specs.declared.errors.StreamError.{StreamError}
-use Rattle.amqp_stream.specs.Errors.{Cause, faulty, cause_of}
 use Rattle.amqp_stream.specs.Steps.{Manner}
-use Rattle.amqp_stream.specs.Streaming.{Ending, finished, refused_by, stopped_by}
-use Rattle.amqp_stream.specs.Writing.{IsFaulty}
-use Rattle.amqp_recut.specs.declared.errors.Refusal.{Refusal}
-use Rattle.amqp_recut.specs.declared.errors.Refusal.TheVariants as refusals
+use Rattle.amqp_in_turn.specs.declared.errors.Refusal.{Refusal}
+use Rattle.amqp_in_turn.specs.declared.errors.Refusal.TheVariants as refusals
 use Rattle.amqp_recut.specs.declared.recutter.Recutter.{Recutter}
 use Rattle.amqp_turns.specs.InTurn.{greatest}
 use Rattle.amqp_recut.specs.Held.{Held, progress_in, kept_in, held_with, set_at}
@@ -72,25 +63,6 @@ step_recutting s frame = step_marked s (held_at s (channel_id_of frame)) frame (
 -- a whole body frame
 abbrev pub body_raw : ℕ → List ℕ → Raw
 body_raw channel payload = record { kind = kinds.Body; channel = channel; payload = payload }
-
--- a fault of a payload
-abbrev pub IsFaultyBy : Raw → Cause → Type 0
-IsFaultyBy raw (faulty bad) = IsFaulty plain raw bad
-IsFaultyBy raw cause = ⊥
-
--- A whole frame is kept, as it was judged; or why it is none.
-abbrev pub JudgesWhole : Raw → Result Decision StreamError → Type 0
-JudgesWhole raw (Ok (decisions.Kept judged)) = IsJudged raw judged
-JudgesWhole raw (Ok decisions.Dropped) = ⊥
-JudgesWhole raw (Err error) = IsFaultyBy raw (cause_of error)
-
--- A frame is refused for this fault, or for a fault of its payload.
-abbrev pub RefusesFrame : Raw → ContentFault → Ending Refusal → Type 0
-RefusesFrame raw fault (refused_by (refusals.BadContent bad)) = (frame : Frame) × (whole raw ≡ Ok frame) × (bad ≡ fault)
-RefusesFrame raw fault (refused_by refusals.OpenContent) = ⊥
-RefusesFrame raw fault (stopped_by (faulty bad)) = IsFaulty plain raw bad
-RefusesFrame raw fault (stopped_by cause) = ⊥
-RefusesFrame raw fault finished = ⊥
 
 -- ---- a stream
 

@@ -2,9 +2,9 @@
 
 ghost use Rattle.std.specs.Prelude.{◌≤◌, ◌<◌, ◌^◌};
 
-use crate::errors::Refusal;
-use crate::messages::Messages;
+use crate::message::{Message, append_to};
 use crate::pieces::{last_of, settle, write_pieces};
+use amqp_in_turn::{OpenMessages, Refusal};
 use amqp_stream::{
     Decision, FrameWriter, OutputBuffer, RunError, Sink, StreamError, as_run, payload_error,
     put_decided, write_canonical,
@@ -21,7 +21,7 @@ use std::alloc::Global;
 pub(crate) struct Recutter {
     alloc: Global,
     size: usize,
-    messages: Messages,
+    messages: OpenMessages<Message>,
     ghost some: { 1 ≤ size },
     ghost few: { size < 2 ^ 32 },
 }
@@ -35,9 +35,10 @@ impl Recutter {
     ghost use Rattle.amqp_wire.specs.Verdicts.{whole};
     ghost use Rattle.amqp_stream.specs.Decisions.{DecidesBy};
     ghost use Rattle.amqp_stream.specs.Streaming.{WritesBy, ending_of};
-    ghost use Rattle.amqp_recut.specs.Held.{held_with, set_at, kept_in};
+    ghost use Rattle.amqp_in_turn.specs.Judging.{JudgesKept};
+    ghost use Rattle.amqp_recut.specs.Held.{held_with, set_at, progress_in, kept_in};
     ghost use Rattle.amqp_turns.specs.Splits.{frames_given, left_over};
-    ghost use Rattle.amqp_recut.specs.Stepping.{recutting, step_recutting, held_at, body_raw, JudgesWhole};
+    ghost use Rattle.amqp_recut.specs.Stepping.{recutting, step_recutting, held_at, body_raw};
 
     /// A writer that has taken no frame.
     pub(crate) fn new(alloc: Global, size: u32) -> Recutter
@@ -48,7 +49,29 @@ impl Recutter {
         Recutter {
             alloc,
             size: size as usize,
-            messages: Messages::new(alloc),
+            messages: OpenMessages::new(alloc),
+        }
+    }
+
+    /// How far the message of a channel has come.
+    #[inline(always)]
+    fn progress(&self, channel_id: ChannelId) -> Option<Progress>
+        ensures { result ≡ progress_in (held_at self.now channel_id) }
+    {
+        match self.messages.get(channel_id) {
+            Some(message) => Some(message.progress()),
+            None => None,
+        }
+    }
+
+    /// The bytes that are kept of a channel.
+    #[inline(always)]
+    fn kept(&self, channel_id: ChannelId) -> &[u8]
+        ensures { result.now ≡ kept_in (held_at self.now channel_id) }
+    {
+        match self.messages.get(channel_id) {
+            Some(message) => message.kept(),
+            None => &[],
         }
     }
 
@@ -59,7 +82,10 @@ impl Recutter {
         ensures err { OnErr result (self.new ≡ self.old) }
     {
         match progress {
-            Some(progress) => self.messages.begin(channel_id, progress),
+            Some(progress) => {
+                let message = Message::new(progress, Vec::new(self.alloc));
+                self.messages.begin(channel_id, message)
+            }
             None => {
                 self.messages.forget(channel_id);
                 Ok(())
@@ -88,7 +114,7 @@ impl Recutter {
         }) }
         ensures err { OnErr result (self.new ≡ self.old) }
     {
-        self.messages.append(channel_id, progress, bytes)
+        append_to(&mut self.messages, channel_id, progress, bytes)
     }
 
     /// Keeps these bytes of a message, and no others.
@@ -96,13 +122,14 @@ impl Recutter {
         requires there { IsSome (held_at self.old channel_id) }
         ensures { self.new ≡ record self.old { messages = finite.insert self.old.messages channel_id (record { progress = progress; kept = kept.items }) } }
     {
-        self.messages.replace(channel_id, progress, kept);
+        self.messages
+            .replace(channel_id, Some(Message::new(progress, kept)));
     }
 
     /// What is written for a whole frame that is no piece of a body: its canonical bytes.
     #[inline(always)]
     fn judge(raw: AMQPRawFrame<'_>) -> Result<Decision, StreamError>
-        ensures { JudgesWhole (raw_of raw.entry) result }
+        ensures { JudgesKept true (raw_of raw.entry) result }
     {
         match judge_frame(raw) {
             Ok(judged) => Ok(Decision::Kept(judged)),
@@ -142,7 +169,7 @@ impl Recutter {
         ensures { DecidesBy recutting self.old self.new (raw_of raw.entry) result }
     {
         let outline = outline_raw(raw);
-        let stepped = step(u64::MAX, self.messages.progress(raw.channel_id), outline);
+        let stepped = step(u64::MAX, self.progress(raw.channel_id), outline);
         match stepped.0 {
             Mark::Fault(fault) => Err(RunError::Refused(Refusal::BadContent(fault))),
             Mark::Passed => Ok(Decision::Kept(judged)),
@@ -172,14 +199,14 @@ impl Recutter {
         if payload.is_empty() || payload.len() > self.size {
             return false;
         }
-        if !self.messages.kept(channel_id).is_empty() {
+        if !self.kept(channel_id).is_empty() {
             return false;
         }
         let outline = FrameOutline::Body {
             channel_id,
             length: payload.len() as u64,
         };
-        let stepped = step(u64::MAX, self.messages.progress(channel_id), outline);
+        let stepped = step(u64::MAX, self.progress(channel_id), outline);
         match stepped.0 {
             Mark::Body { .. } => match stepped.1 {
                 None => {
@@ -222,7 +249,7 @@ impl Recutter {
             out.old.bytes out.new.bytes (ending_of result) }
     {
         let size = self.size;
-        let kept = self.messages.kept(channel_id);
+        let kept = self.kept(channel_id);
         match write_pieces(out, sink, channel_id, size, kept, payload, true) {
             Err(_) => return Err(RunError::Stream(StreamError::WriteFault)),
             Ok(()) => {}
@@ -254,7 +281,7 @@ impl Recutter {
             out.old.bytes out.new.bytes (ending_of result) }
     {
         let size = self.size;
-        let kept = self.messages.kept(channel_id);
+        let kept = self.kept(channel_id);
         let total = kept.len() + payload.len();
         if total < size {
             return match self.append(channel_id, progress, payload) {
@@ -292,7 +319,7 @@ impl Recutter {
             channel_id,
             length: payload.len() as u64,
         };
-        let stepped = step(u64::MAX, self.messages.progress(channel_id), outline);
+        let stepped = step(u64::MAX, self.progress(channel_id), outline);
         match stepped.0 {
             Mark::Fault(fault) => Err(RunError::Refused(Refusal::BadContent(fault))),
             Mark::Body { .. } => match stepped.1 {

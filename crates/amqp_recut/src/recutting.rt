@@ -3,25 +3,15 @@
 ghost use Rattle.std.specs.Prelude.{◌≡◌, ◌≢◌, ◌⊎◌, ◌≤◌, ℕ, List, Some, Ok, Err};
 ghost use Rattle.amqp_types.specs.Levels.{plain};
 ghost use Rattle.amqp_stream.specs.Transcribing.{IsValid, NoFaults};
-ghost use Rattle.amqp_recut.specs.Errors.{as_recut};
-ghost use Rattle.amqp_recut.specs.Recutting.{Recuts, NeverBegan, RecutsExactly, IsComplete, IsOkOrNoMemory};
+ghost use Rattle.amqp_in_turn.specs.Turning.{NeverBegan, IsComplete, IsOkOrNoMemory};
+ghost use Rattle.amqp_recut.specs.Recutting.{Recuts, RecutsExactly};
 
-use crate::errors::{RecutError, Refusal};
 use crate::recutter::Recutter;
-use amqp_stream::{RunError, Sink, Source, StreamError, run_stream};
+use amqp_in_turn::{TurnError as RecutError, as_turned};
+use amqp_stream::{Sink, Source, StreamError, run_stream};
 use amqp_turns::ContentFault;
 use amqp_types::ChunkSize;
 use std::alloc::Global;
-
-/// What a run returns, as recutting returns it.
-fn as_recut(answer: Result<(), RunError<Refusal>>) -> Result<(), RecutError>
-    ensures { result ≡ as_recut answer }
-{
-    match answer {
-        Ok(()) => Ok(()),
-        Err(error) => Err(RecutError::from(error)),
-    }
-}
 
 /// Writes the canonical bytes of a stream's frames, with the bodies of messages cut into body frames of `size` bytes,
 /// the last of a message shorter. It goes on to the end of input, the first frame that is not in turn, or an error.
@@ -55,5 +45,5 @@ pub fn recut<S: Source, K: Sink>(
         → IsOkOrNoMemory result }
 {
     let mut writer = Recutter::new(alloc, size);
-    as_recut(run_stream(alloc, &mut writer, source, sink, max_payload, turns))
+    as_turned(run_stream(alloc, &mut writer, source, sink, max_payload, turns))
 }

@@ -1,5 +1,5 @@
 -- Which frames rules keep.
-use Rattle.std.specs.Prelude.{ℕ, List, Bool, true, false, ◌&&◌, ◌==◌, nat_le, Option, Some, None, find, filter}
+use Rattle.std.specs.Prelude.{ℕ, List, [], ◌∷◌, Bool, true, false, ◌&&◌, ◌==◌, nat_le, Option, Some, None, is_none, find, filter, if◌then◌else◌}
 use Rattle.amqp_wire.specs.declared.frame_type.AMQPFrameType.{AMQPFrameType}
 use Rattle.amqp_wire.specs.declared.frame_type.AMQPFrameType.TheVariants as kinds
 use Rattle.amqp_wire.specs.declared.outline.FrameOutline.{FrameOutline}
@@ -48,6 +48,10 @@ matches rule outline =
     && holds (λ id. has_class id outline) rule.class_id
     && holds (λ id. has_method id outline) rule.method_id
 
+-- the rule has no part, so that it matches every frame
+abbrev pub is_bare : Rule → Bool
+is_bare rule = is_none rule.channel && is_none rule.kind && is_none rule.class_id && is_none rule.method_id
+
 -- the first rule that matches the frame
 abbrev pub first_match : List Rule → FrameOutline → Option Rule
 first_match rules outline = find (λ rule. matches rule outline) rules
@@ -60,6 +64,11 @@ keeps (Some rule) = rule.keep
 -- the frame is kept: its first matching rule says so
 abbrev pub decides : List Rule → FrameOutline → Bool
 decides rules outline = keeps (first_match rules outline)
+
+-- what a first rule without a part decides of every frame
+abbrev pub decided_of_all : List Rule → Option Bool
+decided_of_all [] = None
+decided_of_all (rule ∷ rules) = if is_bare rule then Some rule.keep else None
 
 -- the frames that are kept, in order
 abbrev pub kept : List Rule → List Frame → List Frame

@@ -105,7 +105,7 @@ fn has_method(id: Identifier, outline: FrameOutline) -> bool
 
 impl Rule {
     ghost use Rattle.amqp_select.specs.Refusals.{IsRuleFor, IsRuleWord};
-    ghost use Rattle.amqp_select.specs.Matching.{matches};
+    ghost use Rattle.amqp_select.specs.Matching.{is_bare, matches};
     ghost use Rattle.amqp_select.specs.Covering.{covers};
     ghost use Rattle.amqp_wire.specs.declared.outline.FrameOutline.{FrameOutline};
 
@@ -130,7 +130,8 @@ impl Rule {
 
     /// Whether there is no part, so that it matches every frame.
     pub fn is_bare(&self) -> bool
-        ensures { (outline : FrameOutline) → IsTrue result → matches self.now outline ≡ true }
+        ensures value { result ≡ is_bare self.now }
+        ensures every { (outline : FrameOutline) → IsTrue result → matches self.now outline ≡ true }
     {
         self.channel.is_none()
             && self.kind.is_none()

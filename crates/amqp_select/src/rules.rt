@@ -3,7 +3,7 @@
 ghost use Rattle.std.specs.Prelude.{◌≡◌, ◌<◌, Err, length, position, IfOk, IfSome};
 ghost use Rattle.std.specs.Option.{option_copied};
 ghost use Rattle.amqp_wire.specs.declared.outline.FrameOutline.{FrameOutline};
-ghost use Rattle.amqp_select.specs.Matching.{decides, first_match};
+ghost use Rattle.amqp_select.specs.Matching.{decided_of_all, decides, first_match};
 ghost use Rattle.amqp_select.specs.Covering.{covered, covers, uncovered};
 ghost use Rattle.amqp_select.specs.Refusals.{IsCount, ParsesRules, ParsesItems, texts_of};
 
@@ -91,9 +91,11 @@ impl Rules {
         }
     }
 
-    /// What is decided of every frame, where the first rule has no part. No outline is needed then.
-    pub(crate) fn decide_all(&self) -> Option<bool>
-        ensures { (outline : FrameOutline) → IfSome result (λ keep. keep ≡ decides self.now outline) }
+    /// What is decided of every frame, where the first rule has no part, and `None` elsewhere. A caller that asks once needs
+    /// no outline of any frame then.
+    pub fn decide_all(&self) -> Option<bool>
+        ensures value { result ≡ decided_of_all self.now }
+        ensures every { (outline : FrameOutline) → IfSome result (λ keep. keep ≡ decides self.now outline) }
     {
         decide_all(&self.rules)
     }
@@ -155,7 +157,8 @@ fn first_match(rules: &[Rule], outline: FrameOutline) -> Option<&Rule>
 
 /// What is decided of every frame, where the first rule has no part.
 fn decide_all(rules: &[Rule]) -> Option<bool>
-    ensures { (outline : FrameOutline) → IfSome result (λ keep. keep ≡ decides rules.now outline) }
+    ensures value { result ≡ decided_of_all rules.now }
+    ensures every { (outline : FrameOutline) → IfSome result (λ keep. keep ≡ decides rules.now outline) }
 {
     match rules {
         [first, ..] if first.is_bare() => Some(first.keep),

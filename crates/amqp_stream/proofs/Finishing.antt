@@ -172,7 +172,7 @@ at_end {r = r} {u = u} [] None h more empty may =
 at_end {r = r} {u = u} [] (Some why) h more empty may =
     let at = at_place h (stop-none r.w.level (Some r.m)) in
     let sequence = sequence_of_all r.w.level (Some r.m) (h.used ++ []) h.taken.are_bytes at.place_is in
-    finish u (refused_by why) h (λ e. absurd cc) at.all.text_is at.state_is (inr (record { sequence = (_, sequence); empty = empty; none_refused = at.all.none_refused; ends = ap r.w.end (sym at.state_is) ∙ may })) (λ e. absurd cc) (rests_of h)
+    finish u (refused_by why) h (λ e. absurd cc) at.all.text_is at.state_is (inr (record { sequence = (_, sequence); empty = empty; none_refused = at.all.none_refused; ends = ap r.w.end (sym at.state_is) ∙ may })) (λ e. absurd cc) (record { rests = rests_of h; refused = inr (refl, may) })
 at_end {r = r} {u = u} (byte ∷ bytes) end h more empty may =
     let held = byte ∷ bytes in
     let undecided = verdict-more r.w.level (Some r.m) held more in
@@ -196,12 +196,13 @@ finish_faulty {r = r} raw n bad h found is = finish_bad bad h (ap (judged r.w.le
 finish_refused : {S E : Type 0} {r : Start S E} {u : S} {left came : ℕ} {c : Supply} {l : Store} {held : List ℕ} (raw : Raw) (n : ℕ) (why : E) → Clear r u left came c l held 0 → outer (Some r.m) held ≡ took raw n → IsRefused r.w u raw why → Ended r u came c l held (refused_by why)
 finish_refused {r = r} {u = u} {held = held} raw n why h found is =
     let w = r.w in
-    let fronts = (front-got w.level (Some r.m) held is.frame n (verdict-whole w.level (Some r.m) held raw n is.frame found is.at_level is.is_whole)).sequence in
+    let whole = verdict-whole w.level (Some r.m) held raw n is.frame found is.at_level is.is_whole in
+    let fronts = (front-got w.level (Some r.m) held is.frame n whole).sequence in
     let here = refuses_here w u is.frame (front w.level (Some r.m) (drop n held)) why is.refuses in
     let passes = h.spans.passes in
     let all = h.spans.sequence.sequence held in
     let written : text_of w r.s r.m (h.used ++ held) ≡ h.text = ap (text w r.s) all ∙ passes.text_is _ ∙ ap (λ (xs : List ℕ). h.text ++ xs) (ap (text w u) fronts ∙ here.text_is) ∙ append-nil h.text in
-    finish u (refused_by why) h (λ e. absurd cc) (sym written) (sym (ap (state w r.s) all ∙ passes.state_is _ ∙ ap (state w u) fronts ∙ here.state_is)) (inl (ap (refused w r.s) all ∙ passes.refused_is _ ∙ ap (refused w u) fronts ∙ here.refused_is)) (λ e. absurd cc) (rests_of h)
+    finish u (refused_by why) h (λ e. absurd cc) (sym written) (sym (ap (state w r.s) all ∙ passes.state_is _ ∙ ap (state w u) fronts ∙ here.state_is)) (inl (ap (refused w r.s) all ∙ passes.refused_is _ ∙ ap (refused w u) fronts ∙ here.refused_is)) (λ e. absurd cc) (record { rests = rests_of h; refused = inl (record { frame = is.frame; used = n; found = whole; refuses = is.refuses }) })
 
 -- a frame at which memory ran out
 finish_memory : {S E : Type 0} {r : Start S E} {u : S} {left came : ℕ} {c : Supply} {l : Store} {held : List ℕ} (t : S) (raw : Raw) (n : ℕ) → Clear r u left came c l held 0 → outer (Some r.m) held ≡ took raw n → IsTrue (r.w.wants raw.kind) → Ended r t came c l held (stopped_by out_of_memory)

@@ -114,7 +114,7 @@ rest_then {w = w} {m = m} {used = used} {p = p} {held = held} sp sequence h = re
 rests_then : {S E : Type 0} {w : Manner S E} {m : ℕ} {s t : S} {used p : List ℕ} → Spans w m s t used p → IsSequence w.level m used → (u : S) (bytes q held : List ℕ) (e : Ending E) → RestsBy w t u m bytes q held e → RestsBy w s u m (used ++ bytes) (p ++ q) held e
 rests_then sp sequence u bytes q held (stopped_by write_failed) h = tt
 rests_then sp sequence u bytes q held (stopped_by out_of_memory) h = tt
-rests_then sp sequence u bytes q held (refused_by why) h = rest_then sp sequence h
+rests_then sp sequence u bytes q held (refused_by why) h = record { rests = rest_then sp sequence h.rests; refused = h.refused }
 rests_then sp sequence u bytes q held ending h = record { rests = rest_then sp sequence h.rests; place_is = h.place_is ∙ sym (sp.sequence.after bytes) }
 
 -- ---- both runs

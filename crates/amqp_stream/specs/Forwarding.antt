@@ -36,6 +36,10 @@ lasting errors.TurnsSpent = None
 lasting errors.ReadFault = None
 lasting error = Some error
 
+-- the error is returned from then on
+abbrev pub Lasts : StreamError → Type 0
+Lasts error = lasting error ≡ Some error
+
 abbrev pub fault_after : {E : Type 0} → Result Forwarded (RunError E) → Option StreamError
 fault_after (Ok forwarded) = None
 fault_after (Err (ends.Stream error)) = lasting error

@@ -1,6 +1,9 @@
 -- A run that begins with bytes that are held already, and holds what follows the frames that it wrote for.
-use Rattle.std.specs.Prelude.{◌≡◌, ℕ, ◌+◌, ◌≤◌, List, ◌++◌, length, None, Some}
+use Rattle.std.specs.Prelude.{◌≡◌, ◌⊎◌, ℕ, ◌+◌, ◌≤◌, List, [], ◌++◌, length, None, Some, Err}
+use Rattle.amqp_types.specs.Judging.{took}
+use Rattle.amqp_wire.specs.Frames.{Frame}
 use Rattle.amqp_wire.specs.Fronts.{place}
+use Rattle.amqp_wire.specs.Verdicts.{verdict}
 use Rattle.amqp_stream.specs.Errors.{turns_spent, write_failed, out_of_memory}
 use Rattle.amqp_stream.specs.Ends.{Supply, Store, Takes, prepended, counted}
 use Rattle.amqp_stream.specs.Steps.{Manner}
@@ -25,12 +28,23 @@ pub record RestsAt {S E : Type 0} (w : Manner S E) (s t : S) (m : ℕ) (bytes wr
   pub rests : Rests w s t m bytes written held
   pub place_is : held ≡ place w.level (Some m) bytes
 
--- What is held after a run: after a refusal the refused frame and what follows it. Only after a failed write, and after memory ran
--- out, it is not known.
+-- The frame at the front of some bytes is refused in this state.
+pub record IsRefusedThere {S E : Type 0} (w : Manner S E) (t : S) (m : ℕ) (bytes : List ℕ) (why : E) : Type 0 where
+  pub frame : Frame
+  pub used : ℕ
+  pub found : verdict w.level (Some m) bytes ≡ took frame used
+  pub refuses : w.step t frame ≡ Err why
+
+-- The refused frame is held and what follows it; or all was written for, and the end of input is refused.
+pub record RestsRefused {S E : Type 0} (w : Manner S E) (s t : S) (m : ℕ) (bytes written held : List ℕ) (why : E) : Type 0 where
+  pub rests : Rests w s t m bytes written held
+  pub refused : IsRefusedThere w t m held why ⊎ ((held ≡ []) × (w.end t ≡ Some why))
+
+-- What is held after a run. Only after a failed write, and after memory ran out, it is not known.
 abbrev pub RestsBy : {S E : Type 0} → Manner S E → S → S → ℕ → List ℕ → List ℕ → List ℕ → Ending E → Type 0
 RestsBy w s t m bytes written held (stopped_by write_failed) = Unit {0}
 RestsBy w s t m bytes written held (stopped_by out_of_memory) = Unit {0}
-RestsBy w s t m bytes written held (refused_by why) = Rests w s t m bytes written held
+RestsBy w s t m bytes written held (refused_by why) = RestsRefused w s t m bytes written held why
 RestsBy w s t m bytes written held ending = RestsAt w s t m bytes written held
 
 -- A run over a source with the held bytes in front. The count of bytes that came stays at its last value.

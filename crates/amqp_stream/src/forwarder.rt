@@ -1,9 +1,9 @@
 //! Going on from call to call: each reads once at most, and writes for all whole frames that are then there.
 
-ghost use Rattle.std.specs.Prelude.{◌≡◌, ◌-◌, [], Some, None, Ok, Err, IfOk, length};
+ghost use Rattle.std.specs.Prelude.{◌≡◌, ◌≢◌, ◌+◌, ◌-◌, ◌≤◌, [], Some, None, Ok, Err, IfOk, IfSome, length};
 ghost use Rattle.amqp_types.specs.Levels.{plain};
 ghost use Rattle.amqp_stream.specs.Streaming.{ending_of};
-ghost use Rattle.amqp_stream.specs.Forwarding.{ForwardsBy, Forwards, as_forward, forward_ending, lasting};
+ghost use Rattle.amqp_stream.specs.Forwarding.{ForwardsBy, Forwards, Lasts, as_forward, forward_ending, lasting};
 ghost use Rattle.amqp_stream.specs.declared.errors.StreamError.{StreamError};
 
 use crate::canonical::Canonical;
@@ -31,7 +31,8 @@ pub enum Forwarded {
 
 /// The error, if it is returned from then on. After the others the next call goes on.
 fn lasting(error: StreamError) -> Option<StreamError>
-    ensures { result ≡ lasting error }
+    ensures lasting { result ≡ lasting error }
+    ensures lasts { IfSome result Lasts }
 {
     match error {
         StreamError::CutShort | StreamError::TurnsSpent | StreamError::ReadFault => None,
@@ -61,14 +62,14 @@ pub struct Forwarder {
 }
 
 impl Model for Forwarder {
-    ghost use Rattle.std.specs.Prelude.{◌+◌, ◌≤◌};
-    ghost use Rattle.amqp_stream.specs.Forwarding.{Forwarding};
+    ghost use Rattle.std.specs.Prelude.{◌+◌, ◌≤◌, IfSome};
+    ghost use Rattle.amqp_stream.specs.Forwarding.{Forwarding, Lasts};
 
     ghost Value = { Forwarding };
 
     ghost view = { λ f. record { limit = f.reader.limit; held = f.reader.held; came = f.came; fault = f.fault } };
 
-    ghost invariant = { λ f. f.reader.limit + 8 ≤ f.out.room };
+    ghost invariant = { λ f. (f.reader.limit + 8 ≤ f.out.room) × IfSome f.fault Lasts };
 }
 
 impl Forwarder {
@@ -95,9 +96,10 @@ impl Forwarder {
         self.fault = None;
     }
 
-    /// The held bytes: fewer than a whole frame, or those from a fault on.
+    /// The held bytes: fewer than a whole frame, or those from a fault or from a refused frame on.
     pub fn held(&self) -> &[u8]
-        ensures { result.now ≡ self.now.held }
+        ensures held { result.now ≡ self.now.held }
+        ensures room { length self.now.held ≤ self.now.limit + 8 }
     {
         self.reader.held()
     }
@@ -119,13 +121,15 @@ impl Forwarder {
 
     /// The error that each call returns from now on.
     pub fn fault(&self) -> Option<StreamError>
-        ensures { result ≡ self.now.fault }
+        ensures fault { result ≡ self.now.fault }
+        ensures lasts { IfSome result Lasts }
     {
         self.fault
     }
 
     /// Reads once at most, and writes for all whole frames that are then held. After a failed read, and where the input
-    /// ended, the next call goes on; a fault of bytes, of the sink or of memory is returned from then on.
+    /// ended, the next call goes on; a fault of bytes, of the sink or of memory is returned from then on. A frame that the
+    /// writer refuses stays held, and the next call gives it to the writer again.
     pub fn forward_with<W: FrameWriter, S: Source, K: Sink>(
         &mut self,
         writer: &mut W,
@@ -134,6 +138,7 @@ impl Forwarder {
     ) -> Result<Forwarded, RunError<W::Refusal>>
         ensures forwards { self.old.fault ≡ None → ForwardsBy W.manner writer.old writer.new self.old self.new
             (S.supply source.old) (S.supply source.new) (K.store sink.old) (K.store sink.new) result }
+        ensures never_spent { result ≢ Err (RunError.Stream StreamError.TurnsSpent) }
 
         // A lasting fault is returned again, and nothing is read or written.
         ensures again { (error : StreamError) → self.old.fault ≡ Some error → result ≡ Err (RunError.Stream error) }
@@ -165,6 +170,7 @@ impl Forwarder {
     ) -> Result<Forwarded, StreamError>
         ensures forwards { self.old.fault ≡ None → Forwards plain self.old self.new
             (S.supply source.old) (S.supply source.new) (K.store sink.old) (K.store sink.new) result }
+        ensures never_spent { result ≢ Err StreamError.TurnsSpent }
 
         // A lasting fault is returned again, and nothing is read or written.
         ensures again { (error : StreamError) → self.old.fault ≡ Some error → result ≡ Err error }

@@ -13,5 +13,4 @@ pub use Rattle.amqp_lines.specs.Laws
 pub use Rattle.amqp_lines.specs.UndumpLaws
 pub use Rattle.amqp_lines.specs.Errors
 pub use Rattle.amqp_lines.specs.Reading
-pub use Rattle.amqp_lines.specs.ReadingLines
 pub use Rattle.amqp_lines.specs.LineReading

@@ -1,38 +1,32 @@
-//! Values, arrays and tables read back from text, as their bytes.
-#![tactic(auto, using(crate::proofs::ReadSteps::memory_gone), unfolding(crate::specs::Reading::read_behind))]
+//! Values, arrays and tables read from text, as their bytes.
+#![tactic(auto)]
 
-ghost use Rattle.std.specs.Prelude.{◌≡◌, ◌≤◌, ◌<◌, ◌+◌, ℕ, length, IfOk};
-ghost use Rattle.amqp_lines.specs.Reading.{ReadsWord, after_colon, inside, or_comma, read_array, read_behind, read_byte_array, read_decimal, read_entry, read_nested, read_table, read_value};
+ghost use Rattle.std.specs.Prelude.{◌≡◌};
+ghost use Rattle.amqp_lines.specs.Reading.{Reads, after_colon, closing, inside, or_comma, read_behind, read_byte_array, read_decimal, read_item, read_lists, read_value};
 
-use crate::errors::TextError;
 use crate::reading::words::{
-    begins_with, keep_place, read_hex, read_long, read_long_long, read_long_string, read_octet,
-    read_short, read_short_string, read_truth, set_long,
+    begins_with, ends_at, keep_place, put_length, read_hex, read_number, read_string, read_truth,
 };
 use amqp_canonical::bytes_from;
-use amqp_types::FieldTag;
+use amqp_types::{FieldTag, NoMemory};
 
 /// A scale, a character and a number.
-fn read_decimal<'a>(out: &mut Vec<u8>, i: &'a [u8]) -> Result<&'a [u8], TextError>
-    ensures read { ReadsWord (λ rest. rest.now) (read_decimal i.now) out.old.items out.new.items result }
-    ensures shorter { IfOk result (λ rest. length rest.now ≤ length i.now) }
+#[tactic(auto, unfolding(crate::specs::Reading::read_decimal))]
+fn read_decimal<'a>(out: &mut Vec<u8>, i: &'a [u8]) -> Result<&'a [u8], NoMemory>
+    ensures { Reads (λ rest. rest.now) (read_decimal i.now) out.old.items out.new.items result }
 {
-    match read_octet(out, i) {
-        Ok(rest) => read_long(out, bytes_from(rest, 1)),
-        Err(error) => Err(error),
-    }
+    let rest = read_number(out, 1, i)?;
+    read_number(out, 4, bytes_from(rest, 1))
 }
 
 /// A byte array.
-fn read_byte_array<'a>(out: &mut Vec<u8>, i: &'a [u8]) -> Result<&'a [u8], TextError>
-    ensures read { ReadsWord (λ rest. rest.now) (read_byte_array i.now) out.old.items out.new.items result }
-    ensures shorter { IfOk result (λ rest. length rest.now ≤ length i.now) }
+fn read_byte_array<'a>(out: &mut Vec<u8>, i: &'a [u8]) -> Result<&'a [u8], NoMemory>
+    ensures { Reads (λ rest. rest.now) (read_byte_array i.now) out.old.items out.new.items result }
 {
     let place = keep_place(out, 4)?;
-    match read_hex(out, i) {
-        Ok(rest) => set_long(out, place, rest),
-        Err(error) => Err(error),
-    }
+    let rest = read_hex(out, i)?;
+    put_length(out, place, 4);
+    Ok(rest)
 }
 
 /// The text after the colon, where one follows the tag letter.
@@ -45,164 +39,118 @@ fn after_colon(tag: FieldTag, i: &[u8]) -> &[u8]
     }
 }
 
+/// What closes an array, or a table.
+fn closing(keyed: bool) -> u8
+    ensures { result ≡ closing keyed }
+{
+    if keyed { b'}' } else { b']' }
+}
+
 /// Appends the bytes of a value at the front, and returns the text after it. Tables and arrays may nest `depth_left` deep in
 /// it.
 #[cycle(read)]
-pub(crate) fn read_value<'a>(
-    out: &mut Vec<u8>,
-    i: &'a [u8],
-    depth_left: usize,
-) -> Result<&'a [u8], TextError>
-    ensures read { ReadsWord (λ rest. rest.now) (read_value depth_left i.now) out.old.items out.new.items result }
-    ensures shorter { IfOk result (λ rest. length rest.now < length i.now) }
+fn read_value<'a>(out: &mut Vec<u8>, i: &'a [u8], depth_left: usize) -> Result<&'a [u8], NoMemory>
+    ensures { Reads (λ rest. rest.now) (read_value depth_left i.now) out.old.items out.new.items result }
 {
     match i {
-        [] => Err(TextError::BadText),
-        [letter, ..] => match FieldTag::from_byte(*letter) {
-            Some(tag) => {
-                out.push(tag.to_byte())?;
-                read_after_tag(out, tag, after_colon(tag, bytes_from(i, 1)), depth_left)
+        [] => Ok(i),
+        [letter, ..] => {
+            out.push(*letter)?;
+            let rest = bytes_from(i, 1);
+            match FieldTag::from_byte(*letter) {
+                Some(tag) => read_after_tag(out, tag, after_colon(tag, rest), depth_left),
+                None => Ok(rest),
             }
-            None => Err(TextError::BadText),
-        },
+        }
     }
 }
 
 /// The value after a tag.
 #[cycle(read)]
+#[tactic(auto, unfolding(crate::specs::Reading::read_behind))]
 fn read_after_tag<'a>(
     out: &mut Vec<u8>,
     tag: FieldTag,
     i: &'a [u8],
     depth_left: usize,
-) -> Result<&'a [u8], TextError>
-    ensures read { ReadsWord (λ rest. rest.now) (read_behind (read_nested depth_left) tag i.now) out.old.items out.new.items result }
-    ensures shorter { IfOk result (λ rest. length rest.now ≤ length i.now) }
+) -> Result<&'a [u8], NoMemory>
+    ensures { Reads (λ rest. rest.now) (read_behind (read_lists depth_left) tag i.now) out.old.items out.new.items result }
 {
     match tag {
         FieldTag::Boolean => read_truth(out, i),
-        FieldTag::ShortShortInt | FieldTag::ShortShortUInt => read_octet(out, i),
-        FieldTag::ShortInt | FieldTag::ShortUInt => read_short(out, i),
-        FieldTag::LongInt | FieldTag::LongUInt | FieldTag::Float => read_long(out, i),
-        FieldTag::LongLongInt | FieldTag::Double | FieldTag::Timestamp => read_long_long(out, i),
+        FieldTag::ShortShortInt | FieldTag::ShortShortUInt => read_number(out, 1, i),
+        FieldTag::ShortInt | FieldTag::ShortUInt => read_number(out, 2, i),
+        FieldTag::LongInt | FieldTag::LongUInt | FieldTag::Float => read_number(out, 4, i),
+        FieldTag::LongLongInt | FieldTag::Double | FieldTag::Timestamp => read_number(out, 8, i),
         FieldTag::DecimalValue => read_decimal(out, i),
-        FieldTag::LongString => read_long_string(out, i),
+        FieldTag::LongString => read_string(out, 4, i),
         FieldTag::ByteArray => read_byte_array(out, i),
-        FieldTag::FieldArray if depth_left == 0 => Err(TextError::BadText),
-        FieldTag::FieldArray => read_array(out, i, depth_left - 1),
-        FieldTag::FieldTable if depth_left == 0 => Err(TextError::BadText),
-        FieldTag::FieldTable => read_table(out, i, depth_left - 1),
+        FieldTag::FieldArray => read_list(out, i, false, depth_left),
+        FieldTag::FieldTable => read_list(out, i, true, depth_left),
         FieldTag::Void => Ok(i),
     }
 }
 
-/// An array.
+/// Appends the bytes of an array at the front, or where values have keys of a table, and returns the text after it.
+/// Tables and arrays may nest `depth_left` deep, with this one.
 #[cycle(read)]
-fn read_array<'a>(out: &mut Vec<u8>, i: &'a [u8], depth_left: usize) -> Result<&'a [u8], TextError>
-    ensures read { ReadsWord (λ rest. rest.now) (read_array (read_value depth_left) i.now) out.old.items out.new.items result }
-    ensures shorter { IfOk result (λ rest. length rest.now ≤ length i.now) }
-{
-    let place = keep_place(out, 4)?;
-    match read_values(out, i, depth_left) {
-        Ok(rest) => set_long(out, place, rest),
-        Err(error) => Err(error),
-    }
-}
-
-/// Appends the bytes of a table at the front, and returns the text after it. Tables and arrays may nest `depth_left` deep in
-/// its values.
-#[cycle(read)]
-pub(crate) fn read_table<'a>(
+pub(crate) fn read_list<'a>(
     out: &mut Vec<u8>,
     i: &'a [u8],
+    keyed: bool,
     depth_left: usize,
-) -> Result<&'a [u8], TextError>
-    ensures read { ReadsWord (λ rest. rest.now) (read_table (read_value depth_left) i.now) out.old.items out.new.items result }
-    ensures shorter { IfOk result (λ rest. length rest.now ≤ length i.now) }
+) -> Result<&'a [u8], NoMemory>
+    ensures { Reads (λ rest. rest.now) (read_lists depth_left keyed i.now) out.old.items out.new.items result }
 {
-    let place = keep_place(out, 4)?;
-    match read_entries(out, i, depth_left) {
-        Ok(rest) => set_long(out, place, rest),
-        Err(error) => Err(error),
+    if depth_left == 0 {
+        return Ok(i);
     }
+    let place = keep_place(out, 4)?;
+    let rest = read_items(out, i, keyed, depth_left - 1)?;
+    put_length(out, place, 4);
+    Ok(rest)
 }
 
-/// The values after an array's bracket, up to its end.
+/// The values or entries after a bracket, up to its end.
 #[cycle(read)]
-fn read_values<'a>(out: &mut Vec<u8>, i: &'a [u8], depth_left: usize) -> Result<&'a [u8], TextError>
-    ensures read { ReadsWord (λ rest. rest.now) (inside (or_comma (read_value depth_left)) 93 i.now) out.old.items out.new.items result }
-    ensures shorter { IfOk result (λ rest. length rest.now ≤ length i.now) }
+fn read_items<'a>(
+    out: &mut Vec<u8>,
+    i: &'a [u8],
+    keyed: bool,
+    depth_left: usize,
+) -> Result<&'a [u8], NoMemory>
+    ensures { Reads (λ rest. rest.now) (inside (or_comma (read_item (read_value depth_left) keyed)) (closing keyed) i.now) out.old.items out.new.items result }
 {
+    let mut left = i.len();
     let mut rest = bytes_from(i, 1);
-    'values: while !begins_with(rest, b']') {
-        match read_next_value(out, rest, depth_left) {
-            Ok(after) => rest = after,
-            Err(error) => return Err(error),
+    'items: while left > 0 {
+        if ends_at(rest, closing(keyed)) {
+            return Ok(bytes_from(rest, 1));
         }
+        let next = read_item(out, rest, keyed, depth_left)?;
+        rest = next;
+        left -= 1;
     }
     Ok(bytes_from(rest, 1))
 }
 
-/// A comma, which is passed, or a value.
+/// A comma, which is passed, or a value, with its key in front where it has one.
 #[cycle(read)]
-fn read_next_value<'a>(
+#[tactic(auto, unfolding(crate::specs::Reading::or_comma))]
+fn read_item<'a>(
     out: &mut Vec<u8>,
     i: &'a [u8],
+    keyed: bool,
     depth_left: usize,
-) -> Result<&'a [u8], TextError>
-    ensures read { ReadsWord (λ rest. rest.now) (or_comma (read_value depth_left) i.now) out.old.items out.new.items result }
-    ensures shorter { IfOk result (λ rest. length rest.now < length i.now) }
+) -> Result<&'a [u8], NoMemory>
+    ensures { Reads (λ rest. rest.now) (or_comma (read_item (read_value depth_left) keyed) i.now) out.old.items out.new.items result }
 {
     if begins_with(i, b',') {
         return Ok(bytes_from(i, 1));
     }
-    read_value(out, i, depth_left)
-}
-
-/// The entries after a table's bracket, up to its end.
-#[cycle(read)]
-fn read_entries<'a>(
-    out: &mut Vec<u8>,
-    i: &'a [u8],
-    depth_left: usize,
-) -> Result<&'a [u8], TextError>
-    ensures read { ReadsWord (λ rest. rest.now) (inside (or_comma (read_entry (read_value depth_left))) 125 i.now) out.old.items out.new.items result }
-    ensures shorter { IfOk result (λ rest. length rest.now ≤ length i.now) }
-{
-    let mut rest = bytes_from(i, 1);
-    'entries: while !begins_with(rest, b'}') {
-        match read_next_entry(out, rest, depth_left) {
-            Ok(after) => rest = after,
-            Err(error) => return Err(error),
-        }
+    if !keyed {
+        return read_value(out, i, depth_left);
     }
-    Ok(bytes_from(rest, 1))
-}
-
-/// A comma, which is passed, or an entry.
-#[cycle(read)]
-fn read_next_entry<'a>(
-    out: &mut Vec<u8>,
-    i: &'a [u8],
-    depth_left: usize,
-) -> Result<&'a [u8], TextError>
-    ensures read { ReadsWord (λ rest. rest.now) (or_comma (read_entry (read_value depth_left)) i.now) out.old.items out.new.items result }
-    ensures shorter { IfOk result (λ rest. length rest.now < length i.now) }
-{
-    if begins_with(i, b',') {
-        return Ok(bytes_from(i, 1));
-    }
-    read_entry(out, i, depth_left)
-}
-
-/// An entry: a key, a character and a value.
-#[cycle(read)]
-fn read_entry<'a>(out: &mut Vec<u8>, i: &'a [u8], depth_left: usize) -> Result<&'a [u8], TextError>
-    ensures read { ReadsWord (λ rest. rest.now) (read_entry (read_value depth_left) i.now) out.old.items out.new.items result }
-    ensures shorter { IfOk result (λ rest. length rest.now < length i.now) }
-{
-    match read_short_string(out, i) {
-        Ok(rest) => read_value(out, bytes_from(rest, 1), depth_left),
-        Err(error) => Err(error),
-    }
+    let rest = read_string(out, 1, i)?;
+    read_value(out, bytes_from(rest, 1), depth_left)
 }

@@ -1,10 +1,8 @@
 -- `put_text`: what it ensures.
-use Rattle.amqp_fields.specs.Made.{made_text}
-use Rattle.amqp_fields.proofs.Placed.{span_missing, span_set, text_set}
+use Rattle.std.proofs.Common.{length, [], ◌∷◌, arith}
+use Rattle.std.proofs.lemmas.Bool.Decides.{nat_tests}
+use Rattle.amqp_fields.proofs.Combined.{both_put, text_put}
 use Rattle.amqp_fields.proofs.putting.put_text.Goals as goal
 
-pub returns-in-Some : goal.returns-in-Some
-returns-in-Some c = span_set c.args.index (made_text c.args.index) _ c.span.ensures c.in-Some.is (text_set c.args.index c.in-Some.text.now c.put_at-next.ensures c.put_at.ensures)
-
-pub returns-in-None : goal.returns-in-None
-returns-in-None c = span_missing c.args.index (made_text c.args.index) _ c.span.ensures c.in-None.is
+pub returns : goal.returns
+returns c = text_put c.args.index c.args.text.now (grind (arith, nat_tests, c.if-text-gt255.false)) (grind (arith, c.is_text.ensures, c.if-not-is_text.false)) (both_put {a = length c.args.text.now ∷ []} {b = c.args.text.now} c.put-head.ensures c.plus.ensures c.put-n.ensures c.plus-2.ensures)

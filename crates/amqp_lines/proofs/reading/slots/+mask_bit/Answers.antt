@@ -1,6 +1,6 @@
 -- `mask_bit`, which calls itself: what they ensure.
 use Rattle.std.proofs.Common.{◌≡◌, ℕ, ◌*◌, ◌%◌, ◌^◌, sym, ap, arith}
-use Rattle.amqp_lines.proofs.SlotSteps.{bit_next}
+use Rattle.amqp_lines.proofs.ReadSteps.{bit_next}
 use Rattle.amqp_lines.proofs.reading.slots.+mask_bit.Goals as goal
 
 pub returns-then-bit-eq0 : goal.returns-then-bit-eq0

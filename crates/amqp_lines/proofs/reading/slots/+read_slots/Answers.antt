@@ -1,25 +1,19 @@
 -- `read_slots`, which calls itself: what they ensure.
-use Rattle.std.proofs.Common.{rules}
+use Rattle.std.proofs.Common.{[], get_or, drop, refl, sym, append-nil}
 use Rattle.std.proofs.lemmas.List.{take_rest}
+use Rattle.amqp_canonical.specs.Shapes.{slot_of, slots_of}
 use Rattle.amqp_canonical.specs.declared.shapes.Form.TheVariants as forms
 use Rattle.amqp_canonical.specs.declared.shapes.Slot.TheVariants as slots
-use Rattle.amqp_canonical.proofs.Constants.{constant_at, constants_from}
-use Rattle.amqp_lines.proofs.SlotSteps.{slots_none, slots_failed, slots_read}
+use Rattle.amqp_lines.specs.Reading.{read_slot, read_slots}
+use Rattle.amqp_lines.proofs.ReadSteps.{as_read, reads_so, then_read, slots_none, slots_some}
 use Rattle.amqp_lines.proofs.reading.slots.+read_slots.Goals as goal
 
 pub returns-in-empty : goal.returns-in-empty
-returns-in-empty t c = slots_none (λ rest. rest.now) c.args.shapes.now c.args.i _ c.in-empty.len_below
+returns-in-empty t c = reads_so _ _ _ [] _ _ (slots_none c.args.shapes.now _ c.in-empty.len_below) refl (sym (append-nil _))
 
-pub returns-in-Err : goal.returns-in-Err
-returns-in-Err t c = slots_failed _ _ c.args.shapes.now (slots.Kept forms.Octet) c.args.i.now _ _ _ _ _ c.in-len1-up.len_at_least c.in-Err.ensures
-
-pub returns-in-Ok : goal.returns-in-Ok
-returns-in-Ok t c =
+pub returns-in_ok-rest-in-len1-up : goal.returns-in_ok-rest-in-len1-up
+returns-in_ok-rest-in-len1-up t c =
+    let shape = get_or c.args.shapes.now 0 (slots.Kept forms.Octet) in
     let others = rw take_rest at c.read_slots.ensures in
-    slots_read _ _ c.args.shapes.now (slots.Kept forms.Octet) c.args.i.now _ _ _ c.in-Ok.rest _ c.in-len1-up.len_at_least c.in-Ok.ensures others
-
-pub read_slot-requires : goal.read_slot-requires
-read_slot-requires t c = record { constant = constant_at c.args.shapes.now 0 (slots.Kept forms.Octet) c.requires.constants c.in-len1-up.len_at_least }
-
-pub read_slots-requires : goal.read_slots-requires
-read_slots-requires t c = (search rules, rw take_rest (constants_from c.args.shapes.now 1 c.requires.constants))
+    as_read _ _ _ _ _ _ (slots_some c.args.shapes.now (slots.Kept forms.Octet) c.args.i.now c.in-len1-up.len_at_least)
+    (then_read _ (read_slot (slot_of shape) c.args.i.now) (read_slots (slots_of (drop 1 c.args.shapes.now))) 0 _ _ _ _ _ _ c.in_ok-rest-in-len1-up.ensures refl others)

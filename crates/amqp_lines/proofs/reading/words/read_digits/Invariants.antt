@@ -1,11 +1,10 @@
 -- `read_digits`: what loops keep and what falls with each iteration or call.
 use Rattle.std.proofs.Common.{◌≡◌, length}
 use Rattle.amqp_lines.specs.Reading.{read_digits}
-use Rattle.amqp_lines.proofs.ReadSteps.{GoesOnWithin}
 use Rattle.amqp_lines.proofs.reading.words.read_digits.Given as goal
 
 abbrev pub invariant-loop-rest : goal.invariant-loop-rest
-invariant-loop-rest l = GoesOnWithin (read_digits 0 l.i ≡ read_digits l.number l.rest) l.i l.rest
+invariant-loop-rest l = read_digits 0 l.i ≡ read_digits l.number l.rest
 
 abbrev pub decreases-loop-rest : goal.decreases-loop-rest
 decreases-loop-rest l = length l.rest

@@ -1,24 +1,25 @@
 -- `Recutter::decide_judged`: what it ensures, and what calls require.
-use Rattle.std.proofs.Common.{refl, sym, ap, ◌∙◌, Some}
+use Rattle.std.proofs.Common.{true, refl, sym, ap, ◌∙◌, Some}
 use Rattle.amqp_wire.specs.Frames.{raw_of}
 use Rattle.amqp_turns.specs.Steps.{mark_after, progress_after}
 use Rattle.amqp_turns.specs.InTurn.{greatest}
 use Rattle.amqp_stream.specs.declared.decision.Decision.TheVariants as decisions
 use Rattle.amqp_stream.specs.declared.errors.RunError.TheVariants as ends
-use Rattle.amqp_recut.specs.declared.errors.Refusal.TheVariants as refusals
+use Rattle.amqp_in_turn.specs.declared.errors.Refusal.TheVariants as refusals
 use Rattle.amqp_recut.proofs.Stepping.{typed_passed, typed_part, typed_refused}
-use Rattle.amqp_recut.proofs.Writing.{judged_takes, turn_refuses}
+use Rattle.amqp_recut.specs.Stepping.{recutting}
+use Rattle.amqp_in_turn.proofs.Judging.{judged_takes, turn_refuses}
 use Rattle.amqp_recut.proofs.recutter.Recutter.decide_judged.Goals as goal
 
 pub returns-in-Fault : goal.returns-in-Fault
 returns-in-Fault c =
     let mark = sym c.in-Fault.is ∙ c.step-stepped.ensures.mark ∙ ap (λ p. mark_after greatest p c.outline_raw-outline.result) c.progress.ensures in
-    turn_refuses c.args.self.now (raw_of c.args.raw) c.in-Fault.fault (ends.Refused (refusals.BadContent c.in-Fault.fault)) (typed_refused c.args.self.now (raw_of c.args.raw) c.outline_raw-outline.result c.in-Fault.fault c.requires.typed (λ frame h. ap (λ o. Some o) (c.outline_raw-outline.ensures.frame frame h)) mark) (c.requires.judged.frame, c.requires.judged.is, refl)
+    turn_refuses recutting refl refl c.args.self.now (raw_of c.args.raw) c.in-Fault.fault (ends.Refused (refusals.BadContent c.in-Fault.fault)) (typed_refused c.args.self.now (raw_of c.args.raw) c.outline_raw-outline.result c.in-Fault.fault c.requires.typed (λ frame h. ap (λ o. Some o) (c.outline_raw-outline.ensures.frame frame h)) mark) (c.requires.judged.frame, c.requires.judged.is, refl)
 
 pub returns-in-Passed : goal.returns-in-Passed
 returns-in-Passed c =
     let mark = sym c.in-Passed.is ∙ c.step-stepped.ensures.mark ∙ ap (λ p. mark_after greatest p c.outline_raw-outline.result) c.progress.ensures in
-    judged_takes c.args.self.now _ _ (raw_of c.args.raw) (decisions.Kept c.args.judged) refl (typed_passed c.args.self.now (raw_of c.args.raw) c.outline_raw-outline.result c.requires.typed (λ frame h. ap (λ o. Some o) (c.outline_raw-outline.ensures.frame frame h)) mark) c.requires.judged
+    judged_takes recutting refl refl c.args.self.now _ _ true (raw_of c.args.raw) (decisions.Kept c.args.judged) refl (typed_passed c.args.self.now (raw_of c.args.raw) c.outline_raw-outline.result c.requires.typed (λ frame h. ap (λ o. Some o) (c.outline_raw-outline.ensures.frame frame h)) mark) (refl, c.requires.judged)
 
 pub decide_part-requires-clause-steps : goal.decide_part-requires-clause-steps
 decide_part-requires-clause-steps c =

@@ -1,0 +1,9 @@
+-- `MessageFilter::decide`: what it ensures of a frame that is kept, or is not.
+use Rattle.std.proofs.Common.{refl}
+use Rattle.amqp_wire.specs.Frames.{raw_of}
+use Rattle.amqp_filter.specs.Stepping.{filtering}
+use Rattle.amqp_in_turn.proofs.Judging.{judged_takes}
+use Rattle.amqp_filter.proofs.message_filter.MessageFilter.decide.Goals as goal
+
+pub returns-in-Ok-keep : goal.returns-in-Ok-keep
+returns-in-Ok-keep c = judged_takes filtering refl refl c.args.self.now c.keep.new.self c.keep.new.self c.in-Ok-keep.kept (raw_of c.args.raw) c.decision_of.result refl c.in-Ok-keep.ensures (c.decision_of.ensures (raw_of c.args.raw) c.in-Ok.ensures)

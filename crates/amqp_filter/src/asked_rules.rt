@@ -1,0 +1,75 @@
+//! Rules that were asked once what they decide of every frame.
+
+ghost use Rattle.std.specs.Prelude.{◌≡◌, Ok, IsOk};
+ghost use Rattle.amqp_wire.specs.Frames.{Frame, raw_of};
+ghost use Rattle.amqp_wire.specs.Outlines.{outline_of};
+ghost use Rattle.amqp_wire.specs.Verdicts.{whole, whole_as};
+ghost use Rattle.amqp_select.specs.Matching.{decides};
+
+use amqp_select::Rules;
+use amqp_types::ChannelId;
+use amqp_wire::{AMQPFrameType, AMQPRawFrame, outline_raw};
+use std::marker::Model;
+
+/// Rules, and what they decide of every frame, where the first of them has no part.
+#[derive(Drop)]
+pub(crate) struct AskedRules<'a> {
+    rules: &'a Rules,
+    all: Option<bool>,
+}
+
+impl<'a> Model for AskedRules<'a> {
+    ghost use Rattle.std.specs.Prelude.{◌≡◌, List, IfSome};
+    ghost use Rattle.amqp_wire.specs.declared.outline.FrameOutline.{FrameOutline};
+    ghost use Rattle.amqp_select.specs.declared.rule.Rule.{Rule};
+    ghost use Rattle.amqp_select.specs.Matching.{decides};
+
+    ghost Value = { List Rule };
+
+    ghost view = { λ asked. asked.rules.now };
+
+    ghost invariant = { λ asked. (outline : FrameOutline) → IfSome asked.all (λ keep. keep ≡ decides asked.rules.now outline) };
+}
+
+/// Whether rules keep a whole frame, by its outline. It is no part of the loop's code, and its arguments take no memory there.
+#[inline(never)]
+fn decide_read(
+    rules: &Rules,
+    frame_type: AMQPFrameType,
+    channel_id: ChannelId,
+    payload: &[u8],
+) -> bool
+    requires { IsOk (whole_as frame_type channel_id payload.now) }
+    ensures { (frame : Frame) → whole_as frame_type channel_id payload.now ≡ Ok frame → result ≡ decides rules.now (outline_of frame) }
+{
+    let raw = AMQPRawFrame {
+        frame_type,
+        channel_id,
+        payload,
+    };
+    rules.decide_outline(outline_raw(raw))
+}
+
+impl<'a> AskedRules<'a> {
+    /// The rules, asked.
+    pub(crate) fn new(rules: &'a Rules) -> AskedRules<'a>
+        ensures { result ≡ rules.now }
+    {
+        AskedRules {
+            rules,
+            all: rules.decide_all(),
+        }
+    }
+
+    /// Whether a whole frame is kept. Its outline is read only where the rules ask for it.
+    #[inline(always)]
+    pub(crate) fn decide(&self, raw: AMQPRawFrame<'_>) -> bool
+        requires { IsOk (whole (raw_of raw)) }
+        ensures { (frame : Frame) → whole (raw_of raw.entry) ≡ Ok frame → result ≡ decides self.now (outline_of frame) }
+    {
+        match self.all {
+            Some(keep) => keep,
+            None => decide_read(self.rules, raw.frame_type, raw.channel_id, raw.payload),
+        }
+    }
+}

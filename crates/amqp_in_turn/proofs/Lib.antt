@@ -1,0 +1,5 @@
+-- The lemmas of amqp_in_turn.
+pub mod Turning
+pub mod Keeping
+pub mod Judging
+pub mod Lent

@@ -1,0 +1,6 @@
+-- The definitions of amqp_in_turn.
+pub use Rattle.amqp_turns.specs.InTurn
+pub mod Errors
+pub mod Turning
+pub mod Judging
+pub mod Lent

@@ -1,0 +1,130 @@
+-- What a call does that writes for the frames of a stream as far as they are in turn: which bytes are taken, which are written, and why it ends.
+-- `text` is what is written for frames, and `wants` the types of frames at which memory may run out.
+use Rattle.std.specs.Prelude.{◌≡◌, ℕ, Bool, ◌+◌, ◌≤◌, IsTrue, List, ◌++◌, length, Some, Result, Ok, Err}
+use Rattle.amqp_types.specs.Levels.{plain}
+use Rattle.amqp_types.specs.Judging.{IsBytes}
+use Rattle.amqp_wire.specs.declared.frame_type.AMQPFrameType.{AMQPFrameType}
+use Rattle.amqp_wire.specs.Frames.{Frame}
+use Rattle.amqp_wire.specs.Fronts.{front}
+use Rattle.amqp_wire.specs.Outer.{BeginsWith}
+use Rattle.amqp_stream.specs.declared.errors.StreamError.TheVariants as streams
+use Rattle.amqp_stream.specs.Errors.{Cause, write_failed, out_of_memory, cause_of}
+use Rattle.amqp_stream.specs.Ends.{Supply, Store, Takes, Gains, IsEmpty}
+use Rattle.amqp_stream.specs.Writing.{IsPrefix}
+use Rattle.amqp_stream.specs.Transcribing.{IsSequence, IsCausedBy, UnlessStopped, IsOutOfMemory, answer_to, IsWrittenUnless}
+use Rattle.amqp_in_turn.specs.declared.errors.TurnError.{TurnError}
+use Rattle.amqp_in_turn.specs.declared.errors.TurnError.TheVariants as errors
+use Rattle.amqp_turns.specs.InTurn.{IsLongestInTurn, IsNextFault, IsOpen, NoneIsOpen, AreInTurn}
+
+-- the frames at the front of some bytes
+abbrev pub frames_at : ℕ → List ℕ → List Frame
+frames_at m bytes = front plain (Some m) bytes
+
+-- A sequence of frames was written for, as far as it is in turn, and then a frame of a type that is wanted has come.
+pub record AtWanted (text : List Frame → List ℕ) (wants : AMQPFrameType → Bool) (m : ℕ) (taken written : List ℕ) : Type 0 where
+  pub sequence : List ℕ
+  pub rest : List ℕ
+  pub parts : taken ≡ sequence ++ rest
+  pub is_sequence : IsSequence plain m sequence
+  pub wanted : BeginsWith (λ kind. IsTrue (wants kind)) (Some m) rest
+  pub frames : List Frame
+  pub in_turn : IsLongestInTurn (frames_at m sequence) frames
+  pub written_is : written ≡ text frames
+
+-- At most n of the bytes taken come after a sequence of frames that was written for, as far as it is in turn.
+pub record IsTextBehindBy (text : List Frame → List ℕ) (m : ℕ) (taken written : List ℕ) (n : ℕ) : Type 0 where
+  pub sequence : List ℕ
+  pub rest : List ℕ
+  pub parts : taken ≡ sequence ++ rest
+  pub is_sequence : IsSequence plain m sequence
+  pub frames : List Frame
+  pub in_turn : IsLongestInTurn (frames_at m sequence) frames
+  pub written_begins : IsPrefix (text frames) written
+  pub few : length rest ≤ n
+
+-- Unless a write or memory failed, all frames at the front are in turn.
+abbrev pub IsAllInTurn : List Frame → List Frame → Cause → Type 0
+IsAllInTurn all frames write_failed = Unit {0}
+IsAllInTurn all frames out_of_memory = Unit {0}
+IsAllInTurn all frames cause = frames ≡ all
+
+-- When each result comes. `frames` is the longest prefix in turn of the frames at the front of the bytes taken.
+abbrev pub HasCauseInTurn : (List Frame → List ℕ) → (AMQPFrameType → Bool) → ℕ → ℕ → List ℕ → List ℕ → List Frame → Supply → Supply → Store → Store
+    → Result (Unit {0}) TurnError → Type 0
+HasCauseInTurn text wants m turns taken written frames a b k l (Ok done) =
+    IsSequence plain m taken × IsEmpty b.left × (frames ≡ frames_at m taken) × NoneIsOpen frames
+HasCauseInTurn text wants m turns taken written frames a b k l (Err (errors.BadContent fault)) = IsNextFault (frames_at m taken) frames fault
+HasCauseInTurn text wants m turns taken written frames a b k l (Err errors.OpenContent) =
+    IsSequence plain m taken × IsEmpty b.left × (frames ≡ frames_at m taken) × IsOpen frames
+HasCauseInTurn text wants m turns taken written frames a b k l (Err (errors.Stream error)) =
+    IsCausedBy plain m turns taken a b k l (AtWanted text wants m taken written) (cause_of error) × IsAllInTurn (frames_at m taken) frames (cause_of error)
+
+-- what was written of all that is to be, by the result: all of it, unless a write or memory failed
+abbrev pub HasWrittenInTurn : List ℕ → List ℕ → Result (Unit {0}) TurnError → Type 0
+HasWrittenInTurn all written (Ok done) = written ≡ all
+HasWrittenInTurn all written (Err (errors.BadContent fault)) = written ≡ all
+HasWrittenInTurn all written (Err errors.OpenContent) = written ≡ all
+HasWrittenInTurn all written (Err (errors.Stream error)) = IsWrittenUnless all written (cause_of error)
+
+-- A whole call: a is the source before it and b after it, k and l the sink.
+pub record GoesInTurn (text : List Frame → List ℕ) (wants : AMQPFrameType → Bool) (m turns : ℕ) (a b : Supply) (k l : Store)
+    (result : Result (Unit {0}) TurnError) : Type 0 where
+  pub taken : List ℕ
+  pub are_bytes : IsBytes taken
+  pub reads : ℕ
+  pub takes : Takes a b taken reads
+  pub at_most : reads ≤ turns
+  pub all_turns : result ≡ Err (errors.Stream streams.TurnsSpent) → reads ≡ turns
+  pub written : List ℕ
+  pub gains : Gains k l written
+  pub frames : List Frame
+  pub in_turn : IsLongestInTurn (frames_at m taken) frames
+  pub writes : HasWrittenInTurn (text frames) written result
+  pub cause : HasCauseInTurn text wants m turns taken written frames a b k l result
+  pub behind : IsTextBehindBy text m taken written (m + 8)
+
+-- memory ran out before anything was taken or written
+pub record NeverBegan (a b : Supply) (k l : Store) (result : Result (Unit {0}) TurnError) : Type 0 where
+  pub no_memory : result ≡ Err (errors.Stream streams.NoMemory)
+  pub source : b ≡ a
+  pub sink : l ≡ k
+
+-- What is returned for all the bytes of a source: the fault of the first frame that is not in turn; or else the result of canonicalizing them, and where
+-- that is Ok, whether content is open.
+abbrev pub IsAnsweredTo : ℕ → List ℕ → List Frame → Result (Unit {0}) TurnError → Type 0
+IsAnsweredTo m bytes frames (Ok done) = (frames ≡ frames_at m bytes) × (answer_to plain m bytes ≡ Ok tt) × NoneIsOpen frames
+IsAnsweredTo m bytes frames (Err (errors.BadContent fault)) = IsNextFault (frames_at m bytes) frames fault
+IsAnsweredTo m bytes frames (Err errors.OpenContent) = (frames ≡ frames_at m bytes) × (answer_to plain m bytes ≡ Ok tt) × IsOpen frames
+IsAnsweredTo m bytes frames (Err (errors.Stream error)) = (frames ≡ frames_at m bytes) × (answer_to plain m bytes ≡ Err error)
+
+-- what is written and returned, by the bytes alone
+pub record IsExactlyInTurn (text : List Frame → List ℕ) (m : ℕ) (bytes written : List ℕ) (result : Result (Unit {0}) TurnError) : Type 0 where
+  pub frames : List Frame
+  pub in_turn : IsLongestInTurn (frames_at m bytes) frames
+  pub answered : IsAnsweredTo m bytes frames result
+  pub written_is : written ≡ text frames
+
+-- This is so, but for memory that ran out, a spent read budget, and faults of the two ends.
+abbrev pub UnlessStoppedInTurn : Result (Unit {0}) TurnError → Type 0 → Type 0
+UnlessStoppedInTurn (Ok done) So = So
+UnlessStoppedInTurn (Err (errors.BadContent fault)) So = So
+UnlessStoppedInTurn (Err errors.OpenContent) So = So
+UnlessStoppedInTurn (Err (errors.Stream error)) So = UnlessStopped (cause_of error) So
+
+-- what a call returns over a source that reports its bytes
+pub record GoesExactly (text : List Frame → List ℕ) (m : ℕ) (bytes : List ℕ) (k l : Store) (result : Result (Unit {0}) TurnError) : Type 0 where
+  pub written : List ℕ
+  pub gains : Gains k l written
+  pub answer : UnlessStoppedInTurn result (IsExactlyInTurn text m bytes written result)
+
+-- the frames at the front of the bytes are in turn, and at their end no content is open
+pub record IsComplete (m : ℕ) (bytes : List ℕ) : Type 0 where
+  pub in_turn : AreInTurn (frames_at m bytes)
+  pub none_open : NoneIsOpen (frames_at m bytes)
+
+-- the result is Ok, or memory ran out
+abbrev pub IsOkOrNoMemory : Result (Unit {0}) TurnError → Type 0
+IsOkOrNoMemory (Ok done) = Unit {0}
+IsOkOrNoMemory (Err (errors.BadContent fault)) = ⊥
+IsOkOrNoMemory (Err errors.OpenContent) = ⊥
+IsOkOrNoMemory (Err (errors.Stream error)) = IsOutOfMemory (cause_of error)

@@ -1,0 +1,108 @@
+//! Why a stream whose frames have to be in turn was not written to its end.
+
+ghost use Rattle.std.specs.Prelude.{◌≡◌};
+ghost use Rattle.amqp_in_turn.specs.Errors.{as_turned};
+
+use amqp_stream::{RunError, StreamError};
+use amqp_turns::ContentFault;
+use std::error::Error;
+use std::fmt;
+
+/// Why a stream whose frames have to be in turn was not written to its end.
+#[derive(Clone, Copy, Debug, PartialEq, Eq)]
+pub enum TurnError {
+    /// The stream ended early.
+    Stream(StreamError),
+
+    /// The next frame is not in turn on its channel. All frames before it are written.
+    BadContent(ContentFault),
+
+    /// The input ended between two frames, inside a message.
+    OpenContent,
+}
+
+impl TurnError {
+    ghost use Rattle.std.specs.Prelude.{◌≡◌};
+    ghost use Rattle.amqp_in_turn.specs.Errors.{turn_error_name, turn_error_status};
+
+    /// The variant's name, and of a stream's error the name of that.
+    pub fn name(&self) -> &'static str
+        ensures { result.now ≡ turn_error_name self.now }
+    {
+        match self {
+            TurnError::Stream(error) => error.name(),
+            TurnError::BadContent(_) => "BadContent",
+            TurnError::OpenContent => "OpenContent",
+        }
+    }
+
+    /// The exit status of a program that ends with it.
+    pub fn status(&self) -> u8
+        ensures { result ≡ turn_error_status self.now }
+    {
+        match self {
+            TurnError::Stream(error) => error.status(),
+            TurnError::BadContent(_) => 24,
+            TurnError::OpenContent => 25,
+        }
+    }
+}
+
+impl fmt::Display for TurnError {
+    ghost use Rattle.std.specs.Prelude.{Some};
+    ghost use Rattle.amqp_in_turn.specs.Errors.{turn_error_name};
+
+    ghost output = { λ error. Some (turn_error_name error) };
+
+    fn fmt<W: fmt::Write>(&self, f: &mut fmt::Formatter<W>) -> fmt::Result {
+        f.write_str(self.name())
+    }
+}
+
+impl Error for TurnError {}
+
+/// Why a frame is refused, or the end of input.
+#[derive(Clone, Copy, Debug, PartialEq, Eq)]
+pub enum Refusal {
+    /// The frame is not in turn on its channel.
+    BadContent(ContentFault),
+
+    /// The input ends inside a message.
+    OpenContent,
+}
+
+impl From<StreamError> for TurnError {
+    ghost use Rattle.std.specs.Prelude.{◌≡◌};
+    ghost use Rattle.amqp_in_turn.specs.declared.errors.TurnError.TheVariants as errors;
+
+    ghost from_gives = { λ stream error. error ≡ errors.Stream stream };
+
+    fn from(error: StreamError) -> TurnError {
+        TurnError::Stream(error)
+    }
+}
+
+impl From<RunError<Refusal>> for TurnError {
+    ghost use Rattle.std.specs.Prelude.{◌≡◌};
+    ghost use Rattle.amqp_in_turn.specs.Errors.{turn_error};
+
+    ghost from_gives = { λ run error. error ≡ turn_error run };
+
+    fn from(error: RunError<Refusal>) -> TurnError {
+        match error {
+            RunError::Stream(error) => TurnError::Stream(error),
+            RunError::Refused(Refusal::BadContent(fault)) => TurnError::BadContent(fault),
+            RunError::Refused(Refusal::OpenContent) => TurnError::OpenContent,
+        }
+    }
+}
+
+/// What a run returns, with its error as one of these.
+pub fn as_turned(answer: Result<(), RunError<Refusal>>) -> Result<(), TurnError>
+    ensures { result ≡ as_turned answer }
+{
+    match answer {
+        Ok(()) => Ok(()),
+        Err(error) => Err(TurnError::from(error)),
+    }
+}
