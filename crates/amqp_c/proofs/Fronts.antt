@@ -7,20 +7,18 @@ use Rattle.amqp_types.specs.Answers.{RefusesWhole}
 use Rattle.amqp_types.specs.Writing.{Puts}
 use Rattle.amqp_types.specs.declared.errors.ParserError.{ParserError}
 use Rattle.amqp_types.specs.declared.errors.ParserError.TheVariants as parses
-use Rattle.amqp_types.proofs.Puts.{puts_none, puts_then, puts-length}
+use Rattle.amqp_types.proofs.Puts.{puts_none, puts_then}
 use Rattle.amqp_types.specs.declared.profile.Profile.{Profile}
 use Rattle.amqp_types.specs.declared.profile.Profile.TheVariants as profiles
-use Rattle.amqp_wire.specs.declared.frame_type.AMQPFrameType.TheVariants as kinds
 use Rattle.amqp_wire.specs.declared.judging.FrameJudgement.{FrameJudgement}
 use Rattle.amqp_wire.specs.declared.looking.FrameLayout.{FrameLayout}
 use Rattle.amqp_wire.specs.Canonical.{canon, canon_frames}
-use Rattle.amqp_wire.specs.Frames.{Frame, Proto, Raw}
+use Rattle.amqp_wire.specs.Frames.{Frame, Raw, frame_length}
 use Rattle.amqp_wire.specs.Fronts.{front, place}
 use Rattle.amqp_wire.specs.Judgements.{IsJudged}
 use Rattle.amqp_wire.specs.Looks.{laid_out}
 use Rattle.amqp_wire.specs.Outer.{outer}
-use Rattle.amqp_wire.specs.Rewrites.{Rewrites}
-use Rattle.amqp_wire.specs.Verdicts.{IsPayloadError, judged, verdict, whole, whole_as}
+use Rattle.amqp_wire.specs.Verdicts.{IsPayloadError, judged, verdict, whole}
 use Rattle.amqp_wire.proofs.Cuts.{IsStop, front-got, front-stop, front-none, place-none, verdict-got_within, verdict-whole}
 use Rattle.amqp_wire.proofs.OuterLook.{outer-in_bounds}
 use Rattle.amqp_wire.proofs.Strictness.{canon_frames-more}
@@ -29,7 +27,7 @@ use Rattle.amqp_stream.specs.declared.errors.StreamError.TheVariants as errors
 use Rattle.amqp_stream.specs.Errors.{error_for, stream_error_status, status_of}
 use Rattle.amqp_stream.specs.Reading.{Lies}
 use Rattle.amqp_stream.specs.Transcribing.{answer_at, answer_to}
-use Rattle.amqp_stream.specs.Writing.{IsFaulty, frame_length, length_around, payload_fault}
+use Rattle.amqp_stream.specs.Writing.{IsFaulty, payload_fault}
 use Rattle.amqp_stream.proofs.Going.{frame_fits}
 use Rattle.amqp_stream.proofs.Tidying.{is_untidy}
 use Rattle.amqp_stream.proofs.Writes.{is_faulty}
@@ -66,38 +64,6 @@ judged_untidy raw found j not = (not_tidy, is_untidy raw j.frame j.is (sym j.tid
 pub judged_as : (profile : Profile) (raw : Raw) (found : FrameJudgement) → IsJudged raw found → (profile ≡ profiles.Tidy → found.tidy ≡ true) → JudgesAt (level_of profile) raw (Ok found)
 judged_as profiles.Plain raw found j so = (j, refl)
 judged_as profiles.Tidy raw found j so = (j, sym j.tidy ∙ so refl)
-
--- ---- a protocol header
-
--- the payload has three bytes, which follow the mark in the canonical bytes
-version_as : (channel : ℕ) (payload : List ℕ) (frame : Frame) → whole_as kinds.ProtocolHeader channel payload ≡ Ok frame → (length payload ≡ 3) × (65 ∷ 77 ∷ 81 ∷ 80 ∷ 0 ∷ payload ≡ canon frame)
-unfolding whole_as canon
-version_as channel [] frame is = absurd cc
-version_as channel (a ∷ []) frame is = absurd cc
-version_as channel (a ∷ b ∷ []) frame is = absurd cc
-version_as channel (a ∷ b ∷ c ∷ []) frame is = let same : Proto a b c ≡ frame = cc in (refl, ap canon same)
-version_as channel (a ∷ b ∷ c ∷ d ∷ more) frame is = absurd cc
-
-pub version_is : (raw : Raw) (frame : Frame) → raw.kind ≡ kinds.ProtocolHeader → whole raw ≡ Ok frame → (length raw.payload ≡ 3) × (65 ∷ 77 ∷ 81 ∷ 80 ∷ 0 ∷ raw.payload ≡ canon frame)
-version_is raw frame kind is = version_as raw.channel raw.payload frame (sym (ap (λ k. whole_as k raw.channel raw.payload) kind) ∙ is)
-
-module _ (old mid : List ℕ) (at place : ℕ) (raw : Raw) (frame : Frame) (kind : raw.kind ≡ kinds.ProtocolHeader) (is : whole raw ≡ Ok frame) (room : at + frame_length raw ≤ length old)
-    (first : Puts old mid at (65 ∷ 77 ∷ 81 ∷ 80 ∷ 0 ∷ []) place) where
-  version_length : frame_length raw ≡ 8
-  version_length = ap (λ k. length_around k (length raw.payload)) kind
-
-  pub version_room : place + length raw.payload ≤ length mid
-  version_room =
-      let size = puts-length old mid at place (65 ∷ 77 ∷ 81 ∷ 80 ∷ 0 ∷ []) (omega (arith, room, version_length)) first in
-      omega (arith, (version_is raw frame kind is).0, first.behind, size, room, version_length)
-
-  pub version_put : (new : List ℕ) (end : ℕ) → Puts mid new place raw.payload end → Rewrites old new at (whole raw) (Ok end)
-  version_put new end second =
-      let version = version_is raw frame kind is in
-      (frame, is, subst (λ (xs : List ℕ). Puts old new at xs end) version.1 (puts_then old mid new at place end (65 ∷ 77 ∷ 81 ∷ 80 ∷ 0 ∷ []) raw.payload (omega (arith, room, version_length, version.0)) first second))
-
-  pub version_within : (new : List ℕ) (end : ℕ) → Puts mid new place raw.payload end → end ≤ at + frame_length raw
-  version_within new end second = omega (arith, (version_is raw frame kind is).0, first.behind, second.behind, version_length)
 
 -- ---- the frame in front
 

@@ -14,7 +14,7 @@ use Rattle.amqp_types.proofs.Puts.{puts-length}
 use Rattle.amqp_wire.specs.declared.judging.FrameJudgement.{FrameJudgement}
 use Rattle.amqp_wire.specs.declared.looking.FrameLayout.{FrameLayout}
 use Rattle.amqp_wire.specs.Canonical.{canon, canon_frames}
-use Rattle.amqp_wire.specs.Frames.{Frame, Raw}
+use Rattle.amqp_wire.specs.Frames.{Frame, Raw, frame_length}
 use Rattle.amqp_wire.specs.Fronts.{front, place}
 use Rattle.amqp_wire.specs.Judgements.{IsJudged}
 use Rattle.amqp_wire.specs.Looks.{laid_out}
@@ -31,7 +31,7 @@ use Rattle.amqp_stream.specs.declared.errors.StreamError.{StreamError}
 use Rattle.amqp_stream.specs.declared.errors.StreamError.TheVariants as errors
 use Rattle.amqp_stream.specs.Errors.{stream_error_status}
 use Rattle.amqp_stream.specs.Reading.{Lies}
-use Rattle.amqp_stream.specs.Writing.{frame_length, payload_fault}
+use Rattle.amqp_stream.specs.Writing.{payload_fault}
 use Rattle.amqp_stream.proofs.Going.{frame_fits}
 use Rattle.amqp_c.specs.declared.in_place.Rewrite.TheVariants as rewrites
 use Rattle.amqp_c.specs.InPlace.{IsCanonicalRun, LacksRoom, Rewrites, StopsBefore}

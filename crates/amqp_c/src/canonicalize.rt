@@ -2,19 +2,18 @@
 
 ghost use Rattle.std.specs.Prelude.{◌≡◌, ◌+◌, ◌^◌, ◌<◌, ◌≤◌, Some, None, Ok, length, IfOk};
 ghost use Rattle.amqp_types.specs.Levels.{level_of, plain, tidy};
-ghost use Rattle.amqp_wire.specs.Frames.{raw_of};
+ghost use Rattle.amqp_wire.specs.Frames.{raw_of, frame_length};
 ghost use Rattle.amqp_wire.specs.Judgements.{IsJudged};
 ghost use Rattle.amqp_wire.specs.Rewrites.{Rewrites};
 ghost use Rattle.amqp_wire.specs.Verdicts.{whole};
-ghost use Rattle.amqp_stream.specs.Writing.{frame_length};
 ghost use Rattle.amqp_c.specs.Rewriting.{CanonicalizesPart, JudgesAt, PutsFrame, PutsFront, RefusesPart, came, profile_at};
 ghost use Rattle.amqp_c.specs.Statuses.{bad_argument, buffer_too_small};
 
 use crate::next::{frame_at, scan};
 use crate::statuses::{BAD_ARGUMENT, BUFFER_TOO_SMALL};
 use amqp_stream::{StreamError, payload_error};
-use amqp_types::{Profile, put_bytes};
-use amqp_wire::{AMQPFrameType, AMQPRawFrame, EntryMark, FrameJudgement, judge_frame, put_judged};
+use amqp_types::Profile;
+use amqp_wire::{AMQPRawFrame, EntryMark, FrameJudgement, judge_frame, put_judged};
 
 /// How many entries of a table in no order are sorted without a scratch of the caller's. A table with more of them
 /// takes quadratic time then.
@@ -77,8 +76,7 @@ pub(crate) fn judge_at(
     }
 }
 
-/// Puts the canonical bytes of a borrowed frame, which is judged already, and returns the place after them. `put_judged` asks for
-/// more room than a protocol header has.
+/// Puts the canonical bytes of a borrowed frame, which is judged already, and returns the place after them.
 #[inline(always)]
 pub(crate) fn put_frame(
     out: &mut [u8],
@@ -94,18 +92,7 @@ pub(crate) fn put_frame(
     ensures within { result ≤ at + frame_length (raw_of raw.entry) }
 {
     let (frame_type, channel_id, payload) = (raw.frame_type, raw.channel_id, raw.payload);
-    match frame_type {
-        AMQPFrameType::ProtocolHeader => {
-            let version = put_bytes(out, at, b"AMQP\0");
-            put_bytes(out, version, payload)
-        }
-        AMQPFrameType::Method
-        | AMQPFrameType::Header
-        | AMQPFrameType::Body
-        | AMQPFrameType::Heartbeat => {
-            put_judged(out, at, scratch, frame_type, channel_id, payload, judged)
-        }
-    }
+    put_judged(out, at, scratch, frame_type, channel_id, payload, judged)
 }
 
 /// Puts the canonical bytes of a borrowed frame at a level, and returns the place after them.

@@ -20,9 +20,7 @@ use Rattle.amqp_types.specs.ContentHeaders.{header_slots, header_of_parts, judge
 use Rattle.amqp_types.specs.PropertyJudging.{first_item, judge_optional, judge_set, judge_properties}
 use Rattle.amqp_types.specs.PropertyBytes.{optional_bytes, set_bytes, mask_of, properties_bytes}
 use Rattle.amqp_types.specs.PropertyLaws.{gives_one, give_one}
-use Rattle.amqp_types.specs.Writing.{Puts}
 use Rattle.amqp_types.proofs.Bytes.{IsBytes-drop}
-use Rattle.amqp_types.proofs.Puts.{puts_none}
 use Rattle.amqp_types.proofs.Took.{bind_took, guard_took, value_took, count_took}
 use Rattle.amqp_laws.proofs.SlotForms.{forms_lawful, form_gives}
 use Rattle.amqp_laws.proofs.SlotLaws.{both_true}
@@ -32,7 +30,8 @@ use Rattle.amqp_laws.proofs.Options.{sets_lawful, set_gives, counted_one}
 use Rattle.amqp_laws.proofs.PropertyLaws.{one_each}
 use Rattle.amqp_canonical.specs.declared.shapes.Form.{Form}
 use Rattle.amqp_canonical.specs.Shapes.{property_of}
-use Rattle.amqp_canonical.specs.Writes.{IsRead, canonical_of}
+use Rattle.amqp_canonical.specs.Writes.{IsRead, PutsIfRoom, canonical_of}
+use Rattle.amqp_canonical.proofs.Putting.{none_put, same_put}
 use Rattle.amqp_canonical.proofs.PutSoFar.{FirstOf, PutSoFar, PutHere, so_far_none, so_far_here, so_far_end}
 use Rattle.amqp_canonical.proofs.ReadParts.{took_of, is_read}
 use Rattle.amqp_canonical.proofs.SlotParts.{map_read, map_used}
@@ -188,17 +187,17 @@ pub set_none : (mask : ℕ) (ps : List Property) (bytes buf : List ℕ) (at : �
 set_none mask = so_far_none (one_property mask) (judge_set mask) property_bytes set_bytes
 
 set_here : (mask : ℕ) (ps : List Property) (p : Property) (bytes left : List ℕ) (k n : ℕ) (old mid : List ℕ) (at end : ℕ) → drop k ps ≡ p ∷ drop (k + 1) ps → (IsRead (one_property mask p left) → n ≡ used_by (one_property mask p left))
-    → at + length (canonical_of (set_bytes ps) (judge_set mask ps bytes)) ≤ length old → SetPut mask ps bytes left k old mid at end → PutHere (one_property mask) (judge_set mask) property_bytes set_bytes ps p bytes left k n old mid at end
+    → SetPut mask ps bytes left k old mid at end → PutHere (one_property mask) (judge_set mask) property_bytes set_bytes ps p bytes left k n old mid at end
 set_here mask = so_far_here (one_property mask) (judge_set mask) property_bytes set_bytes (first_property mask)
 
-pub set_end : (mask : ℕ) (ps : List Property) (bytes left : List ℕ) (k : ℕ) (old new : List ℕ) (at end : ℕ) → length ps ≤ k → SetPut mask ps bytes left k old new at end → Puts old new at (canonical_of (set_bytes ps) (judge_set mask ps bytes)) end
+pub set_end : (mask : ℕ) (ps : List Property) (bytes left : List ℕ) (k : ℕ) (old new : List ℕ) (at end : ℕ) → length ps ≤ k → SetPut mask ps bytes left k old new at end → PutsIfRoom old new at (canonical_of (set_bytes ps) (judge_set mask ps bytes)) end
 set_end mask = so_far_end (one_property mask) (judge_set mask) property_bytes set_bytes (no_properties mask)
 
--- a property that is there, for which there is room
+-- a property that is there
 pub record PropertyHere (mask : ℕ) (ps : List Property) (form : meant.Form) (bytes left : List ℕ) (k n : ℕ) (old mid : List ℕ) (at end : ℕ) : Type 0 where
   pub read : IsRead (judge_form form left)
-  pub room : end + length (canonical_of (form_bytes form) (judge_form form left)) ≤ length mid
-  pub next : (new : List ℕ) (place : ℕ) → Puts mid new end (canonical_of (form_bytes form) (judge_form form left)) place → SetPut mask ps bytes (drop n left) (k + 1) old new at place
+  pub within : end + length (canonical_of (form_bytes form) (judge_form form left)) ≤ at + length (canonical_of (set_bytes ps) (judge_set mask ps bytes))
+  pub next : (new : List ℕ) (place : ℕ) → PutsIfRoom mid new end (canonical_of (form_bytes form) (judge_form form left)) place → SetPut mask ps bytes (drop n left) (k + 1) old new at place
 
 optional_there : (flag : Bool) (form : meant.Form) (bytes : List ℕ) → flag ≡ true → judge_optional flag form bytes ≡ judge_map first_item (judge_form form) bytes
 unfolding judge_optional
@@ -216,30 +215,29 @@ option_put form bytes one fits h =
     ap (λ j. canonical_of (optional_bytes form) (j >>= λ x. took (first_item x.0) x.1)) r.2 ∙ option_bytes form bytes r.0 r.1 one fits r.2 ∙ sym (ap (λ j. canonical_of (form_bytes form) j) r.2)
 
 pub property_here : (mask : ℕ) (ps : List Property) (p : Property) (bytes left : List ℕ) (k n : ℕ) (old mid : List ℕ) (at end : ℕ) → drop k ps ≡ p ∷ drop (k + 1) ps → gives_one p.form ≡ true → flag_at mask p.bit ≡ true
-    → (IsRead (judge_form p.form left) → n ≡ used_by (judge_form p.form left)) → at + length (canonical_of (set_bytes ps) (judge_set mask ps bytes)) ≤ length old → SetPut mask ps bytes left k old mid at end → PropertyHere mask ps p.form bytes left k n old mid at end
-property_here mask ps p bytes left k n old mid at end is one there sized room h =
+    → (IsRead (judge_form p.form left) → n ≡ used_by (judge_form p.form left)) → SetPut mask ps bytes left k old mid at end → PropertyHere mask ps p.form bytes left k n old mid at end
+property_here mask ps p bytes left k n old mid at end is one there sized h =
     let same : one_property mask p left ≡ judge_map first_item (judge_form p.form) left = optional_there (flag_at mask p.bit) p.form left there in
     let P : Judged (Option Item) → Type 0 = λ j. IsRead j → n ≡ used_by j in
     let sized_map : IsRead (judge_map first_item (judge_form p.form) left) → n ≡ used_by (judge_map first_item (judge_form p.form) left) = λ r. sized (map_read first_item (judge_form p.form left) r) ∙ sym (map_used first_item (judge_form p.form left)) in
-    let here = set_here mask ps p bytes left k n old mid at end is (subst P (sym same) sized_map) room h in
+    let here = set_here mask ps p bytes left k n old mid at end is (subst P (sym same) sized_map) h in
     let Q : Judged (Option Item) → Type 0 = λ j. IsRead j in
     let read = map_read first_item (judge_form p.form left) (subst Q same here.read) in
     let put : canonical_of (property_bytes p) (one_property mask p left) ≡ canonical_of (form_bytes p.form) (judge_form p.form left) = ap (λ j. canonical_of (property_bytes p) j) same ∙ option_put p.form left one h.fits read in
-    let R : List ℕ → List ℕ → ℕ → Type 0 = λ bs new place. Puts mid new end bs place in
     record {
       read = read;
-      room = omega (arith, ap length put, here.room);
-      next = λ new place puts. here.next new place (let S : List ℕ → Type 0 = λ bs. Puts mid new end bs place in subst S (sym put) puts);
+      within = omega (arith, ap length put, here.within);
+      next = λ new place puts. here.next new place (same_put (sym put) puts);
     }
 
 pub property_past : (mask : ℕ) (ps : List Property) (p : Property) (bytes left : List ℕ) (k : ℕ) (old mid : List ℕ) (at end : ℕ) → drop k ps ≡ p ∷ drop (k + 1) ps → flag_at mask p.bit ≡ false
-    → at + length (canonical_of (set_bytes ps) (judge_set mask ps bytes)) ≤ length old → SetPut mask ps bytes left k old mid at end → SetPut mask ps bytes left (k + 1) old mid at end
+    → SetPut mask ps bytes left k old mid at end → SetPut mask ps bytes left (k + 1) old mid at end
 unfolding optional_bytes
-property_past mask ps p bytes left k old mid at end is none room h =
+property_past mask ps p bytes left k old mid at end is none h =
     let same : one_property mask p left ≡ took None 0 = optional_none (flag_at mask p.bit) p.form left none in
-    let here = set_here mask ps p bytes left k 0 old mid at end is (λ read. sym (ap (λ j. used_by j) same)) room h in
+    let here = set_here mask ps p bytes left k 0 old mid at end is (λ read. sym (ap (λ j. used_by j) same)) h in
     let put : canonical_of (property_bytes p) (one_property mask p left) ≡ [] = ap (λ j. canonical_of (property_bytes p) j) same in
-    here.next mid end (puts_none mid end _ put)
+    here.next mid end (none_put mid end _ put)
 
 -- ---- the table of properties
 

@@ -18,7 +18,6 @@ use Rattle.amqp_types.specs.Writing.{written, Puts}
 use Rattle.amqp_types.specs.declared.tag.FieldTag.{FieldTag}
 use Rattle.amqp_types.specs.declared.tag.FieldTag.TheVariants as tag
 use Rattle.amqp_types.proofs.Numbers.{number_bytes-length}
-use Rattle.amqp_types.proofs.Puts.{puts_then, puts-length}
 use Rattle.amqp_types.proofs.Texts.{long_string_exact}
 use Rattle.amqp_laws.proofs.Filling.{nested_more}
 use Rattle.amqp_laws.proofs.Filled.{array_exact, table_exact}
@@ -28,9 +27,10 @@ use Rattle.amqp_laws.proofs.Strictly.{fits_four}
 use Rattle.amqp_canonical.specs.declared.values.Layout.{Layout}
 use Rattle.amqp_canonical.specs.declared.values.Layout.TheVariants as layout
 use Rattle.amqp_canonical.specs.Judgements.{layout_at}
-use Rattle.amqp_canonical.specs.Writes.{IsRead, IsCopied, canonical_of, IsFilled, items_of, entry_bytes, array_content, table_content, key_in, after_key}
+use Rattle.amqp_canonical.specs.Writes.{IsRead, IsCopied, PutsIfRoom, canonical_of, IsFilled, items_of, entry_bytes, array_content, table_content, key_in, after_key}
 use Rattle.amqp_canonical.specs.Marks.{AreEntries, entries_in}
 use Rattle.amqp_canonical.proofs.AfterTag.{IsTaken, counted_took, array_deep, table_deep}
+use Rattle.amqp_canonical.proofs.Putting.{same_put}
 use Rattle.amqp_canonical.proofs.ReadParts.{TagParts, took_of, is_read, entry_parts}
 use Rattle.amqp_canonical.proofs.Sizes.{fixed_taken, counted_length, is_boolean, is_array, is_table}
 use Rattle.amqp_types.specs.Tidiness.{used_by}
@@ -217,17 +217,20 @@ written_before old first second at place is room =
     ap₂ (λ a b. a ++ (first ++ b)) kept next ∙ ap (λ bs. take at old ++ bs) (sym (append_assoc first second behind)) ∙ ap (λ k. take at old ++ ((first ++ second) ++ drop k old)) sum
 
 -- what an array or a table holds was put after its length, and then the length
-pub length_put : {A : Type 0} (canonical : A → List ℕ) (j : Judged A) (read : Type 0) (content old mid new : List ℕ) (at end place size : ℕ) → Holds canonical j read content → at + length (canonical_of canonical j) ≤ length old → Puts old mid (at + 4) content end
-    → size ≡ end - at - 4 → Puts mid new at (number_bytes bytes4 size) place → Puts old new at (canonical_of canonical j) end
-length_put canonical j read content old mid new at end place size h room inner is outer =
-    let count : size ≡ length content = omega (arith, is, inner.behind) in
-    let all : length (canonical_of canonical j) ≡ 4 + length content = ap length h.bytes_are ∙ omega (arith, length-append (number_bytes bytes4 (length content)) content, number_bytes-length bytes4 (length content)) in
-    let four : at + 4 ≡ at + length (number_bytes bytes4 (length content)) = omega (arith, number_bytes-length bytes4 (length content)) in
-    let P : List ℕ → Type 0 = λ bs. Puts old new at bs end in
-    subst P (sym h.bytes_are) (record {
-      put = outer.put ∙ ap (λ n. written mid at (number_bytes bytes4 n)) count ∙ ap (λ buf. written buf at (number_bytes bytes4 (length content))) inner.put
-          ∙ written_before old (number_bytes bytes4 (length content)) content at (at + 4) four (omega (arith, room, all));
-      behind = inner.behind ∙ omega (arith, four, length-append (number_bytes bytes4 (length content)) content);
+pub length_put : {A : Type 0} (canonical : A → List ℕ) (j : Judged A) (read : Type 0) (content : List ℕ) {old mid new : List ℕ} {at end place : ℕ} → Holds canonical j read content → PutsIfRoom old mid (at + 4) content end
+    → PutsIfRoom mid new at (number_bytes bytes4 (end - at - 4)) place → PutsIfRoom old new at (canonical_of canonical j) end
+length_put canonical j read content {old} {mid} {new} {at} {end} {place} h inner outer =
+    let first = number_bytes bytes4 (length content) in
+    let count : end - at - 4 ≡ length content = omega (arith, inner.behind) in
+    let four : length first ≡ 4 = number_bytes-length bytes4 (length content) in
+    let sum = length-append first content in
+    same_put (sym h.bytes_are) (record {
+      put = λ room.
+          let before = inner.put (omega (arith, sum, four, room)) in
+          outer.put (omega (arith, inner.same, ap (λ n. length (number_bytes bytes4 n)) count, sum, room)) ∙ ap (λ n. written mid at (number_bytes bytes4 n)) count ∙ ap (λ buf. written buf at first) before
+          ∙ written_before old first content at (at + 4) (omega (arith, four)) (omega (arith, sum, four, room));
+      behind = omega (arith, inner.behind, four, sum);
+      same = outer.same ∙ inner.same;
     })
 
 -- ---- a key and its value
@@ -236,32 +239,15 @@ pub record EntryPut (room : ℕ) (bytes : List ℕ) : Type 0 where
   pub within : 1 + length (key_in bytes) ≤ length bytes
   pub read : IsRead (judge_value room (after_key bytes))
   pub bytes_are : canonical_of entry_bytes (judge_entry (judge_value room) bytes) ≡ take (1 + length (key_in bytes)) bytes ++ canonical_of tagged_bytes (judge_value room (after_key bytes))
+  pub size : length (canonical_of entry_bytes (judge_entry (judge_value room) bytes)) ≡ length (take (1 + length (key_in bytes)) bytes) + length (canonical_of tagged_bytes (judge_value room (after_key bytes)))
 
 pub entry_put : (room : ℕ) (bytes : List ℕ) → IsRead (judge_entry (judge_value room) bytes) → EntryPut room bytes
 entry_put room bytes h =
     let p = entry_parts room bytes h in
-    record {
-      within = p.within;
-      read = is_read (judge_value room (after_key bytes)) p.value p.count p.value_is;
-      bytes_are = ap (λ j. canonical_of entry_bytes j) p.is ∙ ap₂ (λ a b. a ++ b) (sym p.front) (sym (ap (λ j. canonical_of tagged_bytes j) p.value_is));
-    }
-
--- ---- what is put first, and what after it
-
--- room for the first part, and for the second after it
-pub record Fits (old : List ℕ) (at : ℕ) (first second : List ℕ) : Type 0 where
-  pub first_fits : at + length first ≤ length old
-  pub second_fits : (mid : List ℕ) (place : ℕ) → Puts old mid at first place → place + length second ≤ length mid
-  pub both : (mid new : List ℕ) (place end : ℕ) → Puts old mid at first place → Puts mid new place second end → Puts old new at (first ++ second) end
-
-pub fits_both : (old all first second : List ℕ) (at : ℕ) → all ≡ first ++ second → at + length all ≤ length old → Fits old at first second
-fits_both old all first second at is room =
-    let sum : length all ≡ length first + length second = ap length is ∙ length-append first second in
-    record {
-      first_fits = omega (arith, sum, room);
-      second_fits = λ mid place put. omega (arith, sum, room, put.behind, puts-length old mid at place first (omega (arith, sum, room)) put);
-      both = λ mid new place end one two. puts_then old mid new at place end first second (omega (arith, length-append first second, sum, room)) one two;
-    }
+    let first = take (1 + length (key_in bytes)) bytes in
+    let second = canonical_of tagged_bytes (judge_value room (after_key bytes)) in
+    let whole : canonical_of entry_bytes (judge_entry (judge_value room) bytes) ≡ first ++ second = ap (λ j. canonical_of entry_bytes j) p.is ∙ ap₂ (λ a b. a ++ b) (sym p.front) (sym (ap (λ j. canonical_of tagged_bytes j) p.value_is)) in
+    record { within = p.within; read = is_read (judge_value room (after_key bytes)) p.value p.count p.value_is; bytes_are = whole; size = ap length whole ∙ length-append first second }
 
 -- what is copied, by either layout
 pub copied_at : (nest : Option (Judge FieldValue)) (t : FieldTag) (bytes : List ℕ) (n : ℕ) (l : Layout) → IsBytes bytes → l ≡ layout_at t → ((m : ℕ) × (l ≡ layout.Fixed m)) ⊎ (l ≡ layout.Counted) → IsRead (judge_behind nest t bytes)
@@ -272,23 +258,11 @@ copied_at nest t bytes n l fits is (inr one) read used = counted_copied nest t b
 pub puts_as : (old new : List ℕ) (at end : ℕ) (bytes other : List ℕ) → bytes ≡ other → Puts old new at bytes end → Puts old new at other end
 puts_as old new at end bytes other is h = let P : List ℕ → Type 0 = λ bs. Puts old new at bs end in subst P is h
 
--- a key, and then its value
-pub entry_fits : (room : ℕ) (bytes old : List ℕ) (at : ℕ) → IsRead (judge_entry (judge_value room) bytes) → at + length (canonical_of entry_bytes (judge_entry (judge_value room) bytes)) ≤ length old
-    → Fits old at (take (1 + length (key_in bytes)) bytes) (canonical_of tagged_bytes (judge_value room (after_key bytes)))
-entry_fits room bytes old at read fits = let h = entry_put room bytes read in fits_both old (canonical_of entry_bytes (judge_entry (judge_value room) bytes)) (take (1 + length (key_in bytes)) bytes) (canonical_of tagged_bytes (judge_value room (after_key bytes))) at h.bytes_are fits
-
--- a tag, and then the value after it
-pub value_fits : (room : ℕ) (bytes old : List ℕ) (t : FieldTag) (at : ℕ) → TagParts room bytes t → at + length (canonical_of tagged_bytes (judge_value room bytes)) ≤ length old
-    → Fits old at (tag_byte t ∷ []) (canonical_of value_bytes (judge_behind (nested room) t (drop 1 bytes)))
-value_fits room bytes old t at h fits = fits_both old (canonical_of tagged_bytes (judge_value room bytes)) (tag_byte t ∷ []) (canonical_of value_bytes (judge_behind (nested room) t (drop 1 bytes))) at h.bytes_are fits
-
 -- an entry has bytes
 pub entry_some : (room : ℕ) (bytes : List ℕ) → IsRead (judge_entry (judge_value room) bytes) → 0 < length (canonical_of entry_bytes (judge_entry (judge_value room) bytes))
 entry_some room bytes read =
     let h = entry_put room bytes read in
-    let first = take (1 + length (key_in bytes)) bytes in
-    let second = canonical_of tagged_bytes (judge_value room (after_key bytes)) in
-    omega (arith, ap length h.bytes_are, length-append first second, length-take-le (1 + length (key_in bytes)) bytes h.within)
+    omega (arith, h.size, length-take-le (1 + length (key_in bytes)) bytes h.within)
 
 -- ---- what is copied with its tag
 

@@ -2,10 +2,9 @@
 use Rattle.std.proofs.Common.{◌≡◌, ◌≤◌, ℕ, ◌+◌, List, [], ◌∷◌, ◌++◌, length, drop, refl, sym, ap, subst, ◌∙◌, append_assoc, append-nil, arith}
 use Rattle.std.proofs.lemmas.List.{length-append, drop_all}
 use Rattle.amqp_types.specs.Judging.{Judge, IsBytes}
-use Rattle.amqp_types.specs.Writing.{Puts}
 use Rattle.amqp_types.proofs.Bytes.{IsBytes-drop}
-use Rattle.amqp_types.proofs.Puts.{puts_then, puts_none, puts-length}
-use Rattle.amqp_canonical.specs.Writes.{IsRead, canonical_of}
+use Rattle.amqp_canonical.specs.Writes.{IsRead, PutsIfRoom, canonical_of}
+use Rattle.amqp_canonical.proofs.Putting.{same_put, none_put, then_put}
 use Rattle.amqp_types.specs.Tidiness.{used_by}
 
 module _ {P X Y : Type 0} (one : P → Judge X) (all : List P → Judge Y) (one_bytes : P → X → List ℕ) (all_bytes : List P → Y → List ℕ) where
@@ -21,21 +20,21 @@ module _ {P X Y : Type 0} (one : P → Judge X) (all : List P → Judge Y) (one_
     pub fits : IsBytes left
     pub read : IsRead (all (drop k ps) left)
     pub parts : canonical_of (all_bytes ps) (all ps bytes) ≡ done ++ canonical_of (all_bytes (drop k ps)) (all (drop k ps) left)
-    pub put : Puts old new at done end
+    pub put : PutsIfRoom old new at done end
 
   pub so_far_none : (ps : List P) (bytes buf : List ℕ) (at : ℕ) → IsBytes bytes → IsRead (all ps bytes) → PutSoFar ps bytes bytes 0 buf buf at at
-  so_far_none ps bytes buf at fits read = record { done = []; fits = fits; read = read; parts = refl; put = puts_none buf at [] refl }
+  so_far_none ps bytes buf at fits read = record { done = []; fits = fits; read = read; parts = refl; put = none_put buf at [] refl }
 
-  -- the next one, for which there is room
+  -- the next one, which does not pass the end
   pub record PutHere (ps : List P) (p : P) (bytes left : List ℕ) (k n : ℕ) (old mid : List ℕ) (at end : ℕ) : Type 0 where
     pub read : IsRead (one p left)
-    pub room : end + length (canonical_of (one_bytes p) (one p left)) ≤ length mid
-    pub next : (new : List ℕ) (place : ℕ) → Puts mid new end (canonical_of (one_bytes p) (one p left)) place → PutSoFar ps bytes (drop n left) (k + 1) old new at place
+    pub within : end + length (canonical_of (one_bytes p) (one p left)) ≤ at + length (canonical_of (all_bytes ps) (all ps bytes))
+    pub next : (new : List ℕ) (place : ℕ) → PutsIfRoom mid new end (canonical_of (one_bytes p) (one p left)) place → PutSoFar ps bytes (drop n left) (k + 1) old new at place
 
   module _ (first_of : (p : P) (ps : List P) (bytes : List ℕ) (n : ℕ) → IsBytes bytes → IsRead (all (p ∷ ps) bytes) → (IsRead (one p bytes) → n ≡ used_by (one p bytes)) → FirstOf p ps bytes n) where
-    pub so_far_here : (ps : List P) (p : P) (bytes left : List ℕ) (k n : ℕ) (old mid : List ℕ) (at end : ℕ) → drop k ps ≡ p ∷ drop (k + 1) ps → (IsRead (one p left) → n ≡ used_by (one p left)) → at + length (canonical_of (all_bytes ps) (all ps bytes)) ≤ length old
-        → PutSoFar ps bytes left k old mid at end → PutHere ps p bytes left k n old mid at end
-    so_far_here ps p bytes left k n old mid at end is sized room h =
+    pub so_far_here : (ps : List P) (p : P) (bytes left : List ℕ) (k n : ℕ) (old mid : List ℕ) (at end : ℕ) → drop k ps ≡ p ∷ drop (k + 1) ps → (IsRead (one p left) → n ≡ used_by (one p left)) → PutSoFar ps bytes left k old mid at end
+        → PutHere ps p bytes left k n old mid at end
+    so_far_here ps p bytes left k n old mid at end is sized h =
         let others = drop (k + 1) ps in
         let Q : List P → Type 0 = λ xs. IsRead (all xs left) in
         let found = first_of p others left n h.fits (subst Q is h.read) sized in
@@ -43,23 +42,21 @@ module _ {P X Y : Type 0} (one : P → Judge X) (all : List P → Judge Y) (one_
         let rest = canonical_of (all_bytes others) (all others (drop n left)) in
         let whole : canonical_of (all_bytes ps) (all ps bytes) ≡ h.done ++ (here ++ rest) = h.parts ∙ ap (λ xs. h.done ++ canonical_of (all_bytes xs) (all xs left)) is ∙ ap (λ bs. h.done ++ bs) found.bytes_are in
         let sum : length (canonical_of (all_bytes ps) (all ps bytes)) ≡ length h.done + (length here + length rest) = ap length whole ∙ omega (arith, length-append h.done (here ++ rest), length-append here rest) in
-        let same = puts-length old mid at end h.done (omega (arith, sum, room)) h.put in
         record {
           read = found.first;
-          room = omega (arith, same, h.put.behind, sum, room);
+          within = omega (arith, h.put.behind, sum);
           next = λ new place put. record {
             done = h.done ++ here;
             fits = IsBytes-drop n left h.fits;
             read = found.others;
             parts = whole ∙ sym (append_assoc h.done here rest);
-            put = puts_then old mid new at end place h.done here (omega (arith, length-append h.done here, sum, room)) h.put put;
+            put = then_put h.put put;
           };
         }
 
   pub so_far_end : ((bytes : List ℕ) → canonical_of (all_bytes []) (all [] bytes) ≡ []) → (ps : List P) (bytes left : List ℕ) (k : ℕ) (old new : List ℕ) (at end : ℕ) → length ps ≤ k → PutSoFar ps bytes left k old new at end
-      → Puts old new at (canonical_of (all_bytes ps) (all ps bytes)) end
+      → PutsIfRoom old new at (canonical_of (all_bytes ps) (all ps bytes)) end
   so_far_end nothing ps bytes left k old new at end long h =
       let none : drop k ps ≡ [] = drop_all k ps long in
       let whole : canonical_of (all_bytes ps) (all ps bytes) ≡ h.done = h.parts ∙ ap (λ xs. h.done ++ canonical_of (all_bytes xs) (all xs left)) none ∙ ap (λ bs. h.done ++ bs) (nothing left) ∙ append-nil h.done in
-      let Q : List ℕ → Type 0 = λ bs. Puts old new at bs end in
-      subst Q (sym whole) h.put
+      same_put (sym whole) h.put

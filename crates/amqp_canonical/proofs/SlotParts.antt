@@ -17,7 +17,6 @@ use Rattle.amqp_types.specs.Slots as meant
 use Rattle.amqp_types.specs.SlotJudging.{judge_form, judge_dropped, judge_slot, judge_slots}
 use Rattle.amqp_types.specs.SlotBytes.{item_count, form_bytes, slots_bytes}
 use Rattle.amqp_types.specs.SlotSpelling.{SpellsForm}
-use Rattle.amqp_types.specs.Writing.{Puts}
 use Rattle.amqp_types.proofs.FormLaws.{flags_byte_back}
 use Rattle.amqp_types.proofs.Took.{bind_took, value_took, count_took}
 use Rattle.amqp_laws.proofs.SlotForms.{flags_of-map, forms_lawful, form_gives}
@@ -26,7 +25,7 @@ use Rattle.amqp_canonical.specs.declared.shapes.Form.TheVariants as forms
 use Rattle.amqp_canonical.specs.declared.shapes.Slot.{Slot}
 use Rattle.amqp_canonical.specs.declared.shapes.Slot.TheVariants as slots
 use Rattle.amqp_canonical.specs.Shapes.{form_of, is_constant, constant_of, slot_of, has_constant, slots_of}
-use Rattle.amqp_canonical.specs.Writes.{IsRead, canonical_of, slot_bytes, key_in}
+use Rattle.amqp_canonical.specs.Writes.{IsRead, PutsIfRoom, canonical_of, slot_bytes, key_in}
 use Rattle.amqp_canonical.proofs.Constants.{constant_put}
 use Rattle.amqp_canonical.proofs.ReadParts.{took_of, is_read, text_parts}
 use Rattle.amqp_canonical.proofs.PutSoFar.{FirstOf, PutSoFar, PutHere, so_far_none, so_far_here, so_far_end}
@@ -295,8 +294,8 @@ pub slots_none : (slots : List meant.Slot) (bytes buf : List ℕ) (at : ℕ) →
 slots_none = so_far_none judge_slot judge_slots slot_bytes slots_bytes
 
 pub slot_here : (slots : List meant.Slot) (slot : meant.Slot) (bytes left : List ℕ) (k n : ℕ) (old mid : List ℕ) (at end : ℕ) → drop k slots ≡ slot ∷ drop (k + 1) slots → (IsRead (judge_slot slot left) → n ≡ used_by (judge_slot slot left))
-    → at + length (canonical_of (slots_bytes slots) (judge_slots slots bytes)) ≤ length old → SlotsPut slots bytes left k old mid at end → PutHere judge_slot judge_slots slot_bytes slots_bytes slots slot bytes left k n old mid at end
+    → SlotsPut slots bytes left k old mid at end → PutHere judge_slot judge_slots slot_bytes slots_bytes slots slot bytes left k n old mid at end
 slot_here = so_far_here judge_slot judge_slots slot_bytes slots_bytes first_slot
 
-pub slots_end : (slots : List meant.Slot) (bytes left : List ℕ) (k : ℕ) (old new : List ℕ) (at end : ℕ) → length slots ≤ k → SlotsPut slots bytes left k old new at end → Puts old new at (canonical_of (slots_bytes slots) (judge_slots slots bytes)) end
+pub slots_end : (slots : List meant.Slot) (bytes left : List ℕ) (k : ℕ) (old new : List ℕ) (at end : ℕ) → length slots ≤ k → SlotsPut slots bytes left k old new at end → PutsIfRoom old new at (canonical_of (slots_bytes slots) (judge_slots slots bytes)) end
 slots_end = so_far_end judge_slot judge_slots slot_bytes slots_bytes no_slots

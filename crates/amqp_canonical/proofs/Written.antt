@@ -7,13 +7,12 @@ use Rattle.amqp_types.specs.Settling.{settled}
 use Rattle.amqp_types.specs.Values.{FieldValue, Entry}
 use Rattle.amqp_types.specs.ValueBytes.{tagged_bytes}
 use Rattle.amqp_types.specs.ValueJudging.{filled, judge_value}
-use Rattle.amqp_types.specs.Writing.{Puts}
 use Rattle.amqp_types.proofs.Bytes.{IsBytes-drop}
-use Rattle.amqp_canonical.specs.Writes.{IsRead, IsFilled, items_of, canonical_of, array_content, table_content, entry_bytes}
+use Rattle.amqp_canonical.specs.Writes.{IsRead, IsFilled, PutsIfRoom, items_of, canonical_of, array_content, table_content, entry_bytes}
 use Rattle.amqp_canonical.specs.Marks.{entry_at, judged_entry, entries_in, AreRead, marked_entry, last_of_ties, ties, blank, FindsNext}
 use Rattle.amqp_canonical.specs.declared.marks.EntryMark.{EntryMark}
 use Rattle.amqp_canonical.proofs.NextKey.{IsLeft, left_none, next_left, none_left, view}
-use Rattle.amqp_canonical.proofs.Putting.{PutTo, IsEach, put_none, put_room, put_within, put_next, put_end}
+use Rattle.amqp_canonical.proofs.Putting.{PutTo, IsEach, same_put, put_none, put_within, put_next, put_end}
 use Rattle.amqp_canonical.proofs.ReadParts.{is_read, took_of, first_value, none_filled}
 use Rattle.amqp_types.specs.Tidiness.{used_by}
 
@@ -37,17 +36,17 @@ pub record ValuesPut (room : ℕ) (content : List ℕ) (start : ℕ) (old new : 
 pub values_none : (room : ℕ) (content buf : List ℕ) (at : ℕ) → IsFilled (filled (judge_value room) 0 content) → ValuesPut room content 0 buf buf at at
 values_none room content buf at h = record { done = []; left = h; put = put_none array_content tagged_bytes each_value (values_from room content 0) buf at }
 
--- the value at a place, for which there is room
+-- the value at a place, which does not pass the end
 pub record ValueHere (room : ℕ) (content : List ℕ) (start size : ℕ) (old mid : List ℕ) (at end : ℕ) : Type 0 where
   pub read : IsRead (judge_value room (drop start content))
-  pub fits : end + length (canonical_of tagged_bytes (judge_value room (drop start content))) ≤ length mid
+  pub fits : end + length (canonical_of tagged_bytes (judge_value room (drop start content))) ≤ at + length (array_content (values_from room content 0))
   pub some : 0 < size
   pub within : start + size ≤ length content
-  pub next : (new : List ℕ) (place : ℕ) → Puts mid new end (canonical_of tagged_bytes (judge_value room (drop start content))) place → ValuesPut room content (start + size) old new at place
+  pub next : (new : List ℕ) (place : ℕ) → PutsIfRoom mid new end (canonical_of tagged_bytes (judge_value room (drop start content))) place → ValuesPut room content (start + size) old new at place
 
 pub value_here : (room : ℕ) (content : List ℕ) (start size : ℕ) (old mid : List ℕ) (at end : ℕ) → IsBytes content → start < length content → (IsRead (judge_value room (drop start content)) → size ≡ used_by (judge_value room (drop start content)))
-    → at + length (array_content (values_from room content 0)) ≤ length old → ValuesPut room content start old mid at end → ValueHere room content start size old mid at end
-value_here room content start size old mid at end bytes more sized fits h =
+    → ValuesPut room content start old mid at end → ValueHere room content start size old mid at end
+value_here room content start size old mid at end bytes more sized h =
     let one = first_value room (drop start content) (IsBytes-drop start content bytes) (omega (arith, length-drop start content)) h.left in
     let read = is_read (judge_value room (drop start content)) one.thing one.size one.is in
     let count : one.size ≡ size = sym (sized read ∙ ap (λ j. used_by j) one.is) in
@@ -60,22 +59,21 @@ value_here room content start size old mid at end bytes more sized fits h =
     let first = subst Q (one.all ∙ ap (λ bs. one.thing ∷ items_of (filled (judge_value room) 0 bs)) place) h.put in
     record {
       read = read;
-      fits = omega (arith, ap length value, put_room array_content tagged_bytes each_value all h.done rest one.thing old mid at end fits first);
+      fits = omega (arith, ap length value, put_within array_content tagged_bytes each_value all h.done rest one.thing old mid at end first);
       some = omega (arith, one.some, count);
       within = omega (arith, one.within, count, length-drop start content);
       next = λ new place_after put.
-          let R : List ℕ → Type 0 = λ bs. Puts mid new end bs place_after in
-          record { done = h.done ++ one.thing ∷ []; left = subst P place one.left; put = put_next array_content tagged_bytes each_value all h.done rest one.thing old mid at end fits first new place_after (subst R value put) };
+          record { done = h.done ++ one.thing ∷ []; left = subst P place one.left; put = put_next array_content tagged_bytes each_value all h.done rest one.thing old mid at end first new place_after (same_put value put) };
     }
 
 -- the same before its size is known
-pub value_fits_here : (room : ℕ) (content : List ℕ) (start : ℕ) (old mid : List ℕ) (at end : ℕ) → IsBytes content → start < length content → at + length (array_content (values_from room content 0)) ≤ length old → ValuesPut room content start old mid at end
-    → IsRead (judge_value room (drop start content)) × (end + length (canonical_of tagged_bytes (judge_value room (drop start content))) ≤ length mid)
-value_fits_here room content start old mid at end bytes more fits h =
-    let here = value_here room content start (used_by (judge_value room (drop start content))) old mid at end bytes more (λ read. refl) fits h in
+pub value_fits_here : (room : ℕ) (content : List ℕ) (start : ℕ) (old mid : List ℕ) (at end : ℕ) → IsBytes content → start < length content → ValuesPut room content start old mid at end
+    → IsRead (judge_value room (drop start content)) × (end + length (canonical_of tagged_bytes (judge_value room (drop start content))) ≤ at + length (array_content (values_from room content 0)))
+value_fits_here room content start old mid at end bytes more h =
+    let here = value_here room content start (used_by (judge_value room (drop start content))) old mid at end bytes more (λ read. refl) h in
     (here.read, here.fits)
 
-pub values_end : (room : ℕ) (content : List ℕ) (start : ℕ) (old new : List ℕ) (at end : ℕ) → length content ≤ start → ValuesPut room content start old new at end → Puts old new at (array_content (values_from room content 0)) end
+pub values_end : (room : ℕ) (content : List ℕ) (start : ℕ) (old new : List ℕ) (at end : ℕ) → length content ≤ start → ValuesPut room content start old new at end → PutsIfRoom old new at (array_content (values_from room content 0)) end
 values_end room content start old new at end long h =
     let Q : List FieldValue → Type 0 = λ vs. PutTo array_content (values_from room content 0) h.done vs old new at end in
     put_end array_content tagged_bytes each_value (values_from room content 0) h.done old new at end (subst Q (none_filled (judge_value room) content start long) h.put)
@@ -109,10 +107,10 @@ entries_tied room content marks k old new at end more is h =
     let Q : List Entry → Type 0 = λ es. PutTo table_content (kept_from room content marks 0) h.done es old new at end in
     record { done = h.done; put = subst Q (kept_here room content marks k true more is) h.put }
 
--- an entry, for which there is room
-pub record EntryFits (judged_bytes : List ℕ) (mid : List ℕ) (end : ℕ) (Next : List ℕ → ℕ → Type 0) : Type 0 where
-  pub fits : end + length judged_bytes ≤ length mid
-  pub next : (new : List ℕ) (place : ℕ) → Puts mid new end judged_bytes place → Next new place
+-- an entry, which does not pass the end
+pub record EntryFits (judged_bytes : List ℕ) (mid : List ℕ) (end last : ℕ) (Next : List ℕ → ℕ → Type 0) : Type 0 where
+  pub fits : end + length judged_bytes ≤ last
+  pub next : (new : List ℕ) (place : ℕ) → PutsIfRoom mid new end judged_bytes place → Next new place
 
 -- the bytes of an entry that was read
 bytes_here : (room : ℕ) (content : List ℕ) (place : ℕ) → IsRead (entry_at room content place) → canonical_of entry_bytes (entry_at room content place) ≡ entry_bytes (judged_entry (entry_at room content place))
@@ -121,9 +119,9 @@ bytes_here room content place read =
     ap (λ j. canonical_of entry_bytes j) one.2 ∙ sym (ap (λ j. entry_bytes (judged_entry j)) one.2)
 
 pub entry_kept : (room : ℕ) (content : List ℕ) (marks : List EntryMark) (k : ℕ) (old mid : List ℕ) (at end : ℕ) → AreRead room content marks → k < length marks → false ≡ ties (marked_entry room content (get_or marks k blank)) (map (marked_entry room content) (drop (k + 1) marks))
-    → at + length (table_content (kept_from room content marks 0)) ≤ length old → EntriesPut room content marks k old mid at end
-    → EntryFits (canonical_of entry_bytes (entry_at room content (get_or marks k blank).place)) mid end (λ new place. EntriesPut room content marks (k + 1) old new at place)
-entry_kept room content marks k old mid at end read more is fits h =
+    → EntriesPut room content marks k old mid at end
+    → EntryFits (canonical_of entry_bytes (entry_at room content (get_or marks k blank).place)) mid end (at + length (table_content (kept_from room content marks 0))) (λ new place. EntriesPut room content marks (k + 1) old new at place)
+entry_kept room content marks k old mid at end read more is h =
     let e = marked_entry room content (get_or marks k blank) in
     let all = kept_from room content marks 0 in
     let rest = kept_from room content marks (k + 1) in
@@ -131,13 +129,12 @@ entry_kept room content marks k old mid at end read more is fits h =
     let first = subst Q (kept_here room content marks k false more is) h.put in
     let same = bytes_here room content (get_or marks k blank).place (read k blank more) in
     record {
-      fits = omega (arith, ap length same, put_room table_content entry_bytes each_entry all h.done rest e old mid at end fits first);
+      fits = omega (arith, ap length same, put_within table_content entry_bytes each_entry all h.done rest e old mid at end first);
       next = λ new place put.
-          let R : List ℕ → Type 0 = λ bs. Puts mid new end bs place in
-          record { done = h.done ++ e ∷ []; put = put_next table_content entry_bytes each_entry all h.done rest e old mid at end fits first new place (subst R same put) };
+          record { done = h.done ++ e ∷ []; put = put_next table_content entry_bytes each_entry all h.done rest e old mid at end first new place (same_put same put) };
     }
 
-pub entries_end : (room : ℕ) (content : List ℕ) (marks : List EntryMark) (k : ℕ) (old new : List ℕ) (at end : ℕ) → length marks ≤ k → EntriesPut room content marks k old new at end → Puts old new at (table_content (kept_from room content marks 0)) end
+pub entries_end : (room : ℕ) (content : List ℕ) (marks : List EntryMark) (k : ℕ) (old new : List ℕ) (at end : ℕ) → length marks ≤ k → EntriesPut room content marks k old new at end → PutsIfRoom old new at (table_content (kept_from room content marks 0)) end
 entries_end room content marks k old new at end long h =
     let all = kept_from room content marks 0 in
     let Q : List Entry → Type 0 = λ es. PutTo table_content all h.done es old new at end in
@@ -151,7 +148,7 @@ pub record SelectedPut (room : ℕ) (content : List ℕ) (next : Option (ℕ × 
   pub left : List Entry
   pub stands : IsLeft (entries_in room content) last done left
   pub finds : FindsNext view room content last (entries_in room content) next
-  pub put : Puts old new at (table_content done) end
+  pub put : PutsIfRoom old new at (table_content done) end
 
 pub selected_none : (room : ℕ) (content : List ℕ) (next : Option (ℕ × Bor (List ℕ))) (buf : List ℕ) (at : ℕ) → FindsNext view room content None (entries_in room content) next → SelectedPut room content next buf buf at at
 selected_none room content next buf at h =
@@ -159,15 +156,13 @@ selected_none room content next buf at h =
     let none = put_none table_content entry_bytes each_entry all buf at in
     record { last = None; done = []; left = all; stands = left_none (entries_in room content); finds = h; put = none.put }
 
--- the selected entry, for which there is room
+-- the selected entry, which does not pass the end
 pub record SelectedHere (room : ℕ) (content : List ℕ) (found : ℕ × Bor (List ℕ)) (old mid : List ℕ) (at end : ℕ) : Type 0 where
   pub read : IsRead (entry_at room content found.0)
-  pub within : end + length (canonical_of entry_bytes (entry_at room content found.0)) ≤ at + length (table_content (settled (entries_in room content)))
-  pub fits : EntryFits (canonical_of entry_bytes (entry_at room content found.0)) mid end (λ new place. (next : Option (ℕ × Bor (List ℕ))) → FindsNext view room content (Some found.1.now) (entries_in room content) next → SelectedPut room content next old new at place)
+  pub fits : EntryFits (canonical_of entry_bytes (entry_at room content found.0)) mid end (at + length (table_content (settled (entries_in room content)))) (λ new place. (next : Option (ℕ × Bor (List ℕ))) → FindsNext view room content (Some found.1.now) (entries_in room content) next → SelectedPut room content next old new at place)
 
-pub selected_here : (room : ℕ) (content : List ℕ) (found : ℕ × Bor (List ℕ)) (old mid : List ℕ) (at end : ℕ) → at + length (table_content (settled (entries_in room content))) ≤ length old → SelectedPut room content (Some found) old mid at end
-    → SelectedHere room content found old mid at end
-selected_here room content found old mid at end fits h =
+pub selected_here : (room : ℕ) (content : List ℕ) (found : ℕ × Bor (List ℕ)) (old mid : List ℕ) (at end : ℕ) → SelectedPut room content (Some found) old mid at end → SelectedHere room content found old mid at end
+selected_here room content found old mid at end h =
     let es = entries_in room content in
     let all = settled es in
     let judged = entry_at room content found.0 in
@@ -180,17 +175,15 @@ selected_here room content found old mid at end fits h =
     let x : Entry = (found.1.now, e.1) in
     record {
       read = h.finds.read;
-      within = omega (arith, ap length same, put_within table_content entry_bytes each_entry all h.done step.rest x old mid at end fits before);
       fits = record {
-        fits = omega (arith, ap length same, put_room table_content entry_bytes each_entry all h.done step.rest x old mid at end fits before);
+        fits = omega (arith, ap length same, put_within table_content entry_bytes each_entry all h.done step.rest x old mid at end before);
         next = λ new place put next finds.
-            let R : List ℕ → Type 0 = λ bs. Puts mid new end bs place in
-            let after = put_next table_content entry_bytes each_entry all h.done step.rest x old mid at end fits before new place (subst R same put) in
+            let after = put_next table_content entry_bytes each_entry all h.done step.rest x old mid at end before new place (same_put same put) in
             record { last = Some found.1.now; done = h.done ++ x ∷ []; left = step.rest; stands = step.left_is; finds = finds; put = after.put };
       };
     }
 
-pub selected_end : (room : ℕ) (content : List ℕ) (old new : List ℕ) (at end : ℕ) → SelectedPut room content None old new at end → Puts old new at (table_content (settled (entries_in room content))) end
+pub selected_end : (room : ℕ) (content : List ℕ) (old new : List ℕ) (at end : ℕ) → SelectedPut room content None old new at end → PutsIfRoom old new at (table_content (settled (entries_in room content))) end
 selected_end room content old new at end h =
     let es = entries_in room content in
     let none = none_left es h.last h.done h.left h.stands h.finds in

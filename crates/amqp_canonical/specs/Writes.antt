@@ -1,11 +1,12 @@
 -- What is written in place of bytes that were decoded.
-use Rattle.std.specs.Prelude.{◌≡◌, ◌≤◌, ℕ, List, [], ◌∷◌, ◌++◌, length, take, drop, Result, Ok, Err}
+use Rattle.std.specs.Prelude.{◌≡◌, ◌≤◌, ◌<◌, ℕ, ◌+◌, ◌^◌, Bool, true, List, [], ◌∷◌, ◌++◌, length, take, drop, Result, Ok, Err}
 use Rattle.amqp_types.specs.Judging.{Judged, Fault, took, past, fault}
 use Rattle.amqp_types.specs.Strings.{short_string_bytes}
 use Rattle.amqp_types.specs.Slots.{Item, Slot, kept_slot, reserved_slot}
 use Rattle.amqp_types.specs.SlotBytes.{form_bytes}
 use Rattle.amqp_types.specs.Values.{FieldValue, Entry, values_of, entries_of}
 use Rattle.amqp_types.specs.ValueBytes.{values_bytes, entries_bytes, tagged_bytes}
+use Rattle.amqp_types.specs.Writing.{written}
 
 -- something was taken
 abbrev pub IsRead : {A : Type 0} → Judged A → Type 0
@@ -23,6 +24,17 @@ canonical_of canonical (fault bad) = []
 pub record IsCopied {A : Type 0} (canonical : A → List ℕ) (bytes : List ℕ) (n : ℕ) (j : Judged A) : Type 0 where
   pub within : n ≤ length bytes
   pub bytes_are : take n bytes ≡ canonical_of canonical j
+
+-- places up to an end can be counted, and there is room for them where that is sure
+pub record HasRoom (sure : Bool) (end length : ℕ) : Type 0 where
+  pub few : end < 2 ^ 64
+  pub room : sure ≡ true → end ≤ length
+
+-- A put call puts the bytes at a place where there is room for them, and returns the place after them in any case.
+pub record PutsIfRoom (old new : List ℕ) (at : ℕ) (bytes : List ℕ) (result : ℕ) : Type 0 where
+  pub put : at + length bytes ≤ length old → new ≡ written old at bytes
+  pub behind : result ≡ at + length bytes
+  pub same : length new ≡ length old
 
 -- the bytes are items, one after another
 abbrev pub IsFilled : {A : Type 0} → Result (List A) Fault → Type 0

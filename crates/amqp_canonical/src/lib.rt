@@ -10,6 +10,7 @@ mod marks;
 mod payload_parts;
 mod payload_writing;
 mod payloads;
+mod rooms;
 mod selection;
 mod shapes;
 mod slot_writing;
@@ -32,6 +33,7 @@ pub use payload_writing::{
     put_content_header, put_header, put_method, put_payload, put_properties,
 };
 pub use payloads::judge_payload;
+pub use rooms::{Room, Sure, Tested, put_if_room};
 pub use selection::next_entry;
 pub use shapes::{Form, Slot, header_shapes, property_shapes, shapes_of};
 pub use slot_writing::{form_size, put_slots, slot_size};

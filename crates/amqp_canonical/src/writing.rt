@@ -1,23 +1,23 @@
 //! Writing the canonical bytes of values, arrays and tables that were decoded, without memory.
 
-ghost use Rattle.std.specs.Prelude.{◌≤◌, ◌<◌, ◌+◌, length, map, All};
+ghost use Rattle.std.specs.Prelude.{◌<◌, ◌+◌, ◌^◌, length, map, All};
 ghost use Rattle.amqp_types.specs.Settling.{settled};
 ghost use Rattle.amqp_types.specs.ValueBytes.{array_bytes, table_bytes, tagged_bytes, value_bytes};
 ghost use Rattle.amqp_types.specs.ValueJudging.{filled, nested, judge_array, judge_behind, judge_entry, judge_table, judge_value};
-ghost use Rattle.amqp_types.specs.Writing.{Puts};
-ghost use Rattle.amqp_canonical.specs.Writes.{IsRead, IsFilled, array_content, canonical_of, entry_bytes, items_of, table_content};
+ghost use Rattle.amqp_canonical.specs.Writes.{IsRead, IsFilled, HasRoom, PutsIfRoom, array_content, canonical_of, entry_bytes, items_of, table_content};
 ghost use Rattle.amqp_canonical.specs.Marks.{AreEntries, IsMarkOf, entries_in, entry_at, last_of_ties, marked_entry};
 
 use crate::marks::{EntryMark, is_tied, mark_in_order};
+use crate::rooms::{Room, put_if_room, truth_byte};
 use crate::selection::next_entry;
 use crate::spans::{bytes_from, content_of, size_in, split_key, value_size};
 use crate::values::{Layout, layout_of};
-use amqp_types::{FieldTag, put_boolean, put_bytes, put_long_uint};
+use amqp_types::FieldTag;
 
 /// Puts the canonical bytes of a value at a place of a slice, and returns the place after them. Tables and arrays may
 /// nest `depth_left` deep in it. Its tag stands in front of it, in the bytes that were decoded and in those that are put.
 #[cycle(write)]
-pub fn put_value(
+pub fn put_value<R: Room>(
     buf: &mut [u8],
     at: usize,
     scratch: &mut [EntryMark],
@@ -25,15 +25,15 @@ pub fn put_value(
     depth_left: usize,
 ) -> usize
     requires read { IsRead (judge_value depth_left i.now) }
-    requires room { at + length (canonical_of tagged_bytes (judge_value depth_left i.now)) ≤ length buf.old }
-    ensures { Puts buf.old buf.new at (canonical_of tagged_bytes (judge_value depth_left i.now)) result }
+    requires room { HasRoom R.sure (at + length (canonical_of tagged_bytes (judge_value depth_left i.now))) (length buf.old) }
+    ensures { PutsIfRoom buf.old buf.new at (canonical_of tagged_bytes (judge_value depth_left i.now)) result }
 {
     match i {
         [] => at,
         [byte, rest @ ..] => match FieldTag::from_byte(*byte) {
             Some(tag) => {
-                let place = put_bytes(buf, at, &[tag.to_byte()]);
-                put_after_tag(buf, place, scratch, tag, rest, depth_left)
+                let place = put_if_room::<R>(buf, at, &[tag.to_byte()]);
+                put_after_tag::<R>(buf, place, scratch, tag, rest, depth_left)
             }
             None => at,
         },
@@ -41,8 +41,9 @@ pub fn put_value(
 }
 
 /// Puts the canonical bytes of the value after a tag.
+#[inline(always)]
 #[cycle(write)]
-fn put_after_tag(
+fn put_after_tag<R: Room>(
     buf: &mut [u8],
     at: usize,
     scratch: &mut [EntryMark],
@@ -51,25 +52,25 @@ fn put_after_tag(
     depth_left: usize,
 ) -> usize
     requires read { IsRead (judge_behind (nested depth_left) tag i.now) }
-    requires room { at + length (canonical_of value_bytes (judge_behind (nested depth_left) tag i.now)) ≤ length buf.old }
-    ensures { Puts buf.old buf.new at (canonical_of value_bytes (judge_behind (nested depth_left) tag i.now)) result }
+    requires room { HasRoom R.sure (at + length (canonical_of value_bytes (judge_behind (nested depth_left) tag i.now))) (length buf.old) }
+    ensures { PutsIfRoom buf.old buf.new at (canonical_of value_bytes (judge_behind (nested depth_left) tag i.now)) result }
 {
     match layout_of(tag) {
-        layout @ (Layout::Fixed(_) | Layout::Counted) => put_bytes(
+        layout @ (Layout::Fixed(_) | Layout::Counted) => put_if_room::<R>(
             buf,
             at,
             &i[..size_in(layout, i)],
         ),
-        Layout::OneBoolean => put_boolean(buf, at, &(i[0] != 0)),
-        Layout::Values => put_array(buf, at, scratch, i, depth_left - 1),
-        Layout::Entries => put_table(buf, at, scratch, i, depth_left - 1),
+        Layout::OneBoolean => put_if_room::<R>(buf, at, &[truth_byte(i[0])]),
+        Layout::Values => put_array::<R>(buf, at, scratch, i, depth_left - 1),
+        Layout::Entries => put_table::<R>(buf, at, scratch, i, depth_left - 1),
     }
 }
 
 /// Puts the canonical bytes of an array at a place of a slice, and returns the place after them. Tables and arrays may
 /// nest `depth_left` deep in its values.
 #[cycle(write)]
-pub fn put_array(
+pub fn put_array<R: Room>(
     buf: &mut [u8],
     at: usize,
     scratch: &mut [EntryMark],
@@ -77,18 +78,18 @@ pub fn put_array(
     depth_left: usize,
 ) -> usize
     requires read { IsRead (judge_array (judge_value depth_left) i.now) }
-    requires room { at + length (canonical_of array_bytes (judge_array (judge_value depth_left) i.now)) ≤ length buf.old }
-    ensures { Puts buf.old buf.new at (canonical_of array_bytes (judge_array (judge_value depth_left) i.now)) result }
+    requires room { HasRoom R.sure (at + length (canonical_of array_bytes (judge_array (judge_value depth_left) i.now))) (length buf.old) }
+    ensures { PutsIfRoom buf.old buf.new at (canonical_of array_bytes (judge_array (judge_value depth_left) i.now)) result }
 {
-    let end = put_values(buf, at + 4, scratch, content_of(i), depth_left);
-    put_long_uint(buf, at, &((end - at - 4) as u32));
+    let end = put_values::<R>(buf, at + 4, scratch, content_of(i), depth_left);
+    put_if_room::<R>(buf, at, &((end - at - 4) as u32).to_be_bytes());
     end
 }
 
 /// Puts the canonical bytes of a table at a place of a slice, and returns the place after them. Tables and arrays may
 /// nest `depth_left` deep in its values.
 #[cycle(write)]
-pub fn put_table(
+pub fn put_table<R: Room>(
     buf: &mut [u8],
     at: usize,
     scratch: &mut [EntryMark],
@@ -96,17 +97,17 @@ pub fn put_table(
     depth_left: usize,
 ) -> usize
     requires read { IsRead (judge_table (judge_value depth_left) i.now) }
-    requires room { at + length (canonical_of table_bytes (judge_table (judge_value depth_left) i.now)) ≤ length buf.old }
-    ensures { Puts buf.old buf.new at (canonical_of table_bytes (judge_table (judge_value depth_left) i.now)) result }
+    requires room { HasRoom R.sure (at + length (canonical_of table_bytes (judge_table (judge_value depth_left) i.now))) (length buf.old) }
+    ensures { PutsIfRoom buf.old buf.new at (canonical_of table_bytes (judge_table (judge_value depth_left) i.now)) result }
 {
-    let end = put_entries(buf, at + 4, scratch, content_of(i), depth_left);
-    put_long_uint(buf, at, &((end - at - 4) as u32));
+    let end = put_entries::<R>(buf, at + 4, scratch, content_of(i), depth_left);
+    put_if_room::<R>(buf, at, &((end - at - 4) as u32).to_be_bytes());
     end
 }
 
 /// Puts the canonical bytes of the values that fill an array.
 #[cycle(write)]
-fn put_values(
+fn put_values<R: Room>(
     buf: &mut [u8],
     at: usize,
     scratch: &mut [EntryMark],
@@ -114,14 +115,14 @@ fn put_values(
     depth_left: usize,
 ) -> usize
     requires read { IsFilled (filled (judge_value depth_left) 0 content.now) }
-    requires room { at + length (array_content (items_of (filled (judge_value depth_left) 0 content.now))) ≤ length buf.old }
-    ensures { Puts buf.old buf.new at (array_content (items_of (filled (judge_value depth_left) 0 content.now))) result }
+    requires room { HasRoom R.sure (at + length (array_content (items_of (filled (judge_value depth_left) 0 content.now)))) (length buf.old) }
+    ensures { PutsIfRoom buf.old buf.new at (array_content (items_of (filled (judge_value depth_left) 0 content.now))) result }
 {
     let mut end = at;
     let mut start = 0;
     while start < content.len() {
         let item = &content[start..];
-        end = put_value(buf, end, scratch, item, depth_left);
+        end = put_value::<R>(buf, end, scratch, item, depth_left);
         start += value_size(item);
     }
     end
@@ -129,7 +130,7 @@ fn put_values(
 
 /// Puts the canonical bytes of the entries that fill a table.
 #[cycle(write)]
-fn put_entries(
+fn put_entries<R: Room>(
     buf: &mut [u8],
     at: usize,
     scratch: &mut [EntryMark],
@@ -137,21 +138,21 @@ fn put_entries(
     depth_left: usize,
 ) -> usize
     requires read { AreEntries depth_left content.now }
-    requires room { at + length (table_content (settled (entries_in depth_left content.now))) ≤ length buf.old }
-    ensures { Puts buf.old buf.new at (table_content (settled (entries_in depth_left content.now))) result }
+    requires room { HasRoom R.sure (at + length (table_content (settled (entries_in depth_left content.now)))) (length buf.old) }
+    ensures { PutsIfRoom buf.old buf.new at (table_content (settled (entries_in depth_left content.now))) result }
 {
     match mark_in_order(scratch, content) {
         Some(count) => {
             let (marks, rest) = scratch.split_at_mut(count);
-            put_marked(buf, at, rest, content, marks, depth_left)
+            put_marked::<R>(buf, at, rest, content, marks, depth_left)
         }
-        None => put_selected(buf, at, scratch, content, depth_left),
+        None => put_selected::<R>(buf, at, scratch, content, depth_left),
     }
 }
 
 /// Puts the canonical bytes of marked entries. Of duplicate keys, which are neighbours here, the last one wins.
 #[cycle(write)]
-fn put_marked(
+fn put_marked<R: Room>(
     buf: &mut [u8],
     at: usize,
     scratch: &mut [EntryMark],
@@ -161,14 +162,14 @@ fn put_marked(
 ) -> usize
     requires read { All (λ mark. IsRead (entry_at depth_left content.now mark.place)) marks.now }
     requires each { All (IsMarkOf content.now) marks.now }
-    requires room { at + length (table_content (last_of_ties (map (marked_entry depth_left content.now) marks.now))) ≤ length buf.old }
-    ensures { Puts buf.old buf.new at (table_content (last_of_ties (map (marked_entry depth_left content.now) marks.now))) result }
+    requires room { HasRoom R.sure (at + length (table_content (last_of_ties (map (marked_entry depth_left content.now) marks.now)))) (length buf.old) }
+    ensures { PutsIfRoom buf.old buf.new at (table_content (last_of_ties (map (marked_entry depth_left content.now) marks.now))) result }
 {
     let mut end = at;
     let mut k = 0;
     while k < marks.len() {
         if !is_tied(marks, content, k) {
-            end = put_mark(buf, end, scratch, content, &marks[k], depth_left);
+            end = put_mark::<R>(buf, end, scratch, content, &marks[k], depth_left);
         }
         k += 1;
     }
@@ -178,7 +179,7 @@ fn put_marked(
 /// Puts the canonical bytes of a marked entry. Most entries are canonical, and are copied in one piece.
 #[inline(always)]
 #[cycle(write)]
-fn put_mark(
+fn put_mark<R: Room>(
     buf: &mut [u8],
     at: usize,
     scratch: &mut [EntryMark],
@@ -188,21 +189,21 @@ fn put_mark(
 ) -> usize
     requires read { IsRead (entry_at depth_left content.now mark.now.place) }
     requires is { IsMarkOf content.now mark.now }
-    requires room { at + length (canonical_of entry_bytes (entry_at depth_left content.now mark.now.place)) ≤ length buf.old }
-    ensures { Puts buf.old buf.new at (canonical_of entry_bytes (entry_at depth_left content.now mark.now.place)) result }
+    requires room { HasRoom R.sure (at + length (canonical_of entry_bytes (entry_at depth_left content.now mark.now.place))) (length buf.old) }
+    ensures { PutsIfRoom buf.old buf.new at (canonical_of entry_bytes (entry_at depth_left content.now mark.now.place)) result }
 {
     let place = mark.place as usize;
     let size = mark.size as usize;
     if size != 0 {
-        return put_bytes(buf, at, &content[place..place + size]);
+        return put_if_room::<R>(buf, at, &content[place..place + size]);
     }
-    put_entry(buf, at, scratch, bytes_from(content, place), depth_left)
+    put_entry::<R>(buf, at, scratch, bytes_from(content, place), depth_left)
 }
 
 /// Puts the canonical bytes of the entries that fill a table, each found by its key. This takes quadratic time, and no
 /// marks but those of tables inside.
 #[cycle(write)]
-fn put_selected(
+fn put_selected<R: Room>(
     buf: &mut [u8],
     at: usize,
     scratch: &mut [EntryMark],
@@ -210,21 +211,22 @@ fn put_selected(
     depth_left: usize,
 ) -> usize
     requires read { AreEntries depth_left content.now }
-    requires room { at + length (table_content (settled (entries_in depth_left content.now))) ≤ length buf.old }
-    ensures { Puts buf.old buf.new at (table_content (settled (entries_in depth_left content.now))) result }
+    requires room { HasRoom R.sure (at + length (table_content (settled (entries_in depth_left content.now)))) (length buf.old) }
+    ensures { PutsIfRoom buf.old buf.new at (table_content (settled (entries_in depth_left content.now))) result }
 {
     let mut end = at;
     let mut next = next_entry(content, None);
     while let Some((place, key)) = next {
-        end = put_entry(buf, end, scratch, bytes_from(content, place), depth_left);
+        end = put_entry::<R>(buf, end, scratch, bytes_from(content, place), depth_left);
         next = next_entry(content, Some(key));
     }
     end
 }
 
 /// Puts the canonical bytes of an entry, its key and then its value.
+#[inline(always)]
 #[cycle(write)]
-fn put_entry(
+fn put_entry<R: Room>(
     buf: &mut [u8],
     at: usize,
     scratch: &mut [EntryMark],
@@ -232,10 +234,10 @@ fn put_entry(
     depth_left: usize,
 ) -> usize
     requires read { IsRead (judge_entry (judge_value depth_left) i.now) }
-    requires room { at + length (canonical_of entry_bytes (judge_entry (judge_value depth_left) i.now)) ≤ length buf.old }
-    ensures { Puts buf.old buf.new at (canonical_of entry_bytes (judge_entry (judge_value depth_left) i.now)) result }
+    requires room { HasRoom R.sure (at + length (canonical_of entry_bytes (judge_entry (judge_value depth_left) i.now))) (length buf.old) }
+    ensures { PutsIfRoom buf.old buf.new at (canonical_of entry_bytes (judge_entry (judge_value depth_left) i.now)) result }
 {
     let (key, value) = split_key(i);
-    let place = put_bytes(buf, at, &i[..1 + key.len()]);
-    put_value(buf, place, scratch, value, depth_left)
+    let place = put_if_room::<R>(buf, at, &i[..1 + key.len()]);
+    put_value::<R>(buf, place, scratch, value, depth_left)
 }

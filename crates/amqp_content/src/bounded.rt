@@ -43,11 +43,11 @@ impl Model for BoundedAssembler {
 }
 
 impl BoundedAssembler {
-    ghost use Rattle.std.specs.Prelude.{◌≡◌, ◌≤◌, ◌⊎◌, ℕ, [], IfOk, OnErr};
+    ghost use Rattle.std.specs.Prelude.{◌≡◌, ◌≤◌, ◌+◌, ◌⊎◌, ℕ, [], IfOk, OnErr};
     ghost use Rattle.amqp_frame.specs.Frames.{frame_of, channel_id_of};
     ghost use Rattle.amqp_turns.specs.Stands.{kept_at, OthersStay};
     ghost use Rattle.amqp_content.specs.Outcomes.{AssemblerStands};
-    ghost use Rattle.amqp_content.specs.Bounds.{TakesWithin, open_bytes};
+    ghost use Rattle.amqp_content.specs.Bounds.{TakesWithin, body_bytes, open_bytes};
 
     /// An assembler of channels that have no message yet. Content headers may announce bodies of at most `max_body` bytes.
     pub fn open(alloc: Global, max_body: u64) -> BoundedAssembler
@@ -73,6 +73,7 @@ impl BoundedAssembler {
         ensures stands { AssemblerStands self.old.max_body [] (kept_at self.new.channels channel_id) }
         ensures others { OthersStay channel_id self.old.channels self.new.channels }
         ensures max_body { self.new.max_body ≡ self.old.max_body }
+        ensures held { open_bytes self.new + body_bytes (kept_at self.old.channels channel_id) ≡ open_bytes self.old }
     {
         let before = self.assembler.held_of(channel_id);
         self.assembler.forget(channel_id);

@@ -1,16 +1,19 @@
 -- What fields and properties are listed as, one after another.
 use Rattle.std.proofs.Common.{Bor, ◌≡◌, ℕ, zero, suc, ◌+◌, ◌-◌, ◌/◌, ◌<◌, ◌≤◌, eqb, Bool, List, [], ◌∷◌, ◌++◌, length, get_or, drop, refl, sym, ap, ap₂, subst, ◌∙◌, arith}
 use Rattle.std.proofs.lemmas.Bool.Decides.{nat_tests}
+use Rattle.std.proofs.lemmas.List.{get_or-drop, length-drop}
 use Rattle.std.specs.Int.{bit_at}
 use Rattle.std.proofs.lemmas.Nat.Bits.{bit_at-suc}
 use Rattle.amqp_types.specs.Judging.{Judged, Judge, took, past, fault, ◌>>=◌}
-use Rattle.amqp_types.specs.Flags.{bit_of, flag_at, flags_from}
-use Rattle.amqp_types.specs.Numbers.{bytes2, judge_number}
+use Rattle.amqp_types.specs.Flags.{bit_of, flag_at, flags_from, judge_flags}
+use Rattle.amqp_types.specs.Numbers.{bytes2, bytes8, judge_number}
 use Rattle.amqp_types.specs.Properties.{properties}
-use Rattle.amqp_types.specs.Slots.{flags_form}
+use Rattle.amqp_types.specs.Sequences.{judge_map}
+use Rattle.amqp_types.specs.Slots.{flags_form, number_form}
 use Rattle.amqp_types.specs.SlotJudging.{judge_form}
 use Rattle.amqp_types.specs.Tidiness.{used_by}
 use Rattle.amqp_canonical.specs.declared.shapes.Form.{Form}
+use Rattle.amqp_canonical.specs.declared.shapes.Form.TheVariants as forms
 use Rattle.amqp_canonical.specs.declared.shapes.Slot.{Slot}
 use Rattle.amqp_canonical.specs.declared.shapes.Slot.TheVariants as slots
 use Rattle.amqp_canonical.specs.Shapes.{form_of, slot_of, slots_of}
@@ -19,7 +22,7 @@ use Rattle.amqp_fields.specs.declared.node.Node.{Node}
 use Rattle.amqp_fields.specs.declared.listing.Step.{Step}
 use Rattle.amqp_fields.specs.Nodes.{numbered}
 use Rattle.amqp_fields.specs.Listing.{Grows, listing}
-use Rattle.amqp_fields.specs.Listed.{field_count, kept_count, listed_bits, listed_form, listed_properties, listed_set, listed_slot, listed_slots, next_place, placed}
+use Rattle.amqp_fields.specs.Listed.{field_count, kept_count, listed_bits, listed_form, listed_number, listed_properties, listed_set, listed_slot, listed_slots, next_place, placed}
 use Rattle.amqp_fields.specs.Finding.{Counts, Lists}
 use Rattle.amqp_fields.proofs.Pushing.{grows_more, grows_none}
 
@@ -110,6 +113,17 @@ pub kept_first : (deep : Bool) (end place next : ℕ) (shapes : List Slot) (othe
 kept_first deep end place next shapes other form i rest old mid new count total step some is one after e h =
     let P : Slot → Type 0 = λ s. next ≡ next_place place (kept_count (slot_of s)) in
     slots_listed deep end place next shapes other i rest old mid new count total step some (kept_listed deep end place (get_or shapes 0 other) form i old mid count step is one) (subst P (sym is) after) e h
+
+-- a number of 8 bytes and flags after it, as in an acknowledgement
+pub number_and_flags : (deep : Bool) (end place next flags count : ℕ) (shapes : List Slot) (other : Slot) (label : Node) (i rest : List ℕ) (old mid new : List Node) (number step : Step) → 2 ≤ length shapes → length shapes < 3 → get_or shapes 0 other ≡ slots.Kept forms.LongLong → get_or shapes 1 other ≡ slots.Kept (forms.Flags flags)
+    → label ≡ placed place (number_form bytes8) → Lists (listed_number bytes8 label i) old count mid number → next ≡ next_place place 1 → rest ≡ drop number.used i → Lists (judge_map (listed_bits next) (judge_flags flags) rest) mid number.count new step → Counts (listed_slots deep end place (slots_of shapes) i) old count new step.count
+unfolding listed_form
+number_and_flags deep end place next flags count shapes other label i rest old mid new number step some few one two is listed after e last =
+    let P : Node → Type 0 = λ x. Lists (listed_number bytes8 x i) old count mid number in
+    let none = no_slots deep end (next_place next flags) (drop 1 (drop 1 shapes)) (drop step.used rest) new step.count (omega (arith, few, length-drop 1 shapes, length-drop 1 (drop 1 shapes))) in
+    let second_slot : get_or (drop 1 shapes) 0 other ≡ slots.Kept (forms.Flags flags) = get_or-drop 1 shapes 0 other ∙ two in
+    let others = kept_first deep end next (next_place next flags) (drop 1 shapes) other (forms.Flags flags) rest (drop step.used rest) mid new new number.count step.count step (omega (arith, some, length-drop 1 shapes)) second_slot last refl refl none in
+    kept_first deep end place next shapes other forms.LongLong i rest old mid new count step.count number (omega (arith, some)) one (subst P is listed) after e others
 
 -- ---- properties
 

@@ -110,6 +110,10 @@ abbrev pub made_given : {A : Type 0} → ℕ → List ℕ → Result (List A) Fa
 made_given node content (Ok things) = made_long node content
 made_given node content (Err bad) = faulty node (error_of bad)
 
+-- content that stands in the pool, which a node has by its span
+abbrev pub made_content : {A : Type 0} → Judge A → List ℕ → ℕ → Node → Made
+made_content item pool index node = made_span (λ content. made_given index content (filled item 0 content)) index (span_in pool node.start node.length)
+
 -- what is made of a node and of those inside it, which end at a place
 abbrev pub Maker : Type 0
 Maker = ℕ → Node → List Node → Made
@@ -133,7 +137,7 @@ closed node (Err bad) = Err bad
 
 -- what fills a table or an array: content that stands in the pool, where nothing lies inside, and else what is made of the nodes inside
 unfoldable pub made_items : {A : Type 0} → Judge A → Maker → List ℕ → Maker
-made_items item make pool end node [] = made_span (λ content. made_given (own_index end []) content (filled item 0 content)) (own_index end []) (span_in pool node.start node.length)
+made_items item make pool end node [] = made_content item pool (own_index end []) node
 made_items item make pool end node (first ∷ others) = closed (own_index end (first ∷ others)) (made_each make end 0 (first ∷ others))
 
 -- an entry: its key, and its value

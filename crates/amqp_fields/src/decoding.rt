@@ -9,7 +9,7 @@ ghost use Rattle.amqp_fields.specs.Finding.{Counts};
 ghost use Rattle.amqp_fields.specs.Decoding.{Decodes};
 ghost use Rattle.amqp_fields.specs.Listed.{listed_method};
 
-use crate::fields::list_slots;
+use crate::fields::list_fields;
 use crate::node::Node;
 use crate::payloads::list_payload;
 use amqp_canonical::{judge_slots, shapes_of};
@@ -55,7 +55,7 @@ fn decode_method(
                             canonical: found.canonical,
                             tidy: found.tidy,
                         };
-                        let count = list_slots(nodes, count, deep, end, 0, shapes, fields);
+                        let count = list_fields(nodes, count, deep, end, shapes, fields);
                         Some(Decoded { judged, count })
                     }
                     Err(_) => None,

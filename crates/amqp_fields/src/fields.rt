@@ -176,6 +176,11 @@ pub(crate) fn list_slots(
                 let rest = bytes_from(i, form_size(form, i));
                 list_slots(nodes, count, deep, end, place, others, rest)
             }
+            Slot::Kept(Form::Flags(flags)) => {
+                let step = list_flags(nodes, count, place, flags, i);
+                let place = further(place, flags);
+                list_slots(nodes, step.count, deep, end, place, others, &i[step.used..])
+            }
             Slot::Kept(form) => {
                 let step = list_form(nodes, count, deep, end, place, form, i);
                 let place = further(place, field_count(form));
@@ -183,6 +188,42 @@ pub(crate) fn list_slots(
             }
         },
     }
+}
+
+/// Two fields of a method, which has no others, from the first place on. Acknowledgements have a number of 8 bytes and flags: for
+/// these no walk goes over the shapes. It is not inlined, since its callers are so large that they would not be inlined then.
+#[inline(never)]
+fn list_two(nodes: &mut [Node], count: u32, deep: bool, end: u32, shapes: &[Slot], i: &[u8]) -> u32
+    requires within { length i.now ≤ end }
+    ensures { Counts (listed_slots deep end 0 (slots_of shapes.now) i.now) nodes.old count nodes.new result }
+{
+    if let [first, second] = shapes
+        && let Slot::Kept(Form::LongLong) = *first
+        && let Slot::Kept(Form::Flags(flags)) = *second
+    {
+        let number = list_long_long(nodes, count, placed(0, Form::LongLong), i);
+        return list_flags(nodes, number.count, 1, flags, &i[number.used..]).count;
+    }
+    list_slots(nodes, count, deep, end, 0, shapes, i)
+}
+
+/// The fields of a method, from the first place on.
+#[inline(always)]
+pub(crate) fn list_fields(
+    nodes: &mut [Node],
+    count: u32,
+    deep: bool,
+    end: u32,
+    shapes: &[Slot],
+    i: &[u8],
+) -> u32
+    requires within { length i.now ≤ end }
+    ensures { Counts (listed_slots deep end 0 (slots_of shapes.now) i.now) nodes.old count nodes.new result }
+{
+    if shapes.len() == 2 {
+        return list_two(nodes, count, deep, end, shapes, i);
+    }
+    list_slots(nodes, count, deep, end, 0, shapes, i)
 }
 
 /// The properties that the mask has: it goes from bit to bit, from the highest on. None has bit 1 or 0.

@@ -1,5 +1,4 @@
 //! The bytes of frames that heads and nodes mean.
-#![tactic(auto, unfolding(crate::specs::MadeFrames::made_method, crate::specs::MadeFrames::made_header, crate::specs::MadeFrames::made_body, crate::specs::MadeFrames::made_beat, crate::specs::MadeFrames::made_version, crate::specs::MadeFrames::made_payload, crate::specs::MadeFrames::made_typed, crate::specs::MadeFrames::made_frame))]
 
 ghost use Rattle.std.specs.Prelude.{◌≡◌, ◌+◌, ◌++◌, true, is_some, option_copied};
 ghost use Rattle.amqp_types.specs.Numbers.{bytes2, number_bytes};
@@ -77,6 +76,7 @@ fn id_bytes(head: Head) -> [u8; 4]
 
 /// The payload of a method.
 #[inline(always)]
+#[tactic(auto, unfolding(crate::specs::MadeFrames::made_method))]
 fn make_method(
     buf: &mut [u8],
     at: usize,
@@ -121,6 +121,7 @@ fn front_bytes(head: Head) -> [u8; 12]
 
 /// The payload of a content header, with a weight of 0.
 #[inline(always)]
+#[tactic(auto, unfolding(crate::specs::MadeFrames::made_header))]
 fn make_header(
     buf: &mut [u8],
     at: usize,
@@ -154,6 +155,7 @@ pub(crate) fn has_no_ids(head: Head) -> bool
 
 /// The payload of a body, which stands in the pool.
 #[inline(always)]
+#[tactic(auto, unfolding(crate::specs::MadeFrames::made_body))]
 fn make_body(buf: &mut [u8], at: usize, pool: &[u8], head: Head) -> Result<usize, Refusal>
     ensures { Makes (made_body pool.now head) buf.old buf.new at result }
 {
@@ -168,6 +170,7 @@ fn make_body(buf: &mut [u8], at: usize, pool: &[u8], head: Head) -> Result<usize
 
 /// The payload of a heartbeat, which is empty.
 #[inline(always)]
+#[tactic(auto, unfolding(crate::specs::MadeFrames::made_beat))]
 fn make_beat(buf: &mut [u8], at: usize, head: Head) -> Result<usize, Refusal>
     ensures { Makes (made_beat head) buf.old buf.new at result }
 {
@@ -180,6 +183,7 @@ fn make_beat(buf: &mut [u8], at: usize, head: Head) -> Result<usize, Refusal>
 
 /// A protocol header: its mark, and three numbers.
 #[inline(always)]
+#[tactic(auto, unfolding(crate::specs::MadeFrames::made_version))]
 fn make_version(
     buf: &mut [u8],
     at: usize,
@@ -212,6 +216,7 @@ fn make_version(
 
 /// The payload of a frame that is no protocol header.
 #[inline(always)]
+#[tactic(auto, unfolding(crate::specs::MadeFrames::made_payload))]
 fn make_payload(
     buf: &mut [u8],
     at: usize,
@@ -258,6 +263,7 @@ fn close_frame(
 
 /// A frame, by its type.
 #[inline(always)]
+#[tactic(auto, unfolding(crate::specs::MadeFrames::made_typed))]
 fn make_typed(
     buf: &mut [u8],
     at: usize,
@@ -290,6 +296,7 @@ pub(crate) fn head_held(head: Head)
 
 /// A frame, whose payload has at most so many bytes.
 #[inline(always)]
+#[tactic(auto, unfolding(crate::specs::MadeFrames::made_frame))]
 pub(crate) fn make_frame(
     buf: &mut [u8],
     at: usize,

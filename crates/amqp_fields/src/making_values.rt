@@ -4,8 +4,8 @@
 ghost use Rattle.std.specs.Prelude.{◌≡◌, ◌<◌, ◌^◌, ◌-◌, ◌%◌, ◌||◌, ◌&&◌, nat_le, nat_lt};
 ghost use Rattle.amqp_types.specs.Numbers.{bytes1, bytes2, bytes4, bytes8, number_bytes, number_limit};
 ghost use Rattle.amqp_types.specs.Strings.{with_length};
-ghost use Rattle.amqp_types.specs.ValueJudging.{filled, judge_entry, judge_value};
-ghost use Rattle.amqp_fields.specs.Made.{after, made_array, made_behind, made_each, made_entry, made_given, made_if, made_leaf, made_long, made_nested, made_number, made_span, made_table, made_text, made_value, own_index, refusal, span_in};
+ghost use Rattle.amqp_types.specs.ValueJudging.{judge_entry, judge_value};
+ghost use Rattle.amqp_fields.specs.Made.{after, made_array, made_behind, made_content, made_each, made_entry, made_if, made_leaf, made_long, made_nested, made_number, made_span, made_table, made_text, made_value, own_index, refusal, span_in};
 ghost use Rattle.amqp_fields.specs.Makes.{Makes};
 
 use crate::contents::{judge_entries, judge_values};
@@ -148,7 +148,7 @@ fn make_given_entries(
     node: Node,
     depth_left: usize,
 ) -> Result<usize, Refusal>
-    ensures { Makes (made_span (λ content. made_given index content (filled (judge_entry (judge_value depth_left)) 0 content)) index (span_in pool.now node.start node.length)) buf.old buf.new at result }
+    ensures { Makes (made_content (judge_entry (judge_value depth_left)) pool.now index node) buf.old buf.new at result }
 {
     match span(pool, node.start, node.length) {
         Some(content) => match judge_entries(content, depth_left) {
@@ -168,7 +168,7 @@ fn make_given_values(
     node: Node,
     depth_left: usize,
 ) -> Result<usize, Refusal>
-    ensures { Makes (made_span (λ content. made_given index content (filled (judge_value depth_left) 0 content)) index (span_in pool.now node.start node.length)) buf.old buf.new at result }
+    ensures { Makes (made_content (judge_value depth_left) pool.now index node) buf.old buf.new at result }
 {
     match span(pool, node.start, node.length) {
         Some(content) => match judge_values(content, depth_left) {

@@ -7,7 +7,7 @@ use Rattle.amqp_stream.specs.Ends.{Supply, Store}
 use Rattle.amqp_in_turn.specs.declared.errors.TurnError.{TurnError}
 use Rattle.amqp_filter.specs.Kept.{kept_of}
 use Rattle.amqp_filter.specs.Stepping.{is_method_type}
-use Rattle.amqp_in_turn.specs.Turning.{GoesInTurn, GoesExactly}
+use Rattle.amqp_in_turn.specs.Turning.{GoesInTurn, GoesExactly, TurnRun}
 
 -- the canonical bytes of the frames that are kept
 abbrev pub kept_bytes : (FrameOutline → Bool) → List Frame → List ℕ
@@ -20,3 +20,7 @@ Filters keeps m turns a b k l result = GoesInTurn (kept_bytes keeps) is_method_t
 -- what a call returns and writes over a source that reports its bytes
 abbrev pub FiltersExactly : (FrameOutline → Bool) → ℕ → List ℕ → Store → Store → Result (Unit {0}) TurnError → Type 0
 FiltersExactly keeps m bytes k l result = GoesExactly (kept_bytes keeps) m bytes k l result
+
+-- a run that writes the canonical bytes of the frames that are kept
+abbrev pub FilterRun : {S K : Type 0} → (FrameOutline → Bool) → (S → Supply) → (K → Store) → ℕ → ℕ → S → S → K → K → Result (Unit {0}) TurnError → Type 0
+FilterRun keeps = TurnRun (kept_bytes keeps) is_method_type

@@ -1,6 +1,6 @@
 //! Rules that were asked once what they decide of every frame.
 
-ghost use Rattle.std.specs.Prelude.{◌≡◌, Ok, IsOk};
+ghost use Rattle.std.specs.Prelude.{◌≡◌, Ok, IsOk, Some, true};
 ghost use Rattle.amqp_wire.specs.Frames.{Frame, raw_of};
 ghost use Rattle.amqp_wire.specs.Outlines.{outline_of};
 ghost use Rattle.amqp_wire.specs.Verdicts.{whole, whole_as};
@@ -16,10 +16,11 @@ use std::marker::Model;
 pub(crate) struct AskedRules<'a> {
     rules: &'a Rules,
     all: Option<bool>,
+    keep_all: bool,
 }
 
 impl<'a> Model for AskedRules<'a> {
-    ghost use Rattle.std.specs.Prelude.{◌≡◌, List, IfSome};
+    ghost use Rattle.std.specs.Prelude.{◌≡◌, List, IfSome, Some, true};
     ghost use Rattle.amqp_wire.specs.declared.outline.FrameOutline.{FrameOutline};
     ghost use Rattle.amqp_select.specs.declared.rule.Rule.{Rule};
     ghost use Rattle.amqp_select.specs.Matching.{decides};
@@ -28,7 +29,18 @@ impl<'a> Model for AskedRules<'a> {
 
     ghost view = { λ asked. asked.rules.now };
 
-    ghost invariant = { λ asked. (outline : FrameOutline) → IfSome asked.all (λ keep. keep ≡ decides asked.rules.now outline) };
+    ghost invariant = { λ asked. ((outline : FrameOutline) → IfSome asked.all (λ keep. keep ≡ decides asked.rules.now outline))
+        × (asked.keep_all ≡ true → asked.all ≡ Some true) };
+}
+
+/// Whether what is decided of every frame is to keep it.
+fn is_keep(all: Option<bool>) -> bool
+    ensures { result ≡ true → all ≡ Some true }
+{
+    match all {
+        Some(true) => true,
+        _ => false,
+    }
 }
 
 /// Whether rules keep a whole frame, by its outline. It is no part of the loop's code, and its arguments take no memory there.
@@ -51,14 +63,26 @@ fn decide_read(
 }
 
 impl<'a> AskedRules<'a> {
+    ghost use Rattle.amqp_wire.specs.declared.outline.FrameOutline.{FrameOutline};
+
     /// The rules, asked.
     pub(crate) fn new(rules: &'a Rules) -> AskedRules<'a>
         ensures { result ≡ rules.now }
     {
+        let all = rules.decide_all();
         AskedRules {
             rules,
-            all: rules.decide_all(),
+            all,
+            keep_all: is_keep(all),
         }
+    }
+
+    /// Whether every frame is kept, whatever its outline. This may return false where rules that have parts keep every frame.
+    #[inline(always)]
+    pub(crate) fn keep_all(&self) -> bool
+        ensures { (outline : FrameOutline) → result ≡ true → decides self.now outline ≡ true }
+    {
+        self.keep_all
     }
 
     /// Whether a whole frame is kept. Its outline is read only where the rules ask for it.

@@ -1,11 +1,9 @@
 //! Streams of which the messages and frames that rules keep are written.
 
-ghost use Rattle.std.specs.Prelude.{◌≡◌, ◌≢◌, ◌⊎◌, ℕ, List, Some, Ok, Err};
-ghost use Rattle.amqp_types.specs.Levels.{plain};
-ghost use Rattle.amqp_stream.specs.Transcribing.{IsValid, NoFaults};
+ghost use Rattle.std.specs.Prelude.{◌≢◌, ◌⊎◌, Err};
 ghost use Rattle.amqp_select.specs.Matching.{decides};
-ghost use Rattle.amqp_in_turn.specs.Turning.{NeverBegan, IsComplete, IsOkOrNoMemory};
-ghost use Rattle.amqp_filter.specs.Filtering.{Filters, FiltersExactly};
+ghost use Rattle.amqp_in_turn.specs.Turning.{NeverBegan};
+ghost use Rattle.amqp_filter.specs.Filtering.{FilterRun};
 
 use crate::message_filter::MessageFilter;
 use amqp_in_turn::{TurnError as FilterError, as_turned};
@@ -26,23 +24,11 @@ pub fn filter<S: Source, K: Sink>(
     max_payload: ChunkSize,
     turns: u64,
 ) -> Result<(), FilterError>
-    ensures stream { Filters (decides rules.now) max_payload turns (S.supply source.old) (S.supply source.new) (K.store sink.old) (K.store sink.new) result
-        ⊎ NeverBegan (S.supply source.old) (S.supply source.new) (K.store sink.old) (K.store sink.new) result }
-    ensures unread { turns ≡ 0 → source.new ≡ source.old }
-    ensures spent { turns ≡ 0 → (result ≡ Err (FilterError.Stream StreamError.TurnsSpent)) ⊎ (result ≡ Err (FilterError.Stream StreamError.NoMemory)) }
-    ensures unwritten { turns ≡ 0 → sink.new ≡ sink.old }
+    ensures run { FilterRun (decides rules.now) S.supply K.store max_payload turns source.old source.new sink.old sink.new result
+        ⊎ NeverBegan source.old source.new sink.old sink.new result }
     ensures never_untidy { result ≢ Err (FilterError.Stream StreamError.NotTidy) }
     ensures never_too_large { result ≢ Err (FilterError.BadContent ContentFault.BodyTooLarge) }
     ensures never_faulted { result ≢ Err (FilterError.BadContent ContentFault.Faulted) }
-
-    // Over a source that reports its bytes, the result depends on them alone, however they are cut.
-    ensures exact { (bytes : List ℕ) → (S.supply source.old).left ≡ Some bytes
-        → FiltersExactly (decides rules.now) max_payload bytes (K.store sink.old) (K.store sink.new) result }
-    ensures complete { (bytes : List ℕ) → (S.supply source.old).left ≡ Some bytes
-        → IsValid plain max_payload turns bytes
-        → IsComplete max_payload bytes
-        → NoFaults (S.supply source.old) (S.supply source.new) (K.store sink.old) (K.store sink.new)
-        → IsOkOrNoMemory result }
 {
     let mut writer = MessageFilter::new(alloc, rules);
     as_turned(run_stream(alloc, &mut writer, source, sink, max_payload, turns))

@@ -1,6 +1,6 @@
 //! What filtering keeps from frame to frame, and how it keeps, drops or refuses a frame.
 
-ghost use Rattle.std.specs.Prelude.{◌≡◌, ◌↔◌, None, Ok, IsOk, IsTrue};
+ghost use Rattle.std.specs.Prelude.{◌≡◌, None, Ok, IsOk, IsTrue};
 ghost use Rattle.amqp_wire.specs.Frames.{Frame, raw_of};
 ghost use Rattle.amqp_wire.specs.Outlines.{outline_of};
 ghost use Rattle.amqp_wire.specs.Verdicts.{whole};
@@ -15,19 +15,23 @@ use amqp_stream::{
     Decision, FrameWriter, OutputBuffer, RunError, Sink, StreamError, payload_error, put_decided,
 };
 use amqp_turns::{Mark, Progress, step};
-use amqp_types::ChannelId;
+use amqp_types::{ChannelId, Identifier};
 use amqp_wire::{
     AMQPFrameType, AMQPRawFrame, FrameJudgement, FrameOutline, judge_frame, outline_raw,
 };
 use std::alloc::Global;
 
-/// Whether a frame is of no message, where none has begun: it is no opening, no content header and no body.
+/// The greatest id of a method that opens a message: that of `basic.get-ok`.
+const LAST_OPENING: Identifier = 71;
+
+/// Whether a frame is a method whose id no method that opens a message has. May return false for other frames of no message:
+/// most methods that open none are acknowledgements.
 #[inline(always)]
 fn is_passed(outline: FrameOutline) -> bool
-    ensures { IsTrue result ↔ (mark_after greatest None outline ≡ Mark.Passed) }
+    ensures { IsTrue result → (mark_after greatest None outline ≡ Mark.Passed) }
 {
-    match step(u64::MAX, None, outline).0 {
-        Mark::Passed => true,
+    match outline {
+        FrameOutline::Method { method_id, .. } => method_id > LAST_OPENING,
         _ => false,
     }
 }
@@ -53,13 +57,13 @@ pub(crate) struct MessageFilter<'a> {
 }
 
 impl<'a> MessageFilter<'a> {
-    ghost use Rattle.std.specs.Prelude.{◌≡◌, Ok, Some, None, IsOk, IsSome};
+    ghost use Rattle.std.specs.Prelude.{◌≡◌, Ok, Some, None, IsOk, IsSome, true};
     ghost use Rattle.std.specs.FinMap as finite;
     ghost use Rattle.amqp_wire.specs.Frames.{Frame, Raw, raw_of};
     ghost use Rattle.amqp_wire.specs.Judgements.{IsJudged};
     ghost use Rattle.amqp_wire.specs.Outlines.{outline_of, outline_front};
     ghost use Rattle.amqp_wire.specs.Verdicts.{whole, whole_as};
-    ghost use Rattle.amqp_stream.specs.Decisions.{DecidesBy};
+    ghost use Rattle.amqp_stream.specs.Decisions.{DecidesBy, PassesBy};
     ghost use Rattle.amqp_in_turn.specs.Judging.{JudgesKept};
     ghost use Rattle.amqp_filter.specs.Held.{held_with};
     ghost use Rattle.amqp_filter.specs.Stepping.{filtering, held_at, with_held, StepsTo, KeepsBy};
@@ -182,6 +186,21 @@ impl<'a> MessageFilter<'a> {
         self.keep_apart(raw.frame_type, raw.channel_id, raw.payload)
     }
 
+    /// Whether a whole frame is kept, and what is kept of messages stays as it is. May return false for other such frames.
+    #[inline(always)]
+    fn keeps_alone(&self, raw: AMQPRawFrame<'_>) -> bool
+        requires { IsOk (whole (raw_of raw)) }
+        ensures { result ≡ true → StepsTo self.now self.now (raw_of raw.entry) true }
+    {
+        if !self.rules.keep_all() {
+            return false;
+        }
+        if !stands_alone(raw) {
+            return false;
+        }
+        self.messages.is_empty()
+    }
+
     /// Takes a frame: a fault of its payload comes first.
     #[inline(always)]
     fn decide(&mut self, raw: AMQPRawFrame<'_>) -> Result<Decision, RunError<Refusal>>
@@ -189,10 +208,26 @@ impl<'a> MessageFilter<'a> {
     {
         match judge_frame(raw) {
             Err(error) => Err(RunError::Stream(payload_error(error))),
-            Ok(judged) => match self.keep(raw) {
-                Err(error) => Err(error),
-                Ok(kept) => Ok(MessageFilter::decision_of(judged, kept)),
-            },
+            Ok(judged) => {
+                if self.keeps_alone(raw) {
+                    return Ok(MessageFilter::decision_of(judged, true));
+                }
+                match self.keep(raw) {
+                    Err(error) => Err(error),
+                    Ok(kept) => Ok(MessageFilter::decision_of(judged, kept)),
+                }
+            }
+        }
+    }
+
+    /// Takes a frame without writing.
+    #[inline(always)]
+    fn pass_decided(&mut self, raw: AMQPRawFrame<'_>) -> Result<Option<Decision>, RunError<Refusal>>
+        ensures { PassesBy filtering self.old self.new (raw_of raw.entry) result }
+    {
+        match self.decide(raw) {
+            Ok(decision) => Ok(Some(decision)),
+            Err(error) => Err(error),
         }
     }
 }
@@ -206,9 +241,12 @@ impl<'a> FrameWriter for MessageFilter<'a> {
 
     #[inline(always)]
     fn pass(&mut self, raw: AMQPRawFrame<'_>) -> Result<Option<Decision>, RunError<Refusal>> {
-        match self.decide(raw) {
-            Ok(decision) => Ok(Some(decision)),
-            Err(error) => Err(error),
+        // So each type has code of its own in the loop, without the tests for other types.
+        match raw.frame_type {
+            AMQPFrameType::Method => self.pass_decided(raw),
+            AMQPFrameType::Header => self.pass_decided(raw),
+            AMQPFrameType::Body => self.pass_decided(raw),
+            AMQPFrameType::ProtocolHeader | AMQPFrameType::Heartbeat => self.pass_decided(raw),
         }
     }
 

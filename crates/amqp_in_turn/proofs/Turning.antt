@@ -25,14 +25,16 @@ use Rattle.amqp_stream.specs.Steps.{Manner, text, refused, state, text_at, refus
 use Rattle.amqp_stream.specs.Writing.{IsPrefix}
 use Rattle.amqp_stream.specs.Transcribing.{answer_to}
 use Rattle.amqp_stream.specs.Streaming.{Ending, finished, refused_by, stopped_by, ending_of, text_of, refused_of, state_of, AtWanting, HasWrittenBy, HasCauseBy, Streams, RunNeverBegan, answer_at_end, answer_of, IsExactRun, UnlessStoppedBy, StreamsExactly, IsWelcome, IsDoneOrWanting}
+use Rattle.amqp_stream.specs.Runs.{WriterRun}
 use Rattle.amqp_stream.proofs.Transcribing.{error_by, error_by-cause, unless, caused_by, written_unless}
+use Rattle.amqp_stream.proofs.Runs.{run_by}
 use Rattle.amqp_in_turn.specs.declared.errors.TurnError.{TurnError}
 use Rattle.amqp_in_turn.specs.declared.errors.TurnError.TheVariants as errors
 use Rattle.amqp_in_turn.specs.declared.errors.Refusal.{Refusal}
 use Rattle.amqp_in_turn.specs.declared.errors.Refusal.TheVariants as refusals
 use Rattle.amqp_in_turn.specs.Errors.{as_turned}
 use Rattle.amqp_turns.specs.InTurn.{greatest, AreInTurn, IsLongestInTurn, IsNextFault, IsOpen, NoneIsOpen, state_on}
-use Rattle.amqp_in_turn.specs.Turning.{frames_at, AtWanted, IsAllInTurn, HasCauseInTurn, HasWrittenInTurn, GoesInTurn, NeverBegan, IsAnsweredTo, IsExactlyInTurn, UnlessStoppedInTurn, GoesExactly, IsComplete, IsOkOrNoMemory}
+use Rattle.amqp_in_turn.specs.Turning.{frames_at, AtWanted, IsAllInTurn, HasCauseInTurn, HasWrittenInTurn, GoesInTurn, NeverBegan, IsAnsweredTo, IsExactlyInTurn, UnlessStoppedInTurn, GoesExactly, IsComplete, IsOkOrNoMemory, TurnRun}
 use Rattle.amqp_turns.proofs.Turns.{are_in_turn, none_lost, lost_later, before_or_with}
 
 -- ---- one frame
@@ -132,7 +134,7 @@ turns_by (Err (runs_end.Stream other)) error e = let same : other ≡ error = cc
 turns_by (Err (runs_end.Refused (refusals.BadContent bad))) error e = absurd cc
 turns_by (Err (runs_end.Refused refusals.OpenContent)) error e = absurd cc
 
-pub done_or_memory : (r : Result (Unit {0}) (RunError Refusal)) → IsDoneOrWanting (ending_of r) → IsOkOrNoMemory (as_turned r)
+done_or_memory : (r : Result (Unit {0}) (RunError Refusal)) → IsDoneOrWanting (ending_of r) → IsOkOrNoMemory (as_turned r)
 done_or_memory (Ok done) h = tt
 done_or_memory (Err (runs_end.Stream error)) h = h
 done_or_memory (Err (runs_end.Refused (refusals.BadContent bad))) h = absurd h
@@ -343,17 +345,14 @@ module _ {S : Type 0} {step : S → Frame → Result (List ℕ × S) Refusal} {e
         };
       }
 
-  begins_never : (s t : S) (a b : Supply) (k l : Store) (r : Result (Unit {0}) (RunError Refusal)) → RunNeverBegan s t a b k l (ending_of r) → NeverBegan a b k l (as_turned r)
-  begins_never s t a b k l r h = record { no_memory = back r ∙ ap turned_ending h.no_memory; source = h.source; sink = h.sink }
-
-  pub goes_stream : (s t : S) (m turns : ℕ) (a b : Supply) (k l : Store) (r : Result (Unit {0}) (RunError Refusal)) → StandsFor s [] → Streams w s t m turns a b k l (ending_of r) ⊎ RunNeverBegan s t a b k l (ending_of r) → GoesInTurn (after []) wants m turns a b k l (as_turned r) ⊎ NeverBegan a b k l (as_turned r)
-  goes_stream s t m turns a b k l r new (inl run) = inl (goes s t m turns a b k l r new run)
-  goes_stream s t m turns a b k l r new (inr h) = inr (begins_never s t a b k l r h)
-
   -- ---- errors that never come
 
-  pub never_untidy : {s t : S} {m turns : ℕ} {a b : Supply} {k l : Store} (r : Result (Unit {0}) (RunError Refusal)) → Streams w s t m turns a b k l (ending_of r) ⊎ RunNeverBegan s t a b k l (ending_of r) → as_turned r ≢ Err (errors.Stream streams.NotTidy)
-  never_untidy r (inl run) e = run.tidy_only (turns_by r streams.NotTidy e)
+  -- a call that ran, or never began
+  abbrev pub RanOrNever : {A K : Type 0} → S → S → (A → Supply) → (K → Store) → ℕ → ℕ → A → A → K → K → Result (Unit {0}) (RunError Refusal) → Type 0
+  RanOrNever s t supply store m turns source source' sink sink' r = WriterRun w s t supply store m turns source source' sink sink' r ⊎ RunNeverBegan s t source source' sink sink' (ending_of r)
+
+  pub never_untidy : {A K : Type 0} {s t : S} {supply : A → Supply} {store : K → Store} {m turns : ℕ} {source source' : A} {sink sink' : K} (r : Result (Unit {0}) (RunError Refusal)) → RanOrNever s t supply store m turns source source' sink sink' r → as_turned r ≢ Err (errors.Stream streams.NotTidy)
+  never_untidy r (inl run) e = run.stream.tidy_only (turns_by r streams.NotTidy e)
   never_untidy r (inr h) e = let other = sym (turns_by r streams.NotTidy e) ∙ h.no_memory in absurd cc
 
   fresh_run : (s t : S) (m turns : ℕ) (a b : Supply) (k l : Store) (bad : ContentFault) → StandsFor s [] → Streams w s t m turns a b k l (refused_by (refusals.BadContent bad)) → (bad ≢ faults.BodyTooLarge) × (bad ≢ faults.Faulted)
@@ -366,14 +365,14 @@ module _ {S : Type 0} {step : S → Frame → Result (List ℕ × S) Refusal} {e
           fresh_by (frames_at m run.taken) ran.front ran.rest (refused_of w s m run.taken) bad ran.parts (sequence_fits (Some m) sequence.used (frames_at m run.taken) sequence.sequence) ran.ends is
       by_cause (inr h) = absurd (bad_is_not_open bad (by.only_open _ (refusals.BadContent bad) h.ends))
 
-  pub fresh : (s t : S) (m turns : ℕ) (a b : Supply) (k l : Store) (r : Result (Unit {0}) (RunError Refusal)) (bad : ContentFault) → StandsFor s [] → Streams w s t m turns a b k l (ending_of r) ⊎ RunNeverBegan s t a b k l (ending_of r) → as_turned r ≡ Err (errors.BadContent bad) → (bad ≢ faults.BodyTooLarge) × (bad ≢ faults.Faulted)
-  fresh s t m turns a b k l (Ok done) bad new h e = absurd cc
-  fresh s t m turns a b k l (Err (runs_end.Stream error)) bad new h e = absurd cc
-  fresh s t m turns a b k l (Err (runs_end.Refused refusals.OpenContent)) bad new h e = absurd cc
-  fresh s t m turns a b k l (Err (runs_end.Refused (refusals.BadContent worse))) bad new (inl run) e =
+  pub fresh : {A K : Type 0} {s t : S} {supply : A → Supply} {store : K → Store} {m turns : ℕ} {source source' : A} {sink sink' : K} (r : Result (Unit {0}) (RunError Refusal)) (bad : ContentFault) → StandsFor s [] → RanOrNever s t supply store m turns source source' sink sink' r → as_turned r ≡ Err (errors.BadContent bad) → (bad ≢ faults.BodyTooLarge) × (bad ≢ faults.Faulted)
+  fresh (Ok done) bad new h e = absurd cc
+  fresh (Err (runs_end.Stream error)) bad new h e = absurd cc
+  fresh (Err (runs_end.Refused refusals.OpenContent)) bad new h e = absurd cc
+  fresh {s = s} {t = t} {supply = supply} {store = store} {m = m} {turns = turns} {source = source} {source' = source'} {sink = sink} {sink' = sink'} (Err (runs_end.Refused (refusals.BadContent worse))) bad new (inl run) e =
       let same : worse ≡ bad = cc in
-      subst (λ (f : ContentFault). (f ≢ faults.BodyTooLarge) × (f ≢ faults.Faulted)) same (fresh_run s t m turns a b k l worse new run)
-  fresh s t m turns a b k l (Err (runs_end.Refused (refusals.BadContent worse))) bad new (inr h) e = let other = h.no_memory in absurd cc
+      subst (λ (f : ContentFault). (f ≢ faults.BodyTooLarge) × (f ≢ faults.Faulted)) same (fresh_run s t m turns (supply source) (supply source') (store sink) (store sink') worse new run.stream)
+  fresh (Err (runs_end.Refused (refusals.BadContent worse))) bad new (inr h) e = let other = h.no_memory in absurd cc
 
   -- ---- the result by all of the bytes
 
@@ -400,14 +399,22 @@ module _ {S : Type 0} {step : S → Frame → Result (List ℕ × S) Refusal} {e
         written_is = h.text_is ∙ ran.text_is;
       }
 
-  pub goes_exactly : (s : S) (m : ℕ) (bytes : List ℕ) (k l : Store) (r : Result (Unit {0}) (RunError Refusal)) → StandsFor s [] → StreamsExactly w s m bytes k l (ending_of r) → GoesExactly (after []) m bytes k l (as_turned r)
+  goes_exactly : (s : S) (m : ℕ) (bytes : List ℕ) (k l : Store) (r : Result (Unit {0}) (RunError Refusal)) → StandsFor s [] → StreamsExactly w s m bytes k l (ending_of r) → GoesExactly (after []) m bytes k l (as_turned r)
   goes_exactly s m bytes k l r new run = record { written = run.written; gains = run.gains; answer = unless_turned r (exactly s m bytes run.written r new) run.answer }
 
   -- ---- input that is complete
 
-  pub welcome : (s : S) (m : ℕ) (bytes : List ℕ) → StandsFor s [] → IsComplete m bytes → IsWelcome w s m bytes
+  welcome : (s : S) (m : ℕ) (bytes : List ℕ) → StandsFor s [] → IsComplete m bytes → IsWelcome w s m bytes
   welcome s m bytes new h =
       let ran = ran_all s (frames_at m bytes) new in
       let none = refused_never (frames_at m bytes) ran.front ran.rest (refused_of w s m bytes) ran.parts h.in_turn ran.ends in
       let whole = whole_by (frames_at m bytes) ran.front ran.rest (refused_of w s m bytes) ran.parts ran.ends none in
       record { none_refused = none; ends = by.may_end (state_of w s m bytes) (frames_at m bytes) (subst (λ (fs : List Frame). StandsFor (state_of w s m bytes) fs) whole ran.stands) h.none_open }
+
+  -- ---- a whole call
+
+  pub goes_run : {A K : Type 0} (s t : S) {supply : A → Supply} {store : K → Store} {m turns : ℕ} {source source' : A} {sink sink' : K} (r : Result (Unit {0}) (RunError Refusal)) → StandsFor s [] → RanOrNever s t supply store m turns source source' sink sink' r
+      → TurnRun (after []) wants supply store m turns source source' sink sink' (as_turned r) ⊎ NeverBegan source source' sink sink' (as_turned r)
+  goes_run s t {supply = supply} {store = store} {m = m} {turns = turns} {source = source} {source' = source'} {sink = sink} {sink' = sink'} r new (inl run) =
+      inl (run_by (goes s t m turns (supply source) (supply source') (store sink) (store sink') r new) (ap as_turned) (λ bytes. goes_exactly s m bytes (store sink) (store sink') r new) (λ bytes accepted. (accepted.0, welcome s m bytes new accepted.1)) (λ goes. done_or_memory r) run)
+  goes_run s t r new (inr h) = inr (record { no_memory = back r ∙ ap turned_ending h.no_memory; source_stays = h.source_stays; sink_stays = h.sink_stays })

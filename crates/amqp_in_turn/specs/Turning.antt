@@ -11,7 +11,8 @@ use Rattle.amqp_stream.specs.declared.errors.StreamError.TheVariants as streams
 use Rattle.amqp_stream.specs.Errors.{Cause, write_failed, out_of_memory, cause_of}
 use Rattle.amqp_stream.specs.Ends.{Supply, Store, Takes, Gains, IsEmpty}
 use Rattle.amqp_stream.specs.Writing.{IsPrefix}
-use Rattle.amqp_stream.specs.Transcribing.{IsSequence, IsCausedBy, UnlessStopped, IsOutOfMemory, answer_to, IsWrittenUnless}
+use Rattle.amqp_stream.specs.Transcribing.{IsSequence, IsCausedBy, IsValid, UnlessStopped, IsOutOfMemory, answer_to, IsWrittenUnless}
+use Rattle.amqp_stream.specs.Runs.{Runs}
 use Rattle.amqp_in_turn.specs.declared.errors.TurnError.{TurnError}
 use Rattle.amqp_in_turn.specs.declared.errors.TurnError.TheVariants as errors
 use Rattle.amqp_turns.specs.InTurn.{IsLongestInTurn, IsNextFault, IsOpen, NoneIsOpen, AreInTurn}
@@ -84,10 +85,10 @@ pub record GoesInTurn (text : List Frame → List ℕ) (wants : AMQPFrameType �
   pub behind : IsTextBehindBy text m taken written (m + 8)
 
 -- memory ran out before anything was taken or written
-pub record NeverBegan (a b : Supply) (k l : Store) (result : Result (Unit {0}) TurnError) : Type 0 where
+pub record NeverBegan {S K : Type 0} (source source' : S) (sink sink' : K) (result : Result (Unit {0}) TurnError) : Type 0 where
   pub no_memory : result ≡ Err (errors.Stream streams.NoMemory)
-  pub source : b ≡ a
-  pub sink : l ≡ k
+  pub source_stays : source' ≡ source
+  pub sink_stays : sink' ≡ sink
 
 -- What is returned for all the bytes of a source: the fault of the first frame that is not in turn; or else the result of canonicalizing them, and where
 -- that is Ok, whether content is open.
@@ -128,3 +129,13 @@ IsOkOrNoMemory (Ok done) = Unit {0}
 IsOkOrNoMemory (Err (errors.BadContent fault)) = ⊥
 IsOkOrNoMemory (Err errors.OpenContent) = ⊥
 IsOkOrNoMemory (Err (errors.Stream error)) = IsOutOfMemory (cause_of error)
+
+-- a run that writes this text for the frames in turn
+abbrev pub TurnRun : {S K : Type 0} → (List Frame → List ℕ) → (AMQPFrameType → Bool) → (S → Supply) → (K → Store) → ℕ → ℕ → S → S → K → K
+    → Result (Unit {0}) TurnError → Type 0
+TurnRun text wants supply store m turns source source' sink sink' result = Runs supply store turns source source' sink sink'
+    (GoesInTurn text wants m turns (supply source) (supply source') (store sink) (store sink') result)
+    (result ≡ Err (errors.Stream streams.TurnsSpent))
+    (λ bytes. GoesExactly text m bytes (store sink) (store sink') result)
+    (λ bytes. IsValid plain m turns bytes × IsComplete m bytes)
+    (IsOkOrNoMemory result)

@@ -1,9 +1,9 @@
 //! A codec that takes no memory once it is open.
 
-ghost use Rattle.std.specs.Prelude.{◌≡◌, ◌≢◌, ◌⊎◌, ℕ, List, Some, Ok, Err, IfOk};
+ghost use Rattle.std.specs.Prelude.{◌≡◌, ◌≢◌, ◌⊎◌, Err, IfOk};
 ghost use Rattle.amqp_types.specs.Levels.{plain};
-ghost use Rattle.amqp_stream.specs.Transcribing.{NeverBegan, IsValid, NoFaults, IsOkOrNoMemory};
-ghost use Rattle.amqp_stream.specs.Canonicalizing.{Canonicalizes, AnswersExactly};
+ghost use Rattle.amqp_stream.specs.Runs.{CanonicalRun};
+ghost use Rattle.amqp_stream.specs.Transcribing.{NeverBegan};
 ghost use Rattle.amqp_lent.specs.Errors.{as_stream, codec_error};
 
 use crate::errors::LentError;
@@ -72,19 +72,7 @@ impl LentCodec {
         turns: u64,
     ) -> Result<(), LentError>
         ensures limit { self.new ≡ self.old }
-        ensures stream { Canonicalizes plain self.old turns (S.supply source.old) (S.supply source.new)
-            (K.store sink.old) (K.store sink.new) (as_stream result) }
-        ensures unread { turns ≡ 0 → source.new ≡ source.old }
-        ensures spent { turns ≡ 0 → result ≡ Err LentError.TurnsSpent }
-        ensures unwritten { turns ≡ 0 → sink.new ≡ sink.old }
-
-        // Over a source that reports its bytes, the result depends on them alone, however they are cut.
-        ensures exact { (bytes : List ℕ) → (S.supply source.old).left ≡ Some bytes
-            → AnswersExactly plain self.old bytes (K.store sink.old) (K.store sink.new) (as_stream result) }
-        ensures complete { (bytes : List ℕ) → (S.supply source.old).left ≡ Some bytes
-            → IsValid plain self.old turns bytes
-            → NoFaults (S.supply source.old) (S.supply source.new) (K.store sink.old) (K.store sink.new)
-            → result ≡ Ok tt }
+        ensures run { CanonicalRun plain S.supply K.store self.old turns source.old source.new sink.old sink.new (as_stream result) }
     {
         match self.codec.rewrite(Profile::Plain, source, sink, turns) {
             Ok(()) => Ok(()),
@@ -101,23 +89,9 @@ pub fn canonicalize_lent<S: Source, K: Sink>(
     max_payload: ChunkSize,
     turns: u64,
 ) -> Result<(), StreamError>
-    ensures stream { Canonicalizes plain max_payload turns (S.supply source.old) (S.supply source.new)
-        (K.store sink.old) (K.store sink.new) result
-        ⊎ NeverBegan (S.supply source.old) (S.supply source.new) (K.store sink.old) (K.store sink.new) result }
-    ensures unread { turns ≡ 0 → source.new ≡ source.old }
-    ensures spent { turns ≡ 0 → (result ≡ Err StreamError.TurnsSpent) ⊎ (result ≡ Err StreamError.NoMemory) }
-    ensures unwritten { turns ≡ 0 → sink.new ≡ sink.old }
-    ensures memory { result ≡ Err StreamError.NoMemory
-        → NeverBegan (S.supply source.old) (S.supply source.new) (K.store sink.old) (K.store sink.new) result }
+    ensures run { CanonicalRun plain S.supply K.store max_payload turns source.old source.new sink.old sink.new result
+        ⊎ NeverBegan source.old source.new sink.old sink.new result }
     ensures never_untidy { result ≢ Err StreamError.NotTidy }
-
-    // Over a source that reports its bytes, the result depends on them alone, however they are cut.
-    ensures exact { (bytes : List ℕ) → (S.supply source.old).left ≡ Some bytes
-        → AnswersExactly plain max_payload bytes (K.store sink.old) (K.store sink.new) result }
-    ensures complete { (bytes : List ℕ) → (S.supply source.old).left ≡ Some bytes
-        → IsValid plain max_payload turns bytes
-        → NoFaults (S.supply source.old) (S.supply source.new) (K.store sink.old) (K.store sink.new)
-        → IsOkOrNoMemory result }
 {
     match LentCodec::open(alloc, max_payload) {
         Ok(codec) => {

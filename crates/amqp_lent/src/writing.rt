@@ -1,52 +1,39 @@
 //! The canonical bytes of borrowed frames: how many they are, and these bytes. No memory is taken.
 
-ghost use Rattle.std.specs.Prelude.{◌≡◌, ◌+◌, ◌^◌, ◌<◌, ◌≤◌, ℕ, Ok, length};
-ghost use Rattle.amqp_types.specs.Methods.{judge_payload, payload_bytes};
-ghost use Rattle.amqp_types.specs.ContentHeaders.{judge_content_header, content_header_bytes};
-ghost use Rattle.amqp_types.specs.Writing.{Puts};
-ghost use Rattle.amqp_canonical.specs.Writes.{IsRead, canonical_of};
+ghost use Rattle.std.specs.Prelude.{◌≡◌, ◌+◌, ◌^◌, ◌<◌, ◌≤◌, ℕ, List, Ok, length};
+ghost use Rattle.amqp_types.specs.Methods.{judge_payload};
+ghost use Rattle.amqp_types.specs.ContentHeaders.{judge_content_header};
+ghost use Rattle.amqp_canonical.specs.Writes.{IsRead, PutsIfRoom};
 ghost use Rattle.amqp_wire.specs.Canonical.{SliceAnswers, canon};
 ghost use Rattle.amqp_wire.specs.Frames.{Frame};
 ghost use Rattle.amqp_wire.specs.Spelling.{framed};
 ghost use Rattle.amqp_lent.specs.Frames.{IsFrame, StandsFor, payload_of};
-ghost use Rattle.amqp_canonical.specs.Payloads.{header_payload, method_payload};
-ghost use Rattle.amqp_types.specs.Constants.{header_byte, method_byte};
+ghost use Rattle.amqp_canonical.specs.Payloads.{header_payload, method_payload, canonical_header, canonical_method};
+ghost use Rattle.amqp_types.specs.Constants.{body_byte, header_byte, method_byte};
 
 use crate::frame::LentFrame;
-use crate::payload_measuring::{size_header, size_method};
-use amqp_canonical::{put_header, put_method};
+use amqp_canonical::{Tested, put_header, put_if_room, put_method};
 use amqp_types::{
-    ChannelId, FRAME_BODY, FRAME_HEADER, FRAME_METHOD, GenError, Identifier, PayloadSize, put_bytes,
+    ChannelId, FRAME_BODY, FRAME_HEADER, FRAME_METHOD, GenError, Identifier, PayloadSize,
 };
-use amqp_wire::{header_bytes, heartbeat_bytes, put_around, put_framed};
+use amqp_wire::{header_bytes, heartbeat_bytes, put_around};
 
-/// How many canonical bytes the frame has that a borrowed frame stands for.
-pub fn lent_size(frame: LentFrame<'_>) -> u64
-    requires stands { IsFrame frame }
-    requires few { length (payload_of frame) < 2 ^ 32 }
-    ensures { (read : Frame) → StandsFor frame.entry read → result ≡ length (canon read) }
+/// Puts a frame of this type around a payload that stands from byte 7 to `end`, where there is room for both, and
+/// returns the place after it in any case.
+fn put_frame(buf: &mut [u8], end: usize, frame_type: u8, channel: ChannelId) -> usize
+    requires payload { 7 ≤ end }
+    requires few { end < 7 + 2 ^ 32 }
+    ensures { (before payload : List ℕ) → PutsIfRoom before buf.old 7 payload end
+        → PutsIfRoom before buf.new 0 (framed frame_type channel payload) result }
 {
-    match frame {
-        LentFrame::Method {
-            class_id,
-            method_id,
-            slots,
-            ..
-        } => 8 + size_method(class_id, method_id, slots) as u64,
-        LentFrame::Header {
-            class_id,
-            body_size,
-            properties,
-            ..
-        } => 8 + size_header(class_id, body_size, properties) as u64,
-        LentFrame::Body(_, content) => 8 + content.len() as u64,
-        LentFrame::ProtocolHeader(_) => 8,
-        LentFrame::Heartbeat => 8,
-        LentFrame::InvalidHeartbeat(_) => 8,
+    if end >= buf.len() {
+        return end + 1;
     }
+    put_around(buf, 0, end, frame_type, channel);
+    end + 1
 }
 
-/// Puts the frame of a method, and returns the place after it.
+/// Puts the frame of a method where there is room for it, and returns the place after it in any case.
 fn put_method_frame(
     buf: &mut [u8],
     channel: ChannelId,
@@ -56,14 +43,13 @@ fn put_method_frame(
 ) -> usize
     requires read { IsRead (judge_payload (method_payload class id slots.now)) }
     requires few { length (method_payload class id slots.now) < 2 ^ 32 }
-    requires room { length (framed method_byte channel (canonical_of payload_bytes (judge_payload (method_payload class id slots.now)))) ≤ length buf.old }
-    ensures { Puts buf.old buf.new 0 (framed method_byte channel (canonical_of payload_bytes (judge_payload (method_payload class id slots.now)))) result }
+    ensures { PutsIfRoom buf.old buf.new 0 (framed method_byte channel (canonical_method (method_payload class id slots.now))) result }
 {
-    let end = put_method(buf, 7, &mut [], class, id, slots);
-    put_around(buf, 0, end, FRAME_METHOD, channel)
+    let end = put_method::<Tested>(buf, 7, &mut [], class, id, slots);
+    put_frame(buf, end, FRAME_METHOD, channel)
 }
 
-/// Puts the frame of a content header, and returns the place after it.
+/// Puts the frame of a content header where there is room for it, and returns the place after it in any case.
 fn put_header_frame(
     buf: &mut [u8],
     channel: ChannelId,
@@ -73,21 +59,27 @@ fn put_header_frame(
 ) -> usize
     requires read { IsRead (judge_content_header (header_payload class body_size properties.now)) }
     requires few { length (header_payload class body_size properties.now) < 2 ^ 32 }
-    requires room { length (framed header_byte channel (canonical_of content_header_bytes (judge_content_header (header_payload class body_size properties.now))))
-        ≤ length buf.old }
-    ensures { Puts buf.old buf.new 0
-        (framed header_byte channel (canonical_of content_header_bytes (judge_content_header (header_payload class body_size properties.now)))) result }
+    ensures { PutsIfRoom buf.old buf.new 0
+        (framed header_byte channel (canonical_header (header_payload class body_size properties.now))) result }
 {
-    let end = put_header(buf, 7, &mut [], class, body_size, properties);
-    put_around(buf, 0, end, FRAME_HEADER, channel)
+    let end = put_header::<Tested>(buf, 7, &mut [], class, body_size, properties);
+    put_frame(buf, end, FRAME_HEADER, channel)
 }
 
-/// Puts the canonical bytes at the front of a slice, and returns the place after them.
+/// Puts the frame of a body where there is room for it, and returns the place after it in any case.
+fn put_body_frame(buf: &mut [u8], channel: ChannelId, content: &[u8]) -> usize
+    requires few { length content.now < 2 ^ 32 }
+    ensures { PutsIfRoom buf.old buf.new 0 (framed body_byte channel content.now) result }
+{
+    let end = put_if_room::<Tested>(buf, 7, content);
+    put_frame(buf, end, FRAME_BODY, channel)
+}
+
+/// Puts the canonical bytes at the front of a slice where there is room for them, and returns how many they are.
 fn put_lent(buf: &mut [u8], frame: LentFrame<'_>) -> usize
     requires stands { IsFrame frame }
     requires few { length (payload_of frame) < 2 ^ 32 }
-    requires room { (read : Frame) → StandsFor frame read → length (canon read) ≤ length buf.old }
-    ensures { (read : Frame) → StandsFor frame.entry read → Puts buf.old buf.new 0 (canon read) result }
+    ensures { (read : Frame) → StandsFor frame.entry read → PutsIfRoom buf.old buf.new 0 (canon read) result }
 {
     match frame {
         LentFrame::Method {
@@ -102,11 +94,24 @@ fn put_lent(buf: &mut [u8], frame: LentFrame<'_>) -> usize
             body_size,
             properties,
         } => put_header_frame(buf, channel, class_id, body_size, properties),
-        LentFrame::Body(channel, content) => put_framed(buf, 0, FRAME_BODY, channel, content),
-        LentFrame::ProtocolHeader(version) => put_bytes(buf, 0, &header_bytes(version)),
-        LentFrame::Heartbeat => put_bytes(buf, 0, &heartbeat_bytes(0)),
-        LentFrame::InvalidHeartbeat(channel) => put_bytes(buf, 0, &heartbeat_bytes(channel)),
+        LentFrame::Body(channel, content) => put_body_frame(buf, channel, content),
+        LentFrame::ProtocolHeader(version) => put_if_room::<Tested>(buf, 0, &header_bytes(version)),
+        LentFrame::Heartbeat => put_if_room::<Tested>(buf, 0, &heartbeat_bytes(0)),
+        LentFrame::InvalidHeartbeat(channel) => put_if_room::<Tested>(
+            buf,
+            0,
+            &heartbeat_bytes(channel),
+        ),
     }
+}
+
+/// How many canonical bytes the frame has that a borrowed frame stands for: they are put where there is no room.
+pub fn lent_size(frame: LentFrame<'_>) -> u64
+    requires stands { IsFrame frame }
+    requires few { length (payload_of frame) < 2 ^ 32 }
+    ensures { (read : Frame) → StandsFor frame.entry read → result ≡ length (canon read) }
+{
+    put_lent(&mut [], frame) as u64
 }
 
 /// Puts the canonical bytes of the frame that a borrowed frame stands for at the front of a slice, and returns how many

@@ -14,12 +14,13 @@ use Rattle.amqp_stream.specs.Steps.{Manner, text, refused}
 use Rattle.amqp_stream.specs.Manners.{mapping}
 use Rattle.amqp_stream.specs.Streaming.{Ending, finished, refused_by, stopped_by, ending_of, as_run, text_of, IsStep, WritesBy, HasWrittenBy, HasCauseBy, AtWanting, Streams, RunNeverBegan, answer_of, IsExactRun, UnlessStoppedBy, StreamsExactly, IsWelcome, IsDoneOrWanting}
 use Rattle.amqp_stream.specs.Transcribing.{answer_to, NeverBegan, TranscribesExactly, IsOkOrNoMemory}
-use Rattle.amqp_stream.proofs.Adding.{Gains-none}
+use Rattle.amqp_stream.specs.Runs.{WriterRun}
 use Rattle.amqp_stream.proofs.Transcribing.{Transcriber, maps, never_began, transcribes_exactly, unless, caused_by, written_unless}
+use Rattle.amqp_stream.proofs.Runs.{run_by, stream_error}
 use Rattle.amqp_stream.proofs.Writes.{kept}
 use Rattle.amqp_lines.specs.Lines.{line, lines}
 use Rattle.amqp_lines.specs.LineTexts.{HasNoLine, PutsLine}
-use Rattle.amqp_lines.specs.Dumping.{dumping, dumped, AtFrame, HasCauseDumped, HasWrittenDumped, Dumps}
+use Rattle.amqp_lines.specs.Dumping.{dumping, dumped, AtFrame, HasCauseDumped, HasWrittenDumped, Dumps, DumpRun}
 
 -- ---- one frame
 
@@ -56,7 +57,7 @@ unfolding refused
 none_refused s [] = refl
 none_refused s (f ∷ fs) = none_refused s fs
 
-pub welcome : (s : Unit {0}) (m : ℕ) (bytes : List ℕ) → IsWelcome dumping s m bytes
+welcome : (s : Unit {0}) (m : ℕ) (bytes : List ℕ) → IsWelcome dumping s m bytes
 welcome s m bytes = record { none_refused = none_refused s (front plain (Some m) bytes); ends = refl }
 
 -- ---- a run
@@ -105,16 +106,17 @@ dumps s t m turns a b k l r run =
       };
     }
 
-pub dumps_stream : (s t : Unit {0}) (m turns : ℕ) (a b : Supply) (k l : Store) (r : Result (Unit {0}) StreamError) → Streams dumping s t m turns a b k l (ending_of (as_run r)) ⊎ RunNeverBegan s t a b k l (ending_of {E = Infallible} (as_run r)) → Dumps m turns a b k l r ⊎ NeverBegan a b k l r
-dumps_stream s t m turns a b k l r (inl run) = inl (dumps s t m turns a b k l r run)
-dumps_stream s t m turns a b k l r (inr none) = inr (never_began none)
-
 ending_is : (r : Result (Unit {0}) StreamError) (error : StreamError) → r ≡ Err error → ending_of {E = Infallible} (as_run r) ≡ stopped_by (cause_of error)
 ending_is r error e = ap (λ x. ending_of (as_run x)) e
 
-pub never_untidy : (s t : Unit {0}) (m turns : ℕ) (a b : Supply) (k l : Store) (r : Result (Unit {0}) StreamError) → Streams dumping s t m turns a b k l (ending_of (as_run r)) ⊎ RunNeverBegan s t a b k l (ending_of {E = Infallible} (as_run r)) → r ≢ Err errors.NotTidy
-never_untidy s t m turns a b k l r (inl run) e = run.tidy_only (ending_is r errors.NotTidy e)
-never_untidy s t m turns a b k l r (inr none) e = let other = sym (ending_is r errors.NotTidy e) ∙ none.no_memory in absurd cc
+-- a call that ran, or never began
+abbrev pub RanOrNever : {S K : Type 0} → Unit {0} → Unit {0} → (S → Supply) → (K → Store) → ℕ → ℕ → S → S → K → K → Result (Unit {0}) StreamError → Type 0
+RanOrNever s t supply store m turns source source' sink sink' r =
+    WriterRun dumping s t supply store m turns source source' sink sink' (as_run r) ⊎ RunNeverBegan s t source source' sink sink' (ending_of {E = Infallible} (as_run r))
+
+pub never_untidy : {S K : Type 0} {s t : Unit {0}} {supply : S → Supply} {store : K → Store} {m turns : ℕ} {source source' : S} {sink sink' : K} (r : Result (Unit {0}) StreamError) → RanOrNever s t supply store m turns source source' sink sink' r → r ≢ Err errors.NotTidy
+never_untidy r (inl run) e = run.stream.tidy_only (ending_is r errors.NotTidy e)
+never_untidy r (inr none) e = let other = sym (ending_is r errors.NotTidy e) ∙ none.no_memory in absurd cc
 
 -- ---- the result by all of the bytes
 
@@ -140,19 +142,19 @@ unless_by finished g h = g h
 unless_by (refused_by why) g h = g h
 unless_by (stopped_by cause) g h = unless cause g h
 
-pub dumps_exactly : (s : Unit {0}) (m : ℕ) (bytes : List ℕ) (k l : Store) (r : Result (Unit {0}) StreamError) → StreamsExactly dumping s m bytes k l (ending_of (as_run r)) → TranscribesExactly lines plain m bytes k l r
+dumps_exactly : (s : Unit {0}) (m : ℕ) (bytes : List ℕ) (k l : Store) (r : Result (Unit {0}) StreamError) → StreamsExactly dumping s m bytes k l (ending_of (as_run r)) → TranscribesExactly lines plain m bytes k l r
 dumps_exactly s m bytes k l r run =
     let same : StreamsExactly without_memory s m bytes k l (ending_of (as_run r)) = record { written = run.written; gains = run.gains; answer = unless_by (ending_of (as_run r)) (exact_too s m bytes run.written (ending_of (as_run r))) run.answer } in
     transcribes_exactly (transcriber s) same
 
-pub done_or_wanting : (r : Result (Unit {0}) StreamError) → IsDoneOrWanting (ending_of {E = Infallible} (as_run r)) → IsOkOrNoMemory r
+done_or_wanting : (r : Result (Unit {0}) StreamError) → IsDoneOrWanting (ending_of {E = Infallible} (as_run r)) → IsOkOrNoMemory r
 done_or_wanting (Ok done) h = tt
 done_or_wanting (Err error) h = h
 
--- ---- memory that ran out before the first read
+-- ---- a whole call
 
-pub never : (a : Supply) (k : Store) → NeverBegan a a k k (Err errors.NoMemory)
-never a k = record { no_memory = refl; source = refl; sink = refl }
-
-pub nothing_exactly : (m : ℕ) (bytes : List ℕ) (k : Store) → TranscribesExactly lines plain m bytes k k (Err errors.NoMemory)
-nothing_exactly m bytes k = record { written = []; gains = Gains-none k; answer = tt }
+pub dump_run : {S K : Type 0} {s t : Unit {0}} {supply : S → Supply} {store : K → Store} {m turns : ℕ} {source source' : S} {sink sink' : K} (r : Result (Unit {0}) StreamError) → RanOrNever s t supply store m turns source source' sink sink' r
+    → DumpRun supply store m turns source source' sink sink' r ⊎ NeverBegan source source' sink sink' r
+dump_run {s = s} {t = t} {supply = supply} {store = store} {m = m} {turns = turns} {source = source} {source' = source'} {sink = sink} {sink' = sink'} r (inl run) =
+    inl (run_by (dumps s t m turns (supply source) (supply source') (store sink) (store sink') r) (stream_error r errors.TurnsSpent) (λ bytes. dumps_exactly s m bytes (store sink) (store sink') r) (λ bytes valid. (valid, welcome s m bytes)) (λ goes. done_or_wanting r) run)
+dump_run r (inr never) = inr (never_began never)

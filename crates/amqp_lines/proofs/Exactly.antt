@@ -1,18 +1,18 @@
 -- What is returned and written by all the bytes of a source, however they are cut.
-use Rattle.std.proofs.Common.{◌≡◌, ℕ, List, [], ◌∷◌, ◌++◌, Some, Result, Ok, Err, sym, ap, subst, ◌∙◌, append_assoc, append-nil}
+use Rattle.std.proofs.Common.{◌≡◌, ℕ, List, [], ◌∷◌, ◌++◌, ◌⊎◌, inr, Some, Result, Ok, Err, refl, sym, ap, subst, ◌∙◌, append_assoc, append-nil}
 use Rattle.amqp_wire.specs.Frames.{Frame}
 use Rattle.amqp_wire.specs.Canonical.{canon_frames}
 use Rattle.amqp_stream.specs.Ends.{Supply, Store}
 use Rattle.amqp_stream.specs.Writing.{IsPrefix}
 use Rattle.amqp_lines.specs.Lines.{lines}
-use Rattle.amqp_lines.specs.Undumping.{HoldsNewline, IsLongestText, Undumps, IsAnswerToText, UndumpsExactly}
+use Rattle.amqp_lines.specs.Undumping.{HoldsNewline, IsLongestText, Undumps, IsAnswerToText, UndumpsExactly, UndumpRun}
 use Rattle.amqp_lines.specs.declared.errors.UndumpError.{UndumpError}
 use Rattle.amqp_lines.specs.declared.errors.UndumpError.TheVariants as errors
 use Rattle.amqp_lines.proofs.TextFronts.{all_strict, is_longest}
 use Rattle.amqp_lines.proofs.Deciding.{fronts_of}
 use Rattle.amqp_lines.proofs.Gathering.{canon_both, at_none, longest_after, longest_is}
 use Rattle.amqp_lines.proofs.Undumps.{never_began}
-use Rattle.amqp_lines.proofs.Completing.{at_none_more, Left, left_of, empty_left}
+use Rattle.amqp_lines.proofs.Completing.{complete, at_none_more, Left, left_of, empty_left}
 
 -- a newline after the longest text ends it, whatever comes
 longest_more : (m : ℕ) (bytes more : List ℕ) (frames : List Frame) (rest : List ℕ) → HoldsNewline rest → IsLongestText m bytes frames rest → IsLongestText m (bytes ++ more) frames (rest ++ more)
@@ -78,6 +78,19 @@ module _ {m turns : ℕ} {a b : Supply} {k l : Store} (bytes : List ℕ) where
       by_answer (Err errors.WriteFault) u is = stopped_at (Err errors.WriteFault) u is (λ all rest part. part) u.writes
       by_answer (Err errors.NoMemory) u is = stopped_at (Err errors.NoMemory) u is (λ all rest part. part) u.writes
 
+-- ---- a whole call
+
+pub undump_run : {S K : Type 0} {supply : S → Supply} {store : K → Store} {m turns : ℕ} {source source' : S} {sink sink' : K} {r : Result (Unit {0}) UndumpError} → Undumps m turns (supply source) (supply source') (store sink) (store sink') r
+    → (turns ≡ 0 → source' ≡ source) → (turns ≡ 0 → sink' ≡ sink) → (turns ≡ 0 → (r ≡ Err errors.TurnsSpent) ⊎ (r ≡ Err errors.NoMemory)) → UndumpRun supply store m turns source source' sink sink' r
+undump_run {r = r} undumps unread unwritten spent = record {
+  stream = undumps;
+  unread = unread;
+  unwritten = unwritten;
+  spent = spent;
+  exact = λ bytes left. exactly bytes r undumps left;
+  complete = λ bytes left valid faultless. complete bytes undumps left valid faultless;
+}
+
 -- memory ran out before the first read
-pub never_exactly : (m turns : ℕ) (bytes : List ℕ) (a : Supply) (k : Store) → a.left ≡ Some bytes → UndumpsExactly m bytes k k (Err errors.NoMemory)
-never_exactly m turns bytes a k left = exactly bytes (Err errors.NoMemory) (never_began m turns a k) left
+pub never_ran : {S K : Type 0} {supply : S → Supply} {store : K → Store} {m turns : ℕ} {source : S} {sink : K} → UndumpRun supply store m turns source source sink sink (Err errors.NoMemory)
+never_ran {supply = supply} {store = store} {m = m} {turns = turns} {source = source} {sink = sink} = undump_run (never_began m turns (supply source) (store sink)) (λ none. refl) (λ none. refl) (λ none. inr refl)

@@ -1,5 +1,5 @@
 -- The line of a frame is what its canonical payload is rendered as, with the words in front.
-use Rattle.std.proofs.Common.{◌≡◌, ℕ, List, [], ◌∷◌, ◌++◌, get_or, drop, Option, Some, None, Result, Ok, Err, sym, ap, ap₂, subst, ◌∙◌, append_assoc, append-nil, arith}
+use Rattle.std.proofs.Common.{◌≡◌, ℕ, List, [], ◌∷◌, ◌++◌, drop, Option, Some, None, Result, Ok, Err, sym, ap, ap₂, subst, ◌∙◌, append_assoc, append-nil, arith}
 use Rattle.std.specs.Prelude.{codes, unwrap_or}
 use Rattle.std.specs.Fmt.{decimal}
 use Rattle.amqp_types.specs.Levels.{strict}
@@ -13,6 +13,7 @@ use Rattle.amqp_types.specs.ContentHeaders.{ContentHeader}
 use Rattle.amqp_types.specs.declared.errors.NoMemory.{NoMemory}
 use Rattle.amqp_wire.specs.declared.outline.FrameOutline.{FrameOutline}
 use Rattle.amqp_wire.specs.declared.outline.FrameOutline.TheVariants as outlines
+use Rattle.amqp_wire.specs.declared.version.ProtocolVersion.{ProtocolVersion}
 use Rattle.amqp_wire.specs.Frames.{Frame, Proto, Meth, Head, Body, Beat, BadBeat}
 use Rattle.amqp_wire.proofs.Outlined.{header_front}
 use Rattle.amqp_lines.specs.Slots.{slots_text, set_text}
@@ -93,12 +94,12 @@ written_after : (front old mid new text : List ℕ) (r : Result (Unit {0}) NoMem
 written_after front old mid new text (Ok done) e h = h ∙ ap (λ (xs : List ℕ). xs ++ text) e ∙ append_assoc old front text
 written_after front old mid new text (Err error) e h = tt
 
-pub version_said : (payload old a b c d e new : List ℕ) (r : Result (Unit {0}) NoMemory) → a ≡ old ++ codes "proto " → b ≡ a ++ decimal (get_or payload 0 0) → c ≡ b ++ codes "." → d ≡ c ++ decimal (get_or payload 1 0) → e ≡ d ++ codes "." → AppendsText e new (decimal (get_or payload 2 0)) r
-    → (major minor revision : ℕ) → payload ≡ major ∷ minor ∷ revision ∷ [] → AppendsText old new (words (Proto major minor revision)) r
+pub version_said : (old a b c d e new : List ℕ) (v : ProtocolVersion) (r : Result (Unit {0}) NoMemory) → a ≡ old ++ codes "proto " → b ≡ a ++ decimal v.major → c ≡ b ++ codes "." → d ≡ c ++ decimal v.minor → e ≡ d ++ codes "." → AppendsText e new (decimal v.revision) r
+    → (major minor revision : ℕ) → v ≡ record { major = major; minor = minor; revision = revision } → AppendsText old new (words (Proto major minor revision)) r
 unfolding words
-version_said payload old a b c d e new r one two three four five last major minor revision is =
-    let said = written_after (codes "proto ") old a new _ r one (written_after (decimal (get_or payload 0 0)) a b new _ r two (written_after (codes ".") b c new _ r three (written_after (decimal (get_or payload 1 0)) c d new _ r four (written_after (codes ".") d e new _ r five last)))) in
-    written_as old new _ _ r (ap (λ (ps : List ℕ). codes "proto " ++ (decimal (get_or ps 0 0) ++ (codes "." ++ (decimal (get_or ps 1 0) ++ (codes "." ++ decimal (get_or ps 2 0)))))) is) said
+version_said old a b c d e new v r one two three four five last major minor revision is =
+    let said = written_after (codes "proto ") old a new _ r one (written_after (decimal v.major) a b new _ r two (written_after (codes ".") b c new _ r three (written_after (decimal v.minor) c d new _ r four (written_after (codes ".") d e new _ r five last)))) in
+    written_as old new _ _ r (ap (λ (w : ProtocolVersion). codes "proto " ++ (decimal w.major ++ (codes "." ++ (decimal w.minor ++ (codes "." ++ decimal w.revision))))) is) said
 
 pub version_by : (outline : FrameOutline) (payload old new : List ℕ) (r : Result (Unit {0}) NoMemory) → outline ≡ outlines.ProtocolHeader → ((major minor revision : ℕ) → payload ≡ major ∷ minor ∷ revision ∷ [] → AppendsText old new (words (Proto major minor revision)) r)
     → (frame : Frame) → IsIn outline payload frame → AppendsText old new (words frame) r

@@ -9,7 +9,8 @@ use Rattle.amqp_stream.specs.declared.errors.StreamError.TheVariants as errors
 use Rattle.amqp_stream.specs.Errors.{cause_of}
 use Rattle.amqp_stream.specs.Ends.{Supply, Store, Takes, Gains, IsEmpty}
 use Rattle.amqp_stream.specs.Steps.{Manner}
-use Rattle.amqp_stream.specs.Transcribing.{transcript, IsSequence, IsBehindBy, IsCausedBy, IsWrittenUnless}
+use Rattle.amqp_stream.specs.Transcribing.{transcript, IsSequence, IsBehindBy, IsCausedBy, IsWrittenUnless, IsOkOrNoMemory}
+use Rattle.amqp_stream.specs.Runs.{TextRun}
 use Rattle.amqp_lines.specs.Lines.{line, lines}
 
 -- The line of each frame by itself, of whatever can be read. No frame is refused, the stream may end anywhere, and memory may run out at any frame.
@@ -52,3 +53,9 @@ pub record Dumps (m turns : ℕ) (a b : Supply) (k l : Store) (result : Result (
   pub writes : HasWrittenDumped (dumped m taken) written result
   pub cause : HasCauseDumped m turns taken written a b k l result
   pub behind : IsBehindBy lines plain m taken written (m + 8)
+
+-- a run that writes the lines of the frames
+abbrev pub DumpRun : {S K : Type 0} → (S → Supply) → (K → Store) → ℕ → ℕ → S → S → K → K → Result (Unit {0}) StreamError → Type 0
+DumpRun supply store m turns source source' sink sink' result = TextRun lines plain supply store m turns source source' sink sink' result
+    (Dumps m turns (supply source) (supply source') (store sink) (store sink') result)
+    (IsOkOrNoMemory result)

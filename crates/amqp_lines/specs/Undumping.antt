@@ -1,5 +1,5 @@
 -- What reading lines of a stream does: which bytes are taken, which frames are written, and why it ends.
-use Rattle.std.specs.Prelude.{◌≡◌, ◌≢◌, ℕ, ◌<◌, ◌≤◌, List, [], ◌∷◌, ◌++◌, length, Some, Result, Ok, Err}
+use Rattle.std.specs.Prelude.{◌≡◌, ◌≢◌, ◌⊎◌, ℕ, ◌<◌, ◌≤◌, List, [], ◌∷◌, ◌++◌, length, Some, Result, Ok, Err}
 use Rattle.amqp_types.specs.Levels.{strict}
 use Rattle.amqp_types.specs.Judging.{IsBytes}
 use Rattle.amqp_wire.specs.Frames.{Frame}
@@ -7,6 +7,7 @@ use Rattle.amqp_wire.specs.Canonical.{canon_frames}
 use Rattle.amqp_wire.specs.Spelling.{SpellsFrames}
 use Rattle.amqp_stream.specs.Ends.{Supply, Store, Takes, Gains, Rises, IsEmpty}
 use Rattle.amqp_stream.specs.Writing.{IsPrefix}
+use Rattle.amqp_stream.specs.Runs.{Runs}
 use Rattle.amqp_lines.specs.Lines.{lines}
 use Rattle.amqp_lines.specs.declared.errors.UndumpError.{UndumpError}
 use Rattle.amqp_lines.specs.declared.errors.UndumpError.TheVariants as errors
@@ -107,3 +108,12 @@ abbrev pub IsOkOrNoMemory : Result (Unit {0}) UndumpError → Type 0
 IsOkOrNoMemory (Ok done) = Unit {0}
 IsOkOrNoMemory (Err errors.NoMemory) = Unit {0}
 IsOkOrNoMemory (Err error) = ⊥
+
+-- A run that writes the canonical bytes of the frames of lines. Memory may run out before the first read.
+abbrev pub UndumpRun : {S K : Type 0} → (S → Supply) → (K → Store) → ℕ → ℕ → S → S → K → K → Result (Unit {0}) UndumpError → Type 0
+UndumpRun supply store m turns source source' sink sink' result = Runs supply store turns source source' sink sink'
+    (Undumps m turns (supply source) (supply source') (store sink) (store sink') result)
+    ((result ≡ Err errors.TurnsSpent) ⊎ (result ≡ Err errors.NoMemory))
+    (λ bytes. UndumpsExactly m bytes (store sink) (store sink') result)
+    (IsValidText m turns)
+    (IsOkOrNoMemory result)

@@ -1,10 +1,8 @@
 //! Streams whose frames are written as lines of text.
 
-ghost use Rattle.std.specs.Prelude.{◌≡◌, ◌≢◌, ◌⊎◌, ℕ, List, Some, Err};
-ghost use Rattle.amqp_types.specs.Levels.{plain};
-ghost use Rattle.amqp_stream.specs.Transcribing.{TranscribesExactly, NeverBegan, IsValid, NoFaults, IsOkOrNoMemory};
-ghost use Rattle.amqp_lines.specs.Lines.{lines};
-ghost use Rattle.amqp_lines.specs.Dumping.{Dumps};
+ghost use Rattle.std.specs.Prelude.{◌≢◌, ◌⊎◌, Err};
+ghost use Rattle.amqp_stream.specs.Transcribing.{NeverBegan};
+ghost use Rattle.amqp_lines.specs.Dumping.{DumpRun};
 
 use crate::line_text::LineText;
 use amqp_stream::{
@@ -66,21 +64,9 @@ pub fn dump<S: Source, K: Sink>(
     max_payload: ChunkSize,
     turns: u64,
 ) -> Result<(), StreamError>
-    ensures stream { Dumps max_payload turns (S.supply source.old) (S.supply source.new)
-        (K.store sink.old) (K.store sink.new) result
-        ⊎ NeverBegan (S.supply source.old) (S.supply source.new) (K.store sink.old) (K.store sink.new) result }
-    ensures unread { turns ≡ 0 → source.new ≡ source.old }
-    ensures spent { turns ≡ 0 → (result ≡ Err StreamError.TurnsSpent) ⊎ (result ≡ Err StreamError.NoMemory) }
-    ensures unwritten { turns ≡ 0 → sink.new ≡ sink.old }
+    ensures run { DumpRun S.supply K.store max_payload turns source.old source.new sink.old sink.new result
+        ⊎ NeverBegan source.old source.new sink.old sink.new result }
     ensures never_untidy { result ≢ Err StreamError.NotTidy }
-
-    // Over a source that reports its bytes, the result depends on all of them, however they are cut.
-    ensures exact { (bytes : List ℕ) → (S.supply source.old).left ≡ Some bytes
-        → TranscribesExactly lines plain max_payload bytes (K.store sink.old) (K.store sink.new) result }
-    ensures complete { (bytes : List ℕ) → (S.supply source.old).left ≡ Some bytes
-        → IsValid plain max_payload turns bytes
-        → NoFaults (S.supply source.old) (S.supply source.new) (K.store sink.old) (K.store sink.new)
-        → IsOkOrNoMemory result }
 {
     match LineText::open(alloc) {
         Ok(text) => {

@@ -13,7 +13,7 @@ use crate::slots::{write_properties, write_slots};
 use crate::words::{write_bytes, write_decimal, write_hex};
 use amqp_canonical::{bytes_from, shapes_of};
 use amqp_types::{ChannelId, Identifier, NoMemory, PayloadSize};
-use amqp_wire::FrameOutline;
+use amqp_wire::{FrameOutline, ProtocolVersion};
 
 /// A space and a number in decimal.
 #[tactic(auto, unfolding(crate::specs::Lines::spaced))]
@@ -29,16 +29,16 @@ fn write_version(out: &mut Vec<u8>, payload: &[u8]) -> Result<(), NoMemory>
     ensures { (major minor revision : ℕ) → payload.now ≡ major ∷ minor ∷ revision ∷ []
         → AppendsText out.old.items out.new.items (words (Proto major minor revision)) result }
 {
-    match payload {
-        [major, minor, revision] => {
+    match ProtocolVersion::from_payload(payload) {
+        Ok(version) => {
             write_bytes(out, b"proto ")?;
-            write_decimal(out, *major as u64)?;
+            write_decimal(out, version.major as u64)?;
             out.push(b'.')?;
-            write_decimal(out, *minor as u64)?;
+            write_decimal(out, version.minor as u64)?;
             out.push(b'.')?;
-            write_decimal(out, *revision as u64)
+            write_decimal(out, version.revision as u64)
         }
-        _ => Ok(()),
+        Err(_) => Ok(()),
     }
 }
 

@@ -1,10 +1,9 @@
 //! Streams of lines, whose frames are written as their canonical bytes.
 
-ghost use Rattle.std.specs.Prelude.{◌≡◌, ◌⊎◌, ◌-◌, ◌<◌, ◌≤◌, ℕ, List, [], Some, Err, drop, length, take, vec_len, IfOk};
+ghost use Rattle.std.specs.Prelude.{◌≡◌, ◌-◌, ◌<◌, ◌≤◌, [], Err, drop, length, take, vec_len, IfOk};
 ghost use Rattle.amqp_stream.specs.Ends.{Supply};
-ghost use Rattle.amqp_stream.specs.Transcribing.{NoFaults};
 ghost use Rattle.amqp_lines.specs.LineReading.{EndsLine, GathersLine, GathersLines, HasNoNewline, ReadsOnce, StopsWith, end_of_text};
-ghost use Rattle.amqp_lines.specs.Undumping.{IsOkOrNoMemory, IsValidText, Undumps, UndumpsExactly, read_size};
+ghost use Rattle.amqp_lines.specs.Undumping.{Undumps, UndumpRun, read_size};
 
 use crate::errors::UndumpError;
 use crate::line_reading::LineReader;
@@ -229,18 +228,7 @@ pub fn undump<S: Source, K: Sink>(
     max_payload: ChunkSize,
     turns: u64,
 ) -> Result<(), UndumpError>
-    ensures stream { Undumps max_payload turns (S.supply source.old) (S.supply source.new) (K.store sink.old) (K.store sink.new) result }
-    ensures unread { turns ≡ 0 → source.new ≡ source.old }
-    ensures spent { turns ≡ 0 → (result ≡ Err UndumpError.TurnsSpent) ⊎ (result ≡ Err UndumpError.NoMemory) }
-    ensures unwritten { turns ≡ 0 → sink.new ≡ sink.old }
-
-    // Over a source that reports its bytes, the result follows from all of them, however they are cut.
-    ensures exact { (bytes : List ℕ) → (S.supply source.old).left ≡ Some bytes
-        → UndumpsExactly max_payload bytes (K.store sink.old) (K.store sink.new) result }
-    ensures complete { (bytes : List ℕ) → (S.supply source.old).left ≡ Some bytes
-        → IsValidText max_payload turns bytes
-        → NoFaults (S.supply source.old) (S.supply source.new) (K.store sink.old) (K.store sink.new)
-        → IsOkOrNoMemory result }
+    ensures run { UndumpRun S.supply K.store max_payload turns source.old source.new sink.old sink.new result }
 {
     match Lines::open(alloc) {
         Err(_) => Err(UndumpError::NoMemory),

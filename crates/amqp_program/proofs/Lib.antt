@@ -2,6 +2,7 @@
 pub mod TextReading
 pub mod HexRuns
 pub mod HexApart
+pub mod Ran
 pub mod RawRuns
 pub mod TurnStatuses
 pub mod RecutRuns

@@ -1,43 +1,44 @@
 -- How a run of `make` goes: what is made is valid input, and the sink that counts never fails.
-use Rattle.std.proofs.Common.{◌≡◌, ◌≢◌, ℕ, ◌+◌, ◌<◌, ◌≤◌, List, ◌++◌, length, ◌⊎◌, Some, Result, Err, refl, sym, ap, subst, ◌∙◌, inl, inr, arith}
+use Rattle.std.proofs.Common.{◌≡◌, ◌≢◌, ℕ, ◌+◌, ◌<◌, ◌≤◌, List, ◌++◌, length, ◌⊎◌, Result, Err, refl, sym, ap, subst, ◌∙◌, inl, inr, arith}
 use Rattle.std.proofs.lemmas.List.{length-append}
 use Rattle.amqp_types.specs.Levels.{plain}
 use Rattle.amqp_stream.specs.declared.errors.StreamError.{StreamError}
 use Rattle.amqp_stream.specs.declared.errors.StreamError.TheVariants as errors
 use Rattle.amqp_stream.specs.Ends.{last}
 use Rattle.amqp_stream.specs.Scripts.{faultless, Counted, count_of}
-use Rattle.amqp_stream.specs.Transcribing.{IsSequence, NeverBegan, IsValid, NoFaults, IsOkOrNoMemory}
-use Rattle.amqp_stream.specs.Canonicalizing.{Canonicalizes}
+use Rattle.amqp_stream.specs.Transcribing.{IsSequence, NeverBegan, IsOkOrNoMemory}
+use Rattle.amqp_stream.specs.Runs.{CanonicalRun}
 use Rattle.amqp_stream.specs.Made.{made, most_frames}
 use Rattle.amqp_stream.proofs.MadeFrames.{all_made}
 use Rattle.amqp_stream.proofs.MadeSizes.{made-short}
 use Rattle.amqp_program.specs.Reports.{max_payload}
+use Rattle.amqp_program.proofs.Ran.{complete_of, never_done, ok_done}
 
 made_sequence : (n : ℕ) → IsSequence plain max_payload (made n)
 made_sequence n = let sequence = all_made n in (sequence.frames, sequence.spelled)
 
 -- A call over a source that never fails into a sink that counts. It ran, or never began.
 abbrev Ran : ℕ → List ℕ → List ℕ → Counted → Counted → Result (Unit {0}) StreamError → Type 0
-Ran turns bytes rest k l r = Canonicalizes plain max_payload turns (faultless bytes) (faultless rest) (count_of k) (count_of l) r ⊎ NeverBegan (faultless bytes) (faultless rest) (count_of k) (count_of l) r
+Ran turns bytes rest k l r = CanonicalRun plain faultless count_of max_payload turns bytes rest k l r ⊎ NeverBegan bytes rest k l r
 
 -- no more was counted than there was
 few_counted : (turns : ℕ) (bytes rest : List ℕ) (k l : Counted) (r : Result (Unit {0}) StreamError) → Ran turns bytes rest k l r → l.total ≤ k.total + length bytes
-few_counted turns bytes rest k l r (inl c) =
+few_counted turns bytes rest k l r (inl ran) =
+    let c = ran.stream in
     let all : bytes ≡ c.run.taken ++ rest = let same = c.run.takes.bytes in cc in
     let total : l.total ≡ k.total + length c.run.written = let same = c.run.gains.bytes in cc in
     omega (arith, ap length all, length-append c.run.taken rest, c.no_longer)
 few_counted turns bytes rest k l r (inr never) =
-    let same : l.total ≡ k.total = let told = ap (λ s. s.taken) never.sink in cc in
-    omega arith
+    omega (arith, ap (λ s. s.total) never.sink_stays)
 
 -- only running out of memory keeps a run from being done
-pub made_or_no_memory : (n turns : ℕ) (bytes rest : List ℕ) (k l : Counted) (r : Result (Unit {0}) StreamError) → n ≤ most_frames → bytes ≡ made n → turns ≡ length (made n) + 1 → k ≡ record { total = 0; faults = 0 } → Ran turns bytes rest k l r → (l.total < last → l.faults ≡ 0) → ((input : List ℕ) → Some bytes ≡ Some input → IsValid plain max_payload turns input → NoFaults (faultless bytes) (faultless rest) (count_of k) (count_of l) → IsOkOrNoMemory r) → IsOkOrNoMemory r
-made_or_no_memory n turns bytes rest k l r few is enough start ran below complete =
+pub made_or_no_memory : (n turns : ℕ) (bytes rest : List ℕ) (k l : Counted) (r : Result (Unit {0}) StreamError) → n ≤ most_frames → bytes ≡ made n → turns ≡ length (made n) + 1 → k ≡ record { total = 0; faults = 0 } → Ran turns bytes rest k l r → (l.total < last → l.faults ≡ 0) → IsOkOrNoMemory r
+made_or_no_memory n turns bytes rest k l r few is enough start ran below =
     let len : length bytes ≡ length (made n) = ap length is in
     let zero : k.total ≡ 0 = ap (λ s. s.total) start in
     let none : k.faults ≡ 0 = ap (λ s. s.faults) start in
     let total : l.total < last = omega (arith, few_counted turns bytes rest k l r ran, made-short n few) in
-    complete bytes refl (record { sequence = subst (IsSequence plain max_payload) (sym is) (made_sequence n); enough = omega arith }) (record {
+    complete_of ok_done never_done ran bytes refl (record { sequence = subst (IsSequence plain max_payload) (sym is) (made_sequence n); enough = omega arith }) (record {
       source = refl;
       source_below = omega arith;
       sink = below total ∙ sym none;

@@ -1,14 +1,17 @@
 -- How a run of `raw` ends.
-use Rattle.std.proofs.Common.{◌≡◌, ◌≢◌, ℕ, List, ◌⊎◌, Some, Result, Ok, Err, refl, sym, subst, ◌∙◌, inl, inr}
+use Rattle.std.proofs.Common.{◌≡◌, ◌≢◌, ℕ, List, ◌⊎◌, Result, Ok, Err, refl, sym, subst, ◌∙◌, inl, inr}
 use Rattle.amqp_types.specs.Levels.{plain}
 use Rattle.amqp_stream.specs.declared.errors.StreamError.{StreamError}
 use Rattle.amqp_stream.specs.declared.errors.StreamError.TheVariants as errors
 use Rattle.amqp_wire.specs.Canonical.{canon_frames}
 use Rattle.amqp_stream.specs.Ends.{Supply, Store, Gains}
-use Rattle.amqp_stream.specs.Transcribing.{HasCause, HasWritten, transcript, NeverBegan, IsValid, NoFaults, IsOkOrNoMemory}
-use Rattle.amqp_stream.specs.Canonicalizing.{canon_of, Canonicalizes, AnswersExactly}
+use Rattle.amqp_stream.specs.Transcribing.{HasCause, HasWritten, transcript, NeverBegan, IsOkOrNoMemory}
+use Rattle.amqp_stream.specs.Canonicalizing.{canon_of, Canonicalizes}
+use Rattle.amqp_stream.specs.Runs.{CanonicalRun}
+use Rattle.amqp_stream.proofs.Transcribing.{never_out_of_memory}
 use Rattle.amqp_program.specs.Reports.{max_payload}
 use Rattle.amqp_program.specs.Runs.{AcceptsRaw, IsDoneOrNoMemory, RunsRaw, raw_turns}
+use Rattle.amqp_program.proofs.Ran.{stream_of, exact_of, complete_of, other_of, never_at, never_exactly, never_done, ok_done}
 use Rattle.amqp_program.proofs.Statuses.{answer_status_not_two, answer_status_three, answer_status_zero}
 use Rattle.amqp_stream.specs.Errors.{status_of}
 
@@ -36,14 +39,18 @@ accepted a b k l answer (inl c) e =
 accepted a b k l answer (inr never) e = let other = sym never.no_memory ∙ e in absurd cc
 
 -- a run with this result
-pub raw_runs : (a b : Supply) (k l : Store) (answer : Result (Unit {0}) StreamError) (status : ℕ) → status ≡ status_of answer → Canonicalizes plain max_payload raw_turns a b k l answer ⊎ NeverBegan a b k l answer → (answer ≡ Err errors.NoMemory → NeverBegan a b k l answer) → ((input : List ℕ) → a.left ≡ Some input → AnswersExactly plain max_payload input k l answer) → ((input : List ℕ) → a.left ≡ Some input → IsValid plain max_payload raw_turns input → NoFaults a b k l → IsOkOrNoMemory answer) → RunsRaw a b k l status
-raw_runs a b k l answer status e stream memory exact complete = record {
-  answer = answer;
-  status_is = e;
-  stream = stream;
-  memory = memory;
-  no_memory = λ three. memory (answer_status_three answer (sym e ∙ three));
-  accepts = λ zero. accepted a b k l answer stream (answer_status_zero answer (sym e ∙ zero));
-  exact = exact;
-  complete = λ input left valid none. subst IsDoneOrNoMemory (sym e) (done_or_no_memory answer (complete input left valid none));
-}
+pub raw_runs : {S K : Type 0} (supply : S → Supply) (store : K → Store) (source source' : S) (sink sink' : K) (answer : Result (Unit {0}) StreamError) (status : ℕ) → status ≡ status_of answer
+    → CanonicalRun plain supply store max_payload raw_turns source source' sink sink' answer ⊎ NeverBegan source source' sink sink' answer → RunsRaw (supply source) (supply source') (store sink) (store sink') status
+raw_runs supply store source source' sink sink' answer status e ran =
+    let stream = stream_of (never_at supply store) ran in
+    let memory = other_of (λ (goes : Canonicalizes plain max_payload raw_turns (supply source) (supply source') (store sink) (store sink') answer). never_out_of_memory goes.run) stream in
+    record {
+      answer = answer;
+      status_is = e;
+      stream = stream;
+      memory = memory;
+      no_memory = λ three. memory (answer_status_three answer (sym e ∙ three));
+      accepts = λ zero. accepted (supply source) (supply source') (store sink) (store sink') answer stream (answer_status_zero answer (sym e ∙ zero));
+      exact = exact_of (never_exactly canon_frames plain max_payload store) ran;
+      complete = λ input left valid none. subst IsDoneOrNoMemory (sym e) (done_or_no_memory answer (complete_of ok_done never_done ran input left valid none));
+    }

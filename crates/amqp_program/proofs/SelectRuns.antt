@@ -1,18 +1,19 @@
 -- A run of `select`.
-use Rattle.std.proofs.Common.{◌≡◌, ◌≢◌, ℕ, List, [], ◌⊎◌, inr, Some, Result, Err, refl, sym, ap, subst, ◌∙◌}
+use Rattle.std.proofs.Common.{◌≡◌, ◌≢◌, ℕ, List, ◌⊎◌, inr, Result, Err, refl, sym, ap, subst, ◌∙◌}
 use Rattle.amqp_types.specs.Levels.{plain}
 use Rattle.amqp_stream.specs.declared.errors.StreamError.{StreamError}
 use Rattle.amqp_stream.specs.declared.errors.StreamError.TheVariants as errors
 use Rattle.amqp_stream.specs.Ends.{Supply, Store}
-use Rattle.amqp_stream.specs.Transcribing.{Transcribes, TranscribesExactly, NeverBegan, IsValid, NoFaults, IsOkOrNoMemory}
-use Rattle.amqp_stream.proofs.Adding.{Gains-none}
+use Rattle.amqp_stream.specs.Transcribing.{Transcribes, TranscribesExactly, NeverBegan}
+use Rattle.amqp_stream.proofs.Transcribing.{never_out_of_memory}
 use Rattle.amqp_select.specs.declared.rule.Rule.{Rule}
 use Rattle.amqp_select.specs.Refusals.{Spell}
 use Rattle.amqp_select.specs.Covering.{uncovered}
-use Rattle.amqp_select.specs.Selecting.{selection}
+use Rattle.amqp_select.specs.Selecting.{selection, SelectRun}
 use Rattle.amqp_program.specs.Commands.{AreNamed}
 use Rattle.amqp_program.specs.Reports.{max_payload}
 use Rattle.amqp_program.specs.Runs.{IsDoneOrNoMemory, RunsSelect, raw_turns}
+use Rattle.amqp_program.proofs.Ran.{stream_of, exact_of, complete_of, other_of, never_at, never_exactly, never_done, ok_done}
 use Rattle.amqp_program.proofs.RawRuns.{done_or_no_memory}
 use Rattle.amqp_program.proofs.Selections.{one_spelling, same_selection}
 use Rattle.amqp_program.proofs.Statuses.{answer_status_not_two, answer_status_three}
@@ -22,15 +23,18 @@ pub select_not_two : (rules : List Rule) (a b : Supply) (k l : Store) (status : 
 select_not_two rules a b k l status run h = answer_status_not_two run.answer (sym run.status_is ∙ h)
 
 -- a run with this result
-pub select_runs : (rules : List Rule) (a b : Supply) (k l : Store) (answer : Result (Unit {0}) StreamError) (status : ℕ) → status ≡ status_of answer → Transcribes (selection rules) plain max_payload raw_turns a b k l answer ⊎ NeverBegan a b k l answer → (answer ≡ Err errors.NoMemory → NeverBegan a b k l answer) → ((input : List ℕ) → a.left ≡ Some input → TranscribesExactly (selection rules) plain max_payload input k l answer) → ((input : List ℕ) → a.left ≡ Some input → IsValid plain max_payload raw_turns input → NoFaults a b k l → IsOkOrNoMemory answer) → RunsSelect rules a b k l status
-select_runs rules a b k l answer status e stream memory exact complete = record {
-  answer = answer;
-  status_is = e;
-  stream = stream;
-  no_memory = λ three. memory (answer_status_three answer (sym e ∙ three));
-  exact = exact;
-  complete = λ input left valid none. subst IsDoneOrNoMemory (sym e) (done_or_no_memory answer (complete input left valid none));
-}
+pub select_runs : {S K : Type 0} (rules : List Rule) (supply : S → Supply) (store : K → Store) (source source' : S) (sink sink' : K) (answer : Result (Unit {0}) StreamError) (status : ℕ) → status ≡ status_of answer
+    → SelectRun rules supply store max_payload raw_turns source source' sink sink' answer ⊎ NeverBegan source source' sink sink' answer → RunsSelect rules (supply source) (supply source') (store sink) (store sink') status
+select_runs rules supply store source source' sink sink' answer status e ran =
+    let stream = stream_of (never_at supply store) ran in
+    record {
+      answer = answer;
+      status_is = e;
+      stream = stream;
+      no_memory = λ three. other_of never_out_of_memory stream (answer_status_three answer (sym e ∙ three));
+      exact = exact_of (never_exactly (selection rules) plain max_payload store) ran;
+      complete = λ input left valid none. subst IsDoneOrNoMemory (sym e) (done_or_no_memory answer (complete_of ok_done never_done ran input left valid none));
+    }
 
 -- the run by the rules that no earlier one covers is the run by all
 by_all : (rules : List Rule) (a b : Supply) (k l : Store) (status : ℕ) → RunsSelect (uncovered rules) a b k l status → RunsSelect rules a b k l status
@@ -50,11 +54,4 @@ runs_named words found rules a b k l status named spell run =
 
 -- memory ran out before the run began
 pub select_without_memory : (rules : List Rule) (a : Supply) (k : Store) → RunsSelect rules a a k k 3
-select_without_memory rules a k = let never : NeverBegan a a k k (Err errors.NoMemory) = record { no_memory = refl; source = refl; sink = refl } in record {
-  answer = Err errors.NoMemory;
-  status_is = refl;
-  stream = inr never;
-  no_memory = λ three. never;
-  exact = λ input left. record { written = []; gains = Gains-none k; answer = tt };
-  complete = λ input left valid none. inr refl;
-}
+select_without_memory rules a k = select_runs rules (λ b. b) (λ l. l) a a k k (Err errors.NoMemory) 3 refl (inr (record { no_memory = refl; source_stays = refl; sink_stays = refl }))

@@ -1,18 +1,17 @@
 -- Runs of `dump` and of `undump`.
-use Rattle.std.proofs.Common.{◌≡◌, ◌≢◌, ℕ, List, ◌⊎◌, Some, Result, Ok, Err, inl, inr, refl, sym, subst, ◌∙◌, arith}
+use Rattle.std.proofs.Common.{◌≡◌, ◌≢◌, ℕ, ◌⊎◌, Result, Ok, Err, inl, inr, refl, sym, subst, ◌∙◌, arith}
 use Rattle.amqp_types.specs.Levels.{plain}
 use Rattle.amqp_stream.specs.declared.errors.StreamError.{StreamError}
 use Rattle.amqp_stream.specs.Ends.{Supply, Store}
-use Rattle.amqp_stream.specs.Transcribing.{TranscribesExactly, NeverBegan, IsValid, NoFaults, IsOkOrNoMemory}
+use Rattle.amqp_stream.specs.Transcribing.{NeverBegan}
 use Rattle.amqp_lines.specs.Lines.{lines}
-use Rattle.amqp_lines.specs.Dumping.{Dumps}
-use Rattle.amqp_lines.specs.Undumping.{Undumps, UndumpsExactly}
-use Rattle.amqp_lines.specs.Undumping.{IsValidText}
-use Rattle.amqp_lines.specs.Undumping.{IsOkOrNoMemory as IsUndumpedOrNoMemory}
+use Rattle.amqp_lines.specs.Dumping.{DumpRun}
+use Rattle.amqp_lines.specs.Undumping.{UndumpRun, IsOkOrNoMemory as IsUndumpedOrNoMemory}
 use Rattle.amqp_lines.specs.declared.errors.UndumpError.{UndumpError}
 use Rattle.amqp_lines.specs.declared.errors.UndumpError.TheVariants as undumps
 use Rattle.amqp_program.specs.Reports.{max_payload}
 use Rattle.amqp_program.specs.Runs.{IsDoneOrNoMemory, RunsDump, RunsUndump, raw_turns, undump_status_of}
+use Rattle.amqp_program.proofs.Ran.{stream_of, exact_of, complete_of, never_at, never_exactly, never_done}
 use Rattle.amqp_program.proofs.RawRuns.{done_or_no_memory}
 use Rattle.amqp_program.proofs.Statuses.{answer_status_not_two}
 use Rattle.amqp_stream.specs.Errors.{status_of}
@@ -21,13 +20,14 @@ pub dump_not_two : (a b : Supply) (k l : Store) (status : ℕ) → RunsDump a b 
 dump_not_two a b k l status run h = answer_status_not_two run.answer (sym run.status_is ∙ h)
 
 -- a run with this result
-pub dump_runs : (a b : Supply) (k l : Store) (answer : Result (Unit {0}) StreamError) (status : ℕ) → status ≡ status_of answer → Dumps max_payload raw_turns a b k l answer ⊎ NeverBegan a b k l answer → ((input : List ℕ) → a.left ≡ Some input → TranscribesExactly lines plain max_payload input k l answer) → ((input : List ℕ) → a.left ≡ Some input → IsValid plain max_payload raw_turns input → NoFaults a b k l → IsOkOrNoMemory answer) → RunsDump a b k l status
-dump_runs a b k l answer status e stream exact complete = record {
+pub dump_runs : {S K : Type 0} (supply : S → Supply) (store : K → Store) (source source' : S) (sink sink' : K) (answer : Result (Unit {0}) StreamError) (status : ℕ) → status ≡ status_of answer
+    → DumpRun supply store max_payload raw_turns source source' sink sink' answer ⊎ NeverBegan source source' sink sink' answer → RunsDump (supply source) (supply source') (store sink) (store sink') status
+dump_runs supply store source source' sink sink' answer status e ran = record {
   answer = answer;
   status_is = e;
-  stream = stream;
-  exact = exact;
-  complete = λ input left valid none. subst IsDoneOrNoMemory (sym e) (done_or_no_memory answer (complete input left valid none));
+  stream = stream_of (never_at supply store) ran;
+  exact = exact_of (never_exactly lines plain max_payload store) ran;
+  complete = λ input left valid none. subst IsDoneOrNoMemory (sym e) (done_or_no_memory answer (complete_of (λ done. done) never_done ran input left valid none));
 }
 
 -- ---- `undump`
@@ -44,11 +44,12 @@ pub undump_not_two : (a b : Supply) (k l : Store) (status : ℕ) → RunsUndump 
 undump_not_two a b k l status run h = answer_not_two run.answer (sym run.status_is ∙ h)
 
 -- a run with this result
-pub undump_runs : (a b : Supply) (k l : Store) (answer : Result (Unit {0}) UndumpError) (status : ℕ) → status ≡ undump_status_of answer → Undumps max_payload raw_turns a b k l answer → ((input : List ℕ) → a.left ≡ Some input → UndumpsExactly max_payload input k l answer) → ((input : List ℕ) → a.left ≡ Some input → IsValidText max_payload raw_turns input → NoFaults a b k l → IsUndumpedOrNoMemory answer) → RunsUndump a b k l status
-undump_runs a b k l answer status e stream exact complete = record {
+pub undump_runs : {S K : Type 0} (supply : S → Supply) (store : K → Store) (source source' : S) (sink sink' : K) (answer : Result (Unit {0}) UndumpError) (status : ℕ) → status ≡ undump_status_of answer
+    → UndumpRun supply store max_payload raw_turns source source' sink sink' answer → RunsUndump (supply source) (supply source') (store sink) (store sink') status
+undump_runs supply store source source' sink sink' answer status e run = record {
   answer = answer;
   status_is = e;
-  stream = stream;
-  exact = exact;
-  complete = λ input left valid none. subst IsDoneOrNoMemory (sym e) (undump_done answer (complete input left valid none));
+  stream = run.stream;
+  exact = run.exact;
+  complete = λ input left valid none. subst IsDoneOrNoMemory (sym e) (undump_done answer (run.complete input left valid none));
 }

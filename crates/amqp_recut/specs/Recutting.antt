@@ -4,7 +4,7 @@ use Rattle.amqp_wire.specs.Frames.{Frame}
 use Rattle.amqp_wire.specs.Canonical.{canon_frames}
 use Rattle.amqp_stream.specs.Ends.{Supply, Store}
 use Rattle.amqp_in_turn.specs.declared.errors.TurnError.{TurnError}
-use Rattle.amqp_in_turn.specs.Turning.{GoesInTurn, GoesExactly}
+use Rattle.amqp_in_turn.specs.Turning.{GoesInTurn, GoesExactly, TurnRun}
 use Rattle.amqp_recut.specs.Cuts.{recut}
 use Rattle.amqp_recut.specs.Stepping.{is_content_type}
 
@@ -19,3 +19,7 @@ Recuts m size turns a b k l result = GoesInTurn (recut_bytes size) is_content_ty
 -- what a call returns and writes over a source that reports its bytes
 abbrev pub RecutsExactly : ℕ → ℕ → List ℕ → Store → Store → Result (Unit {0}) TurnError → Type 0
 RecutsExactly m size bytes k l result = GoesExactly (recut_bytes size) m bytes k l result
+
+-- a run that writes the canonical bytes of frames recut
+abbrev pub RecutRun : {S K : Type 0} → ℕ → (S → Supply) → (K → Store) → ℕ → ℕ → S → S → K → K → Result (Unit {0}) TurnError → Type 0
+RecutRun size = TurnRun (recut_bytes size) is_content_type

@@ -1,10 +1,8 @@
 //! Streams whose messages have their bodies cut anew.
 
-ghost use Rattle.std.specs.Prelude.{◌≡◌, ◌≢◌, ◌⊎◌, ◌≤◌, ℕ, List, Some, Ok, Err};
-ghost use Rattle.amqp_types.specs.Levels.{plain};
-ghost use Rattle.amqp_stream.specs.Transcribing.{IsValid, NoFaults};
-ghost use Rattle.amqp_in_turn.specs.Turning.{NeverBegan, IsComplete, IsOkOrNoMemory};
-ghost use Rattle.amqp_recut.specs.Recutting.{Recuts, RecutsExactly};
+ghost use Rattle.std.specs.Prelude.{◌≢◌, ◌⊎◌, ◌≤◌, Err};
+ghost use Rattle.amqp_in_turn.specs.Turning.{NeverBegan};
+ghost use Rattle.amqp_recut.specs.Recutting.{RecutRun};
 
 use crate::recutter::Recutter;
 use amqp_in_turn::{TurnError as RecutError, as_turned};
@@ -26,23 +24,11 @@ pub fn recut<S: Source, K: Sink>(
 ) -> Result<(), RecutError>
     requires some { 1 ≤ size }
     requires fits { size ≤ max_payload }
-    ensures stream { Recuts max_payload size turns (S.supply source.old) (S.supply source.new) (K.store sink.old) (K.store sink.new) result
-        ⊎ NeverBegan (S.supply source.old) (S.supply source.new) (K.store sink.old) (K.store sink.new) result }
-    ensures unread { turns ≡ 0 → source.new ≡ source.old }
-    ensures spent { turns ≡ 0 → (result ≡ Err (RecutError.Stream StreamError.TurnsSpent)) ⊎ (result ≡ Err (RecutError.Stream StreamError.NoMemory)) }
-    ensures unwritten { turns ≡ 0 → sink.new ≡ sink.old }
+    ensures run { RecutRun size S.supply K.store max_payload turns source.old source.new sink.old sink.new result
+        ⊎ NeverBegan source.old source.new sink.old sink.new result }
     ensures never_untidy { result ≢ Err (RecutError.Stream StreamError.NotTidy) }
     ensures never_too_large { result ≢ Err (RecutError.BadContent ContentFault.BodyTooLarge) }
     ensures never_faulted { result ≢ Err (RecutError.BadContent ContentFault.Faulted) }
-
-    // Over a source that reports its bytes, the result depends on them alone, however they are cut.
-    ensures exact { (bytes : List ℕ) → (S.supply source.old).left ≡ Some bytes
-        → RecutsExactly max_payload size bytes (K.store sink.old) (K.store sink.new) result }
-    ensures complete { (bytes : List ℕ) → (S.supply source.old).left ≡ Some bytes
-        → IsValid plain max_payload turns bytes
-        → IsComplete max_payload bytes
-        → NoFaults (S.supply source.old) (S.supply source.new) (K.store sink.old) (K.store sink.new)
-        → IsOkOrNoMemory result }
 {
     let mut writer = Recutter::new(alloc, size);
     as_turned(run_stream(alloc, &mut writer, source, sink, max_payload, turns))

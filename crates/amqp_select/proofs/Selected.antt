@@ -14,16 +14,17 @@ use Rattle.amqp_wire.specs.declared.judging.FrameJudgement.{FrameJudgement}
 use Rattle.amqp_wire.specs.Judgements.{IsJudged}
 use Rattle.amqp_stream.specs.declared.errors.StreamError.{StreamError}
 use Rattle.amqp_stream.specs.Ends.{Supply, Store}
-use Rattle.amqp_stream.specs.Streaming.{ending_of, as_run, IsStep, Streams, RunNeverBegan}
+use Rattle.amqp_stream.specs.Streaming.{ending_of, as_run, IsStep, RunNeverBegan}
 use Rattle.amqp_stream.specs.Decisions.{IsKept, IsDropped}
-use Rattle.amqp_stream.specs.Canonicalizing.{Canonicalizes, AnswersExactly}
 use Rattle.amqp_stream.specs.Transcribing.{Transcribes, TranscribesExactly, NeverBegan}
-use Rattle.amqp_stream.proofs.Transcribing.{Transcriber, maps, transcribes, never_began}
+use Rattle.amqp_stream.specs.Runs.{CanonicalRun, WriterRun}
+use Rattle.amqp_stream.proofs.Transcribing.{Transcriber, maps, never_began}
+use Rattle.amqp_stream.proofs.Runs.{run_by, text_run}
 use Rattle.amqp_select.specs.declared.rule.Rule.{Rule}
 use Rattle.amqp_select.specs.declared.selecting.Selector.{Selector}
 use Rattle.amqp_select.specs.Matching as matching
 use Rattle.amqp_select.specs.Matching.{decides}
-use Rattle.amqp_select.specs.Selecting.{selection, selected, selecting}
+use Rattle.amqp_select.specs.Selecting.{selection, selected, selecting, SelectRun}
 
 -- ---- all frames
 
@@ -35,12 +36,12 @@ pub selects_all : (rules : List Rule) → ((outline : FrameOutline) → true ≡
 selects_all rules all = fun_ext λ frames. ap canon_frames (sym (all_kept rules all frames))
 
 -- where all are kept, what is canonicalized is what is selected
-pub all_stream : (rules : List Rule) (m turns : ℕ) (a b : Supply) (k l : Store) (r : Result (Unit {0}) StreamError) → ((outline : FrameOutline) → true ≡ decides rules outline) → Canonicalizes plain m turns a b k l r ⊎ NeverBegan a b k l r → Transcribes (selection rules) plain m turns a b k l r ⊎ NeverBegan a b k l r
-all_stream rules m turns a b k l r all (inl h) = inl (subst (λ text. Transcribes text plain m turns a b k l r) (selects_all rules all) h.run)
-all_stream rules m turns a b k l r all (inr h) = inr h
-
-pub all_exact : (rules : List Rule) (m : ℕ) (bytes : List ℕ) (k l : Store) (r : Result (Unit {0}) StreamError) → ((outline : FrameOutline) → true ≡ decides rules outline) → AnswersExactly plain m bytes k l r → TranscribesExactly (selection rules) plain m bytes k l r
-all_exact rules m bytes k l r all h = subst (λ text. TranscribesExactly text plain m bytes k l r) (selects_all rules all) h
+pub all_run : {S K : Type 0} (rules : List Rule) {supply : S → Supply} {store : K → Store} {m turns : ℕ} {source source' : S} {sink sink' : K} {r : Result (Unit {0}) StreamError} → ((outline : FrameOutline) → true ≡ decides rules outline)
+    → CanonicalRun plain supply store m turns source source' sink sink' r ⊎ NeverBegan source source' sink sink' r → SelectRun rules supply store m turns source source' sink sink' r ⊎ NeverBegan source source' sink sink' r
+all_run rules {supply = supply} {store = store} {m = m} {turns = turns} {source = source} {source' = source'} {sink = sink} {sink' = sink'} {r = r} all (inl run) =
+    let same = selects_all rules all in
+    inl (run_by (λ goes. subst (λ text. Transcribes text plain m turns (supply source) (supply source') (store sink) (store sink') r) same goes.run) (λ e. e) (λ bytes. subst (λ text. TranscribesExactly text plain m bytes (store sink) (store sink') r) same) (λ bytes e. e) (λ goes e. e) run)
+all_run rules all (inr never) = inr never
 
 -- ---- one frame
 
@@ -89,9 +90,8 @@ selects s =
     }
 
 -- a whole call
-abbrev pub Selects : List Rule → ℕ → ℕ → Supply → Supply → Store → Store → Result (Unit {0}) StreamError → Type 0
-Selects rules m turns a b k l r = Transcribes (selection rules) plain m turns a b k l r ⊎ NeverBegan a b k l r
-
-pub selects_stream : (s t : Selector) (m turns : ℕ) (a b : Supply) (k l : Store) (r : Result (Unit {0}) StreamError) → Streams selecting s t m turns a b k l (ending_of (as_run r)) ⊎ RunNeverBegan s t a b k l (ending_of {E = Infallible} (as_run r)) → Selects s.rules.now m turns a b k l r
-selects_stream s t m turns a b k l r (inl run) = inl (transcribes (selects s) run)
-selects_stream s t m turns a b k l r (inr none) = inr (never_began none)
+pub select_run : {S K : Type 0} (s t : Selector) {supply : S → Supply} {store : K → Store} {m turns : ℕ} {source source' : S} {sink sink' : K} {r : Result (Unit {0}) StreamError}
+    → WriterRun selecting s t supply store m turns source source' sink sink' (as_run r) ⊎ RunNeverBegan s t source source' sink sink' (ending_of {E = Infallible} (as_run r))
+    → SelectRun s.rules.now supply store m turns source source' sink sink' r ⊎ NeverBegan source source' sink sink' r
+select_run s t (inl run) = inl (text_run (selects s) run)
+select_run s t (inr never) = inr (never_began never)

@@ -1,14 +1,13 @@
 //! Streams of which the frames that rules keep are written.
 
-ghost use Rattle.std.specs.Prelude.{◌≡◌, ◌≢◌, ◌⊎◌, ℕ, List, Some, Ok, Err};
-ghost use Rattle.amqp_types.specs.Levels.{plain};
-ghost use Rattle.amqp_stream.specs.Transcribing.{Transcribes, TranscribesExactly, NeverBegan, IsValid, NoFaults, IsOkOrNoMemory};
+ghost use Rattle.std.specs.Prelude.{◌≡◌, ◌≢◌, ◌⊎◌, Ok, Err};
+ghost use Rattle.amqp_stream.specs.Transcribing.{NeverBegan};
 ghost use Rattle.amqp_wire.specs.Frames.{Frame, raw_of};
 ghost use Rattle.amqp_wire.specs.Outlines.{outline_of};
 ghost use Rattle.amqp_wire.specs.Verdicts.{whole};
 ghost use Rattle.amqp_select.specs.Matching.{decides};
 ghost use Rattle.amqp_stream.specs.Decisions.{DecidesBy};
-ghost use Rattle.amqp_select.specs.Selecting.{selection, selecting};
+ghost use Rattle.amqp_select.specs.Selecting.{selecting, SelectRun};
 
 use crate::rules::Rules;
 use amqp_stream::{
@@ -100,23 +99,9 @@ pub fn select<S: Source, K: Sink>(
     max_payload: ChunkSize,
     turns: u64,
 ) -> Result<(), StreamError>
-    ensures stream { Transcribes (selection rules.now) plain max_payload turns (S.supply source.old) (S.supply source.new)
-        (K.store sink.old) (K.store sink.new) result
-        ⊎ NeverBegan (S.supply source.old) (S.supply source.new) (K.store sink.old) (K.store sink.new) result }
-    ensures unread { turns ≡ 0 → source.new ≡ source.old }
-    ensures spent { turns ≡ 0 → (result ≡ Err StreamError.TurnsSpent) ⊎ (result ≡ Err StreamError.NoMemory) }
-    ensures unwritten { turns ≡ 0 → sink.new ≡ sink.old }
-    ensures memory { result ≡ Err StreamError.NoMemory
-        → NeverBegan (S.supply source.old) (S.supply source.new) (K.store sink.old) (K.store sink.new) result }
+    ensures run { SelectRun rules.now S.supply K.store max_payload turns source.old source.new sink.old sink.new result
+        ⊎ NeverBegan source.old source.new sink.old sink.new result }
     ensures never_untidy { result ≢ Err StreamError.NotTidy }
-
-    // Over a source that reports its bytes, the result depends on them alone, however they are cut.
-    ensures exact { (bytes : List ℕ) → (S.supply source.old).left ≡ Some bytes
-        → TranscribesExactly (selection rules.now) plain max_payload bytes (K.store sink.old) (K.store sink.new) result }
-    ensures complete { (bytes : List ℕ) → (S.supply source.old).left ≡ Some bytes
-        → IsValid plain max_payload turns bytes
-        → NoFaults (S.supply source.old) (S.supply source.new) (K.store sink.old) (K.store sink.new)
-        → IsOkOrNoMemory result }
 {
     // Where every frame is kept, no frame is looked at but by the canonicalizer.
     if let Some(true) = rules.decide_all() {

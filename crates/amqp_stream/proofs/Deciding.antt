@@ -1,15 +1,11 @@
 -- What writers decide of frames, and what is put for those that they keep.
-use Rattle.std.proofs.Common.{◌≡◌, ℕ, List, [], ◌++◌, true, Result, Ok, IsTrue, refl, sym, ap, ◌∙◌}
+use Rattle.std.proofs.Common.{◌≡◌, ℕ, List, [], ◌++◌, true, Result, Ok, IsTrue, sym, ap, ◌∙◌}
 use Rattle.amqp_types.specs.Judging.{Fault}
-use Rattle.amqp_wire.specs.declared.frame_type.AMQPFrameType.TheVariants as kinds
-use Rattle.amqp_wire.specs.declared.version.ProtocolVersion.{ProtocolVersion}
 use Rattle.amqp_wire.specs.declared.judging.FrameJudgement.{FrameJudgement}
-use Rattle.amqp_wire.specs.Frames.{Raw, Frame, Body, Proto, beat_on}
+use Rattle.amqp_wire.specs.Frames.{Raw, Frame}
 use Rattle.amqp_wire.specs.Judgements.{IsJudged}
-use Rattle.amqp_wire.specs.Verdicts.{whole, whole_as, is_at}
-use Rattle.amqp_wire.specs.Spelling.{framed, proto}
+use Rattle.amqp_wire.specs.Verdicts.{whole, is_at}
 use Rattle.amqp_wire.specs.Canonical.{canon}
-use Rattle.amqp_wire.proofs.Rewritten.{canon_beat}
 use Rattle.amqp_stream.specs.declared.decision.Decision.{Decision}
 use Rattle.amqp_stream.specs.declared.decision.Decision.TheVariants as decisions
 use Rattle.amqp_stream.specs.Buffers.{Adds}
@@ -45,20 +41,3 @@ decided_writes {raw = raw} {before = before} {after = after} store (decisions.Ke
   gathered = pushed store before after (canon h.is_judged.frame) tt (adds_same before after (whole raw) h.is_judged.frame put h.is_judged.is);
 }
 decided_writes {before = before} {after = after} store decisions.Dropped h put = record { bytes = []; step = h.step; gathered = kept store before after put }
-
--- ---- the canonical bytes of a frame were put after the pending ones
-
-pub adds_frame : (raw : Raw) (before after bytes : List ℕ) (f : Frame) → whole raw ≡ Ok f → bytes ≡ canon f → after ≡ before ++ bytes → Adds before after (whole raw) (Ok tt)
-adds_frame raw before after bytes f is same put = (f, is, put ∙ ap (λ (xs : List ℕ). before ++ xs) same)
-
-pub adds_proto : (raw : Raw) (before after bytes : List ℕ) (v : ProtocolVersion) → raw.kind ≡ kinds.ProtocolHeader → whole_as kinds.ProtocolHeader raw.channel raw.payload ≡ Ok (Proto v.major v.minor v.revision) → bytes ≡ proto v.major v.minor v.revision → after ≡ before ++ bytes → Adds before after (whole raw) (Ok tt)
-unfolding canon
-adds_proto raw before after bytes v k is same put = adds_frame raw before after bytes (Proto v.major v.minor v.revision) (rw k is) same put
-
-pub adds_body : (raw : Raw) (before after : List ℕ) → raw.kind ≡ kinds.Body → after ≡ before ++ framed 3 raw.channel raw.payload → Adds before after (whole raw) (Ok tt)
-unfolding whole_as canon
-adds_body raw before after k put = (Body raw.channel raw.payload, rw k refl, put)
-
-pub adds_beat : (raw : Raw) (before after bytes : List ℕ) → raw.kind ≡ kinds.Heartbeat → bytes ≡ framed 8 raw.channel [] → after ≡ before ++ bytes → Adds before after (whole raw) (Ok tt)
-unfolding whole_as
-adds_beat raw before after bytes k same put = adds_frame raw before after bytes (beat_on raw.channel) (rw k refl) (same ∙ canon_beat raw.channel) put

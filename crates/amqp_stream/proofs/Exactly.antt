@@ -11,11 +11,10 @@ use Rattle.amqp_wire.proofs.Sequences.{splits_of, place_fault, front_fault, sequ
 use Rattle.amqp_stream.specs.declared.errors.StreamError.{StreamError}
 use Rattle.amqp_stream.specs.declared.errors.StreamError.TheVariants as errors
 use Rattle.amqp_stream.specs.Errors.{error_for, faulty, cut_short, turns_spent, read_failed, write_failed, out_of_memory, cause_of}
-use Rattle.amqp_stream.specs.Ends.{Supply, Store, Gains, IsEmpty, prepended}
+use Rattle.amqp_stream.specs.Ends.{Supply, Store, IsEmpty, prepended}
 use Rattle.amqp_stream.specs.Transcribing.{place_verdict, answer_at, answer_to, IsSequence, IsValid, NoFaults}
 use Rattle.amqp_stream.specs.Steps.{Manner, text, refused}
-use Rattle.amqp_stream.specs.Streaming.{Ending, finished, refused_by, stopped_by, text_of, refused_of, state_of, IsUnended, IsAllWritten, Streams, RunNeverBegan, answer_at_end, answer_of, answer_by, IsExactRun, UnlessStoppedBy, StreamsExactly, IsWelcome, IsDoneOrWanting}
-use Rattle.amqp_stream.proofs.Adding.{Gains-none}
+use Rattle.amqp_stream.specs.Streaming.{Ending, finished, refused_by, stopped_by, text_of, refused_of, state_of, IsUnended, IsAllWritten, Streams, answer_at_end, answer_of, answer_by, IsExactRun, UnlessStoppedBy, StreamsExactly, IsWelcome, IsDoneOrWanting}
 use Rattle.amqp_stream.proofs.Passing.{settled}
 
 -- ---- the bytes taken, and those that are left
@@ -147,14 +146,3 @@ done_at w s t m turns a b k l e bytes p enough left f c h = absurd (let x = h.an
 pub completes : {S E : Type 0} {w : Manner S E} {s t : S} {m turns : ℕ} {a b : Supply} {k l : Store} {e : Ending E} (bytes : List ℕ) → a.left ≡ Some bytes → Streams w s t m turns a b k l e → IsValid w.level m turns bytes → IsWelcome w s m bytes → NoFaults a b k l → IsDoneOrWanting e
 completes {w = w} {s = s} {t = t} {m = m} {turns = turns} {a = a} {b = b} {k = k} {l = l} {e = e} bytes left c v welcome f =
     done_at w s t m turns a b k l e bytes (known w s m bytes None None (Ok tt) welcome.none_refused welcome.ends (answer_sequence w.level m bytes v.sequence)) v.enough left f c (exact_at w s t m turns a b k l e bytes left c)
-
--- the same where the codec could not be opened
-pub exactly_or_never : {S E : Type 0} (w : Manner S E) {s t : S} (m : ℕ) {a b : Supply} {k l : Store} {e : Ending E} (bytes : List ℕ) → RunNeverBegan s t a b k l e → StreamsExactly w s m bytes k l e
-exactly_or_never w {s = s} m {k = k} bytes n = record {
-  written = [];
-  gains = subst (λ (x : Store). Gains k x []) (sym n.sink) (Gains-none k);
-  answer = subst (λ x. UnlessStoppedBy x (IsExactRun w s m bytes [] x)) (sym n.no_memory) tt;
-}
-
-pub completes_or_never : {S E : Type 0} {s t : S} {a b : Supply} {k l : Store} {e : Ending E} → RunNeverBegan s t a b k l e → IsDoneOrWanting e
-completes_or_never n = subst IsDoneOrWanting (sym n.no_memory) tt

@@ -1,5 +1,5 @@
 -- A forwarder's call, as one of canonical bytes; and bytes that are fed in pieces.
-use Rattle.std.proofs.Common.{◌≡◌, ℕ, ◌≤◌, List, [], ◌∷◌, ◌++◌, length, Some, Result, Ok, Err, refl, sym, ap, subst, ◌∙◌, arith, append_assoc, append-nil}
+use Rattle.std.proofs.Common.{◌≡◌, ℕ, List, [], ◌∷◌, ◌++◌, Some, Result, Ok, Err, refl, sym, ap, subst, ◌∙◌, arith, append_assoc, append-nil}
 use Rattle.std.proofs.lemmas.List.Concat.{flat_map-append}
 use Rattle.std.specs.List.{concat}
 use Rattle.amqp_types.specs.Levels.{Level, plain}
@@ -17,8 +17,8 @@ use Rattle.amqp_stream.specs.Ends.{Supply, Store, Takes}
 use Rattle.amqp_stream.specs.Canonicalizing.{Canonicalizes, canon_of}
 use Rattle.amqp_stream.specs.Manners.{canonical_at}
 use Rattle.amqp_stream.specs.Steps.{Manner}
-use Rattle.amqp_stream.specs.Streaming.{ending_of, as_run, stopped_by, Streams}
-use Rattle.amqp_stream.specs.Resuming.{ahead, RestsBy, Resumes}
+use Rattle.amqp_stream.specs.Streaming.{stopped_by}
+use Rattle.amqp_stream.specs.Resuming.{RestsBy, Resumes}
 use Rattle.amqp_stream.specs.Forwarding.{Forwarding, ForwardsBy, Forwards, HeldUnless, HeldAfter, as_forward, Fed, fed_after, PiecesAreWhole}
 use Rattle.amqp_stream.proofs.Transcribing.{CanonicalizesAs, canonical, canonicalizes_as, never_out_of_memory}
 

@@ -7,7 +7,7 @@ use Rattle.amqp_types.specs.Judging.{took, IsBytes}
 use Rattle.amqp_wire.specs.declared.frame_type.AMQPFrameType.{AMQPFrameType}
 use Rattle.amqp_wire.specs.declared.frame_type.AMQPFrameType.TheVariants as kinds
 use Rattle.amqp_wire.specs.declared.looking.FrameLayout.{FrameLayout}
-use Rattle.amqp_wire.specs.Frames.{Raw, Frame}
+use Rattle.amqp_wire.specs.Frames.{Raw, Frame, frame_length, length_around}
 use Rattle.amqp_wire.specs.Outer.{outer}
 use Rattle.amqp_wire.specs.Looks.{laid_out}
 use Rattle.amqp_wire.specs.Fronts.{front, ComesBefore}
@@ -17,7 +17,7 @@ use Rattle.amqp_wire.proofs.Cuts.{ComesBefore-none, ComesBefore-more, verdict-wh
 use Rattle.amqp_stream.specs.declared.source.SourceFault.{SourceFault}
 use Rattle.amqp_stream.specs.Ends.{Supply, Store, Takes, Gains, counted}
 use Rattle.amqp_stream.specs.Reading.{ReadsMore, Lies}
-use Rattle.amqp_stream.specs.Writing.{WritesAll, Keeps, frame_length, length_around}
+use Rattle.amqp_stream.specs.Writing.{WritesAll, Keeps}
 use Rattle.amqp_stream.specs.Steps.{Manner}
 use Rattle.amqp_stream.specs.Streaming.{IsStep, Writes}
 use Rattle.amqp_stream.proofs.Adding.{Takes-then, Takes-none, counted_none, counted_more, Gains-none, Gains-then, IsBytes-append}

@@ -3,18 +3,17 @@ use Rattle.std.proofs.Common.{◌≡◌, ℕ, ◌+◌, ◌≤◌, List, [], ◌�
 use Rattle.std.proofs.lemmas.List.{length-append}
 use Rattle.amqp_types.specs.Levels.{Level}
 use Rattle.amqp_types.specs.Judging.{IsBytes}
-use Rattle.amqp_types.proofs.Bytes.{IsBytes-take}
 use Rattle.amqp_wire.specs.Frames.{Frame}
 use Rattle.amqp_wire.specs.Spelling.{SpellsFrames}
 use Rattle.amqp_wire.specs.Verdicts.{verdict}
-use Rattle.amqp_wire.specs.Fronts.{front, place, IsUndecided, ComesBefore}
+use Rattle.amqp_wire.specs.Fronts.{front, IsUndecided, ComesBefore}
 use Rattle.amqp_wire.proofs.Sequences.{SpellsFrames-precedes, sequence_front}
-use Rattle.amqp_stream.specs.Errors.{Cause, faulty, cut_short, turns_spent, read_failed, write_failed, out_of_memory}
+use Rattle.amqp_stream.specs.Errors.{faulty, cut_short, turns_spent, read_failed, write_failed, out_of_memory}
 use Rattle.amqp_stream.specs.Ends.{Supply, Store}
 use Rattle.amqp_stream.specs.Transcribing.{IsSequence}
 use Rattle.amqp_stream.specs.Steps.{Manner, text_at, text, refused_at, refused, state_at, state}
-use Rattle.amqp_stream.specs.Streaming.{Ending, finished, refused_by, stopped_by, text_of, refused_of, state_of, IsShortBy, HasCauseBy, HasWrittenBy, HasStateBy, Streams}
-use Rattle.amqp_stream.specs.Resuming.{ahead, Rests, RestsBy, Resumes, RunsAddUp}
+use Rattle.amqp_stream.specs.Streaming.{Ending, finished, refused_by, stopped_by, text_of, refused_of, state_of, IsShortBy, HasCauseBy, HasWrittenBy, HasStateBy}
+use Rattle.amqp_stream.specs.Resuming.{ahead, Rests, RestsBy, RunsAddUp}
 use Rattle.amqp_stream.proofs.Adding.{Takes-then, Takes-ahead, counted_more, Gains-then, Rises-later, IsBytes-append}
 use Rattle.amqp_stream.proofs.Passing.{Passes, Passes-none, Passes-then, Passes-one}
 use Rattle.amqp_stream.proofs.Going.{Spans}

@@ -12,6 +12,7 @@ pub mod Joining
 pub mod Turning
 pub mod Exactly
 pub mod Transcribing
+pub mod Runs
 pub mod Forwarding
 pub mod Tidying
 pub mod Putting

@@ -19,7 +19,7 @@ written_front buf at bytes room =
 pub put_front : (buf new : List ℕ) (at end : ℕ) (bytes : List ℕ) → at + length bytes ≤ length buf → Puts buf new at bytes end → take end new ≡ take at buf ++ bytes
 put_front buf new at end bytes room p = ap (λ k. take k new) p.behind ∙ ap (take (at + length bytes)) p.put ∙ written_front buf at bytes room
 
--- the canonical bytes of a borrowed frame, which are no more than its own
-pub rewritten_after : (old new : List ℕ) (len n : ℕ) (read : Result Frame Fault) (result : Result ℕ ParserError) → len + n + 8 ≤ length old → IfOk result (λ end. end ≤ len + n + 8) → Rewrites old new len read result → AddsAt old new len read result
-rewritten_after old new len n read (Ok end) room within p = (p.0, p.1, put_front old new len end (canon p.0) (omega (arith, p.2.behind)) p.2)
-rewritten_after old new len n read (Err error) room within p = p
+-- the canonical bytes of a borrowed frame, for which there is room
+pub rewritten_after : (old new : List ℕ) (len most : ℕ) (read : Result Frame Fault) (result : Result ℕ ParserError) → most ≤ length old → IfOk result (λ end. end ≤ most) → Rewrites old new len read result → AddsAt old new len read result
+rewritten_after old new len most read (Ok end) room within p = (p.0, p.1, put_front old new len end (canon p.0) (omega (arith, p.2.behind)) p.2)
+rewritten_after old new len most read (Err error) room within p = p

@@ -6,7 +6,7 @@ use Rattle.amqp_types.specs.Levels.{strict}
 use Rattle.amqp_types.specs.Judging.{IsBytes}
 use Rattle.amqp_wire.specs.declared.judging.FrameJudgement.{FrameJudgement}
 use Rattle.amqp_wire.specs.declared.looking.FrameLayout.{FrameLayout}
-use Rattle.amqp_wire.specs.Frames.{Raw}
+use Rattle.amqp_wire.specs.Frames.{Raw, frame_length}
 use Rattle.amqp_wire.specs.Looks.{laid_out}
 use Rattle.amqp_wire.specs.Canonical.{canon}
 use Rattle.amqp_wire.specs.Judgements.{IsJudged}
@@ -22,7 +22,7 @@ use Rattle.amqp_stream.specs.Reading.{Lies}
 use Rattle.amqp_stream.specs.Steps.{Manner}
 use Rattle.amqp_stream.specs.Streaming.{Writes, WritesBy, EndsWith, error_ending}
 use Rattle.amqp_stream.specs.Taking.{gathered, IsTaken, IsStopped}
-use Rattle.amqp_stream.specs.Writing.{Gathered, frame_length}
+use Rattle.amqp_stream.specs.Writing.{Gathered}
 use Rattle.amqp_stream.proofs.Going.{frame_fits}
 use Rattle.amqp_stream.proofs.Transcribing.{gathered_then}
 use Rattle.amqp_stream.proofs.Writes.{pushed, kept, settled}

@@ -130,8 +130,8 @@ returned-at_end : (E : Type 0) (answer : Result (Unit {0}) StreamError) → retu
 returned-at_end E (Ok done) = refl
 returned-at_end E (Err error) = ap Err (error_by-cause error)
 
-pub never_began : {S E : Type 0} {s t : S} {a b : Supply} {k l : Store} {r : Result (Unit {0}) StreamError} → RunNeverBegan s t a b k l (ending_of {E = E} (as_run r)) → NeverBegan a b k l r
-never_began {E = E} {r = r} h = record { no_memory = sym (returned-run E r) ∙ ap returned h.no_memory; source = h.source; sink = h.sink }
+pub never_began : {T E S K : Type 0} {s t : T} {source source' : S} {sink sink' : K} {r : Result (Unit {0}) StreamError} → RunNeverBegan s t source source' sink sink' (ending_of {E = E} (as_run r)) → NeverBegan source source' sink sink' r
+never_began {E = E} {r = r} h = record { no_memory = sym (returned-run E r) ∙ ap returned h.no_memory; source_stays = h.source_stays; sink_stays = h.sink_stays }
 
 -- ---- the result by all of the bytes
 

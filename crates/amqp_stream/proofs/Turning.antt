@@ -3,6 +3,7 @@ use Rattle.std.proofs.Common.{◌≡◌, ◌≢◌, ℕ, ◌+◌, ◌-◌, ◌*�
 use Rattle.std.proofs.lemmas.List.{length-append, length-take-le}
 use Rattle.std.proofs.Math.Seq.{drop-nil}
 use Rattle.amqp_types.specs.Judging.{past, IsBytes}
+use Rattle.amqp_wire.specs.Frames.{frame_length}
 use Rattle.amqp_wire.specs.declared.looking.FrameLayout.{FrameLayout}
 use Rattle.amqp_wire.specs.Outer.{outer}
 use Rattle.amqp_wire.specs.Looks.{laid_out}
@@ -17,7 +18,7 @@ use Rattle.amqp_stream.specs.Errors.{stream_error, turns_spent, read_failed, wri
 use Rattle.amqp_stream.specs.Ends.{Supply, Store, counted}
 use Rattle.amqp_stream.specs.Reading.{Holding, ReadsMore, Lies, Finds}
 use Rattle.amqp_stream.specs.Buffers.{Buffered}
-use Rattle.amqp_stream.specs.Writing.{WritesAll, frame_length}
+use Rattle.amqp_stream.specs.Writing.{WritesAll}
 use Rattle.amqp_stream.specs.Streaming.{Ending, stopped_by, error_ending, end_with, EndsWith}
 use Rattle.amqp_stream.specs.Taking.{gathered, IsTaken, IsUnflushed, IsStopped}
 use Rattle.amqp_stream.proofs.Going.{Start, Clear, Going, Clear-held, Going-clear, Going-frame, Going-kept, Clear-flushed, Clear-read, fits_room, frame_falls}

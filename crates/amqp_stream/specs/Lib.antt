@@ -10,6 +10,7 @@ pub mod Transcribing
 pub mod Canonicalizing
 pub mod Steps
 pub mod Streaming
+pub mod Runs
 pub mod Resuming
 pub mod Forwarding
 pub mod Decisions

@@ -74,10 +74,10 @@ pub record Transcribes (text : List Frame → List ℕ) (level : Level) (m turns
   pub behind : IsBehindBy text level m taken written (m + 8)
 
 -- memory ran out before anything was taken or written
-pub record NeverBegan (a b : Supply) (k l : Store) (result : Result (Unit {0}) StreamError) : Type 0 where
+pub record NeverBegan {S K : Type 0} (source source' : S) (sink sink' : K) (result : Result (Unit {0}) StreamError) : Type 0 where
   pub no_memory : result ≡ Err errors.NoMemory
-  pub source : b ≡ a
-  pub sink : l ≡ k
+  pub source_stays : source' ≡ source
+  pub sink_stays : sink' ≡ sink
 
 -- The result for all the bytes of a source, by their place. (No frame is at a place.)
 abbrev pub answer_at : List ℕ → Judged Frame → Result (Unit {0}) StreamError

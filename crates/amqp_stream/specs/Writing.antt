@@ -1,11 +1,9 @@
 -- What calls write, and what is pending after them.
-use Rattle.std.specs.Prelude.{◌≡◌, ◌≢◌, ℕ, ◌+◌, List, [], ◌++◌, length, Result, Ok, Err, OnOk, OnErr}
+use Rattle.std.specs.Prelude.{◌≡◌, ◌≢◌, ℕ, List, [], ◌++◌, Result, Ok, Err, OnOk, OnErr}
 use Rattle.amqp_types.specs.Levels.{Level, plain, tidy, strict}
 use Rattle.amqp_types.specs.Judging.{Fault, not_tidy, fault, took}
 use Rattle.amqp_types.specs.declared.errors.ParserError.{ParserError}
 use Rattle.amqp_types.specs.declared.errors.ParserError.TheVariants as parser_errors
-use Rattle.amqp_wire.specs.declared.frame_type.AMQPFrameType.{AMQPFrameType}
-use Rattle.amqp_wire.specs.declared.frame_type.AMQPFrameType.TheVariants as kinds
 use Rattle.amqp_wire.specs.Frames.{Raw, Frame}
 use Rattle.amqp_wire.specs.Verdicts.{whole, judged}
 use Rattle.amqp_wire.specs.Canonical.{canon}
@@ -69,18 +67,6 @@ payload_fault parser_errors.Incomplete = errors.NoMemory
 payload_fault parser_errors.UnknownFrameType = errors.NoMemory
 payload_fault parser_errors.BadProtocolHeader = errors.NoMemory
 payload_fault parser_errors.BadFrameEnd = errors.NoMemory
-
--- how many bytes a frame has around a payload of n bytes (AMQP 0-9-1, sections 4.2.2 and 4.2.3)
-abbrev pub length_around : AMQPFrameType → ℕ → ℕ
-length_around kinds.ProtocolHeader n = 8
-length_around kinds.Method n = n + 8
-length_around kinds.Header n = n + 8
-length_around kinds.Body n = n + 8
-length_around kinds.Heartbeat n = n + 8
-
--- how many bytes a frame has
-abbrev pub frame_length : Raw → ℕ
-frame_length raw = length_around raw.kind (length raw.payload)
 
 -- only a reader that asks for tidy bytes refuses others
 abbrev pub AsksTidy : Level → Type 0

@@ -1,10 +1,10 @@
 //! A reader and an output buffer, reserved in full, and what runs over them.
 
-ghost use Rattle.std.specs.Prelude.{◌≡◌, ◌≢◌, ◌⊎◌, ℕ, List, Some, Ok, Err, IfOk};
-ghost use Rattle.amqp_types.specs.Levels.{plain, tidy, level_of};
-ghost use Rattle.amqp_stream.specs.Transcribing.{NeverBegan, IsValid, NoFaults, IsOkOrNoMemory};
-ghost use Rattle.amqp_stream.specs.Canonicalizing.{Canonicalizes, AnswersExactly};
-ghost use Rattle.amqp_stream.specs.Streaming.{Streams, StreamsExactly, RunNeverBegan, IsWelcome, IsDoneOrWanting, ending_of};
+ghost use Rattle.std.specs.Prelude.{◌≡◌, ◌≢◌, ◌⊎◌, Err, IfOk};
+ghost use Rattle.amqp_types.specs.Levels.{plain, level_of};
+ghost use Rattle.amqp_stream.specs.Runs.{CanonicalRun, WriterRun};
+ghost use Rattle.amqp_stream.specs.Streaming.{RunNeverBegan, ending_of};
+ghost use Rattle.amqp_stream.specs.Transcribing.{NeverBegan};
 
 use crate::canonical::{Canonical, TidyCanonical, unrefused};
 use crate::engine::run_with;
@@ -56,20 +56,7 @@ impl Codec {
         turns: u64,
     ) -> Result<(), RunError<W::Refusal>>
         ensures limit { self.new ≡ self.old }
-        ensures stream { Streams W.manner writer.old writer.new self.old turns (S.supply source.old) (S.supply source.new)
-            (K.store sink.old) (K.store sink.new) (ending_of result) }
-        ensures unread { turns ≡ 0 → source.new ≡ source.old }
-        ensures spent { turns ≡ 0 → result ≡ Err (RunError.Stream StreamError.TurnsSpent) }
-        ensures unwritten { turns ≡ 0 → sink.new ≡ sink.old }
-
-        // Over a source that reports its bytes, the result depends on them alone, however they are cut.
-        ensures exact { (bytes : List ℕ) → (S.supply source.old).left ≡ Some bytes
-            → StreamsExactly W.manner writer.old self.old bytes (K.store sink.old) (K.store sink.new) (ending_of result) }
-        ensures complete { (bytes : List ℕ) → (S.supply source.old).left ≡ Some bytes
-            → IsValid W.manner.level self.old turns bytes
-            → IsWelcome W.manner writer.old self.old bytes
-            → NoFaults (S.supply source.old) (S.supply source.new) (K.store sink.old) (K.store sink.new)
-            → IsDoneOrWanting (ending_of result) }
+        ensures run { WriterRun W.manner writer.old writer.new S.supply K.store self.old turns source.old source.new sink.old sink.new result }
     {
         self.reader.clear();
         run_with(
@@ -94,20 +81,8 @@ impl Codec {
         turns: u64,
     ) -> Result<(), StreamError>
         ensures limit { self.new ≡ self.old }
-        ensures stream { Canonicalizes (level_of profile) self.old turns (S.supply source.old) (S.supply source.new)
-            (K.store sink.old) (K.store sink.new) result }
-        ensures unread { turns ≡ 0 → source.new ≡ source.old }
-        ensures spent { turns ≡ 0 → result ≡ Err StreamError.TurnsSpent }
-        ensures unwritten { turns ≡ 0 → sink.new ≡ sink.old }
+        ensures run { CanonicalRun (level_of profile) S.supply K.store self.old turns source.old source.new sink.old sink.new result }
         ensures memory { result ≢ Err StreamError.NoMemory }
-
-        // Over a source that reports its bytes, the result depends on them alone, however they are cut.
-        ensures exact { (bytes : List ℕ) → (S.supply source.old).left ≡ Some bytes
-            → AnswersExactly (level_of profile) self.old bytes (K.store sink.old) (K.store sink.new) result }
-        ensures complete { (bytes : List ℕ) → (S.supply source.old).left ≡ Some bytes
-            → IsValid (level_of profile) self.old turns bytes
-            → NoFaults (S.supply source.old) (S.supply source.new) (K.store sink.old) (K.store sink.new)
-            → result ≡ Ok tt }
     {
         match profile {
             Profile::Plain => unrefused(self.run(&mut Canonical, source, sink, turns)),
@@ -127,20 +102,8 @@ impl Codec {
         turns: u64,
     ) -> Result<(), StreamError>
         ensures limit { self.new ≡ self.old }
-        ensures stream { Canonicalizes (level_of profile) self.old turns (S.supply source.old) (S.supply source.new)
-            (K.store sink.old) (K.store sink.new) result }
-        ensures unread { turns ≡ 0 → source.new ≡ source.old }
-        ensures spent { turns ≡ 0 → result ≡ Err StreamError.TurnsSpent }
-        ensures unwritten { turns ≡ 0 → sink.new ≡ sink.old }
+        ensures run { CanonicalRun (level_of profile) S.supply K.store self.old turns source.old source.new sink.old sink.new result }
         ensures memory { result ≢ Err StreamError.NoMemory }
-
-        // Over a source that reports its bytes, the result depends on them alone, however they are cut.
-        ensures exact { (bytes : List ℕ) → (S.supply source.old).left ≡ Some bytes
-            → AnswersExactly (level_of profile) self.old bytes (K.store sink.old) (K.store sink.new) result }
-        ensures complete { (bytes : List ℕ) → (S.supply source.old).left ≡ Some bytes
-            → IsValid (level_of profile) self.old turns bytes
-            → NoFaults (S.supply source.old) (S.supply source.new) (K.store sink.old) (K.store sink.new)
-            → result ≡ Ok tt }
     {
         self.rewrite(profile, source, sink, turns)
     }
@@ -156,21 +119,9 @@ impl Codec {
         turns: u64,
     ) -> Result<(), StreamError>
         ensures limit { self.new ≡ self.old }
-        ensures stream { Canonicalizes plain self.old turns (S.supply source.old) (S.supply source.new)
-            (K.store sink.old) (K.store sink.new) result }
-        ensures unread { turns ≡ 0 → source.new ≡ source.old }
-        ensures spent { turns ≡ 0 → result ≡ Err StreamError.TurnsSpent }
-        ensures unwritten { turns ≡ 0 → sink.new ≡ sink.old }
+        ensures run { CanonicalRun plain S.supply K.store self.old turns source.old source.new sink.old sink.new result }
         ensures memory { result ≢ Err StreamError.NoMemory }
         ensures never_untidy { result ≢ Err StreamError.NotTidy }
-
-        // Over a source that reports its bytes, the result depends on them alone, however they are cut.
-        ensures exact { (bytes : List ℕ) → (S.supply source.old).left ≡ Some bytes
-            → AnswersExactly plain self.old bytes (K.store sink.old) (K.store sink.new) result }
-        ensures complete { (bytes : List ℕ) → (S.supply source.old).left ≡ Some bytes
-            → IsValid plain self.old turns bytes
-            → NoFaults (S.supply source.old) (S.supply source.new) (K.store sink.old) (K.store sink.new)
-            → result ≡ Ok tt }
     {
         self.canonicalize_in(alloc, Profile::Plain, source, sink, turns)
     }
@@ -185,21 +136,8 @@ pub fn run_stream<W: FrameWriter, S: Source, K: Sink>(
     max_payload: ChunkSize,
     turns: u64,
 ) -> Result<(), RunError<W::Refusal>>
-    ensures stream { Streams W.manner writer.old writer.new max_payload turns (S.supply source.old) (S.supply source.new)
-        (K.store sink.old) (K.store sink.new) (ending_of result)
-        ⊎ RunNeverBegan writer.old writer.new (S.supply source.old) (S.supply source.new) (K.store sink.old) (K.store sink.new) (ending_of result) }
-    ensures unread { turns ≡ 0 → source.new ≡ source.old }
-    ensures spent { turns ≡ 0 → (result ≡ Err (RunError.Stream StreamError.TurnsSpent)) ⊎ (result ≡ Err (RunError.Stream StreamError.NoMemory)) }
-    ensures unwritten { turns ≡ 0 → sink.new ≡ sink.old }
-
-    // Over a source that reports its bytes, the result depends on them alone, however they are cut.
-    ensures exact { (bytes : List ℕ) → (S.supply source.old).left ≡ Some bytes
-        → StreamsExactly W.manner writer.old max_payload bytes (K.store sink.old) (K.store sink.new) (ending_of result) }
-    ensures complete { (bytes : List ℕ) → (S.supply source.old).left ≡ Some bytes
-        → IsValid W.manner.level max_payload turns bytes
-        → IsWelcome W.manner writer.old max_payload bytes
-        → NoFaults (S.supply source.old) (S.supply source.new) (K.store sink.old) (K.store sink.new)
-        → IsDoneOrWanting (ending_of result) }
+    ensures run { WriterRun W.manner writer.old writer.new S.supply K.store max_payload turns source.old source.new sink.old sink.new result
+        ⊎ RunNeverBegan writer.old writer.new source.old source.new sink.old sink.new (ending_of result) }
 {
     match Codec::open(alloc, max_payload) {
         Ok(codec) => {
@@ -219,22 +157,8 @@ pub fn canonicalize_in<S: Source, K: Sink>(
     max_payload: ChunkSize,
     turns: u64,
 ) -> Result<(), StreamError>
-    ensures stream { Canonicalizes (level_of profile) max_payload turns (S.supply source.old) (S.supply source.new)
-        (K.store sink.old) (K.store sink.new) result
-        ⊎ NeverBegan (S.supply source.old) (S.supply source.new) (K.store sink.old) (K.store sink.new) result }
-    ensures unread { turns ≡ 0 → source.new ≡ source.old }
-    ensures spent { turns ≡ 0 → (result ≡ Err StreamError.TurnsSpent) ⊎ (result ≡ Err StreamError.NoMemory) }
-    ensures unwritten { turns ≡ 0 → sink.new ≡ sink.old }
-    ensures memory { result ≡ Err StreamError.NoMemory
-        → NeverBegan (S.supply source.old) (S.supply source.new) (K.store sink.old) (K.store sink.new) result }
-
-    // Over a source that reports its bytes, the result depends on them alone, however they are cut.
-    ensures exact { (bytes : List ℕ) → (S.supply source.old).left ≡ Some bytes
-        → AnswersExactly (level_of profile) max_payload bytes (K.store sink.old) (K.store sink.new) result }
-    ensures complete { (bytes : List ℕ) → (S.supply source.old).left ≡ Some bytes
-        → IsValid (level_of profile) max_payload turns bytes
-        → NoFaults (S.supply source.old) (S.supply source.new) (K.store sink.old) (K.store sink.new)
-        → IsOkOrNoMemory result }
+    ensures run { CanonicalRun (level_of profile) S.supply K.store max_payload turns source.old source.new sink.old sink.new result
+        ⊎ NeverBegan source.old source.new sink.old sink.new result }
 {
     match Codec::open(alloc, max_payload) {
         Ok(codec) => {
@@ -253,23 +177,9 @@ pub fn canonicalize<S: Source, K: Sink>(
     max_payload: ChunkSize,
     turns: u64,
 ) -> Result<(), StreamError>
-    ensures stream { Canonicalizes plain max_payload turns (S.supply source.old) (S.supply source.new)
-        (K.store sink.old) (K.store sink.new) result
-        ⊎ NeverBegan (S.supply source.old) (S.supply source.new) (K.store sink.old) (K.store sink.new) result }
-    ensures unread { turns ≡ 0 → source.new ≡ source.old }
-    ensures spent { turns ≡ 0 → (result ≡ Err StreamError.TurnsSpent) ⊎ (result ≡ Err StreamError.NoMemory) }
-    ensures unwritten { turns ≡ 0 → sink.new ≡ sink.old }
-    ensures memory { result ≡ Err StreamError.NoMemory
-        → NeverBegan (S.supply source.old) (S.supply source.new) (K.store sink.old) (K.store sink.new) result }
+    ensures run { CanonicalRun plain S.supply K.store max_payload turns source.old source.new sink.old sink.new result
+        ⊎ NeverBegan source.old source.new sink.old sink.new result }
     ensures never_untidy { result ≢ Err StreamError.NotTidy }
-
-    // Over a source that reports its bytes, the result depends on them alone, however they are cut.
-    ensures exact { (bytes : List ℕ) → (S.supply source.old).left ≡ Some bytes
-        → AnswersExactly plain max_payload bytes (K.store sink.old) (K.store sink.new) result }
-    ensures complete { (bytes : List ℕ) → (S.supply source.old).left ≡ Some bytes
-        → IsValid plain max_payload turns bytes
-        → NoFaults (S.supply source.old) (S.supply source.new) (K.store sink.old) (K.store sink.new)
-        → IsOkOrNoMemory result }
 {
     canonicalize_in(alloc, Profile::Plain, source, sink, max_payload, turns)
 }

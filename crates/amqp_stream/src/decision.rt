@@ -1,11 +1,9 @@
 //! What a writer decides of a frame before anything is written for it.
 
 ghost use Rattle.std.specs.Prelude.{◌≡◌, ◌+◌, ◌^◌, ◌<◌, ◌≤◌, length};
-ghost use Rattle.amqp_wire.specs.Frames.{raw_of};
+ghost use Rattle.amqp_wire.specs.Frames.{raw_of, frame_length};
 ghost use Rattle.amqp_stream.specs.Decisions.{stands, drops, IsDecided, PutsDecided};
-ghost use Rattle.amqp_stream.specs.Writing.{frame_length};
 
-use crate::output::push_canonical;
 use crate::output_buffer::OutputBuffer;
 use amqp_wire::{AMQPRawFrame, FrameJudgement};
 
@@ -53,7 +51,7 @@ pub fn put_decided(out: &mut OutputBuffer, raw: AMQPRawFrame<'_>, decision: Deci
     ensures compact { length out.new.bytes ≤ length out.old.bytes + frame_length (raw_of raw.entry) }
 {
     match decision {
-        Decision::Kept(judged) => push_canonical(out, raw, judged),
+        Decision::Kept(judged) => out.push_judged(raw, judged),
         Decision::Dropped => {}
     }
 }

@@ -4,7 +4,7 @@ ghost use Rattle.std.specs.Prelude.{◌≡◌, ◌+◌, ◌≤◌, [], length, d
 ghost use Rattle.amqp_types.specs.Judging.{IsBytes};
 ghost use Rattle.amqp_wire.specs.Looks.{laid_out};
 ghost use Rattle.amqp_stream.specs.Reading.{Lies};
-ghost use Rattle.amqp_stream.specs.Writing.{frame_length};
+ghost use Rattle.amqp_wire.specs.Frames.{frame_length};
 ghost use Rattle.amqp_stream.specs.Streaming.{ending_of, end_with};
 ghost use Rattle.amqp_stream.specs.Resuming.{Resumes};
 ghost use Rattle.amqp_stream.specs.Decisions.{PassesBy};

@@ -1,8 +1,7 @@
 //! What is written for each frame of a stream.
 
 ghost use Rattle.std.specs.Prelude.{◌≡◌, ◌+◌, ◌^◌, ◌<◌, ◌≤◌, length, IfOk, IsTrue};
-ghost use Rattle.amqp_wire.specs.Frames.{raw_of};
-ghost use Rattle.amqp_stream.specs.Writing.{frame_length};
+ghost use Rattle.amqp_wire.specs.Frames.{raw_of, frame_length};
 ghost use Rattle.amqp_stream.specs.Steps.{Manner};
 ghost use Rattle.amqp_stream.specs.Streaming.{WritesBy, ending_of, end_result};
 ghost use Rattle.amqp_stream.specs.Decisions.{PassesBy};

@@ -1,11 +1,10 @@
 //! Writing: all of some bytes, what is pending, and the canonical bytes of a frame.
 
 ghost use Rattle.std.specs.Prelude.{◌≡◌, ◌+◌, ◌++◌, ◌^◌, ◌<◌, ◌≤◌, [], length, Ok, Err};
-ghost use Rattle.amqp_wire.specs.Frames.{raw_of, IsTyped};
+ghost use Rattle.amqp_wire.specs.Frames.{raw_of, IsTyped, frame_length};
 ghost use Rattle.amqp_wire.specs.Spelling.{framed};
 ghost use Rattle.amqp_wire.specs.Verdicts.{IsPayloadError, whole};
-ghost use Rattle.amqp_wire.specs.Judgements.{IsJudged};
-ghost use Rattle.amqp_stream.specs.Writing.{WritesAll, WritesFrame, Gathers, stream_result, payload_fault, frame_length};
+ghost use Rattle.amqp_stream.specs.Writing.{WritesAll, WritesFrame, Gathers, stream_result, payload_fault};
 ghost use Rattle.amqp_stream.specs.Buffers.{Adds};
 ghost use Rattle.amqp_stream.specs.Ends.{Store};
 ghost use Rattle.amqp_stream.specs.Streaming.{EndsWith};
@@ -16,8 +15,7 @@ use crate::output_buffer::OutputBuffer;
 use crate::sink::{Sink, SinkFault};
 use amqp_types::{ChannelId, FRAME_BODY, FRAME_END, ParserError};
 use amqp_wire::{
-    AMQPFrameType, AMQPRawFrame, FrameJudgement, ProtocolVersion, frame_head, header_bytes,
-    heartbeat_bytes,
+    AMQPFrameType, AMQPRawFrame, ProtocolVersion, frame_head, header_bytes, heartbeat_bytes,
 };
 
 /// Bodies up to this size are pending with the small frames; larger ones are written from where they
@@ -267,26 +265,5 @@ pub fn write_canonical<K: Sink>(
             out.push(&heartbeat_bytes(raw.channel_id));
             Ok(())
         }
-    }
-}
-
-/// Puts the canonical bytes of a borrowed frame, judged already, after the pending ones.
-pub(crate) fn push_canonical(out: &mut OutputBuffer, raw: AMQPRawFrame<'_>, judged: FrameJudgement)
-    requires judged { IsJudged (raw_of raw) judged }
-    requires few { length raw.payload.now < 2 ^ 32 }
-    requires room { length out.old.bytes + frame_length (raw_of raw) ≤ out.old.room }
-    ensures room { out.new.room ≡ out.old.room }
-    ensures adds { Adds out.old.bytes out.new.bytes (whole (raw_of raw.entry)) (Ok tt) }
-    ensures compact { length out.new.bytes ≤ length out.old.bytes + frame_length (raw_of raw.entry) }
-{
-    match raw.frame_type {
-        AMQPFrameType::ProtocolHeader => match ProtocolVersion::from_payload(raw.payload) {
-            Ok(version) => out.push(&header_bytes(version)),
-            Err(_) => unreachable!(),
-        },
-        AMQPFrameType::Method => out.push_judged(raw, judged),
-        AMQPFrameType::Header => out.push_judged(raw, judged),
-        AMQPFrameType::Body => push_body(out, raw.channel_id, raw.payload),
-        AMQPFrameType::Heartbeat => out.push(&heartbeat_bytes(raw.channel_id)),
     }
 }

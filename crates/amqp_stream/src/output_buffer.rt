@@ -1,7 +1,7 @@
 //! A buffer in which bytes are pending, to be written together.
 
 ghost use Rattle.std.specs.Prelude.{◌≡◌, ◌≢◌, ◌+◌, ◌++◌, ◌^◌, ◌<◌, ◌≤◌, [], length, take, Ok, Err, IfOk, IfErr};
-ghost use Rattle.amqp_wire.specs.Frames.{raw_of};
+ghost use Rattle.amqp_wire.specs.Frames.{raw_of, frame_length};
 ghost use Rattle.amqp_wire.specs.Spelling.{framed, head};
 ghost use Rattle.amqp_wire.specs.Verdicts.{IsPayloadError, whole};
 ghost use Rattle.amqp_wire.specs.Judgements.{IsJudged};
@@ -50,9 +50,9 @@ fn put_judged_after(
 ) -> usize
     requires judged { IsJudged (raw_of raw) judged }
     requires few { length raw.payload.now < 2 ^ 32 }
-    requires room { len + length raw.payload.now + 8 ≤ length buf.old }
+    requires room { len + frame_length (raw_of raw) ≤ length buf.old }
     ensures adds { AddsAt buf.old buf.new len (whole (raw_of raw.entry)) (Ok result) }
-    ensures place { result ≤ len + length raw.entry.payload.now + 8 }
+    ensures place { result ≤ len + frame_length (raw_of raw.entry) }
 {
     let (frame_type, channel_id, payload) = (raw.frame_type, raw.channel_id, raw.payload);
     put_judged(buf, len, scratch, frame_type, channel_id, payload, judged)
@@ -151,10 +151,10 @@ impl OutputBuffer {
     pub fn push_judged(&mut self, raw: AMQPRawFrame<'_>, judged: FrameJudgement)
         requires judged { IsJudged (raw_of raw) judged }
         requires few { length raw.payload.now < 2 ^ 32 }
-        requires enough { length self.old.bytes + (length raw.payload.now + 8) ≤ self.old.room }
+        requires enough { length self.old.bytes + frame_length (raw_of raw) ≤ self.old.room }
         ensures room { self.new.room ≡ self.old.room }
         ensures adds { Adds self.old.bytes self.new.bytes (whole (raw_of raw.entry)) (Ok tt) }
-        ensures compact { length self.new.bytes ≤ length self.old.bytes + (length raw.entry.payload.now + 8) }
+        ensures compact { length self.new.bytes ≤ length self.old.bytes + frame_length (raw_of raw.entry) }
     {
         self.len = put_judged_after(&mut self.buf, self.len, &mut self.scratch, raw, judged);
     }

@@ -3,7 +3,7 @@
 use crate::judging::Call::{self, Array, ContentHeader, Payload, Table, Value};
 use crate::values::KINDS;
 use amqp_canonical::{
-    EntryMark, judge_array, judge_content_header, judge_payload, judge_table, judge_value,
+    EntryMark, Sure, judge_array, judge_content_header, judge_payload, judge_table, judge_value,
     put_array, put_content_header, put_payload, put_table, put_value, written_is_no_longer,
 };
 use amqp_vectors::asking::same;
@@ -16,15 +16,21 @@ fn put(call: Call, buf: &mut [u8], scratch: &mut [EntryMark], i: &[u8]) -> Optio
     written_is_no_longer();
     match call {
         Value(depth_left) => match judge_value(i, depth_left) {
-            Ok(it) if it.used < buf.len() => Some(put_value(buf, 1, scratch, i, depth_left)),
+            Ok(it) if it.used < buf.len() => Some(put_value::<Sure>(
+                buf, 1, scratch, i, depth_left,
+            )),
             _ => None,
         },
         Array(depth_left) => match judge_array(i, depth_left) {
-            Ok(it) if it.used < buf.len() => Some(put_array(buf, 1, scratch, i, depth_left)),
+            Ok(it) if it.used < buf.len() => Some(put_array::<Sure>(
+                buf, 1, scratch, i, depth_left,
+            )),
             _ => None,
         },
         Table(depth_left) => match judge_table(i, depth_left) {
-            Ok(it) if it.used < buf.len() => Some(put_table(buf, 1, scratch, i, depth_left)),
+            Ok(it) if it.used < buf.len() => Some(put_table::<Sure>(
+                buf, 1, scratch, i, depth_left,
+            )),
             _ => None,
         },
         Payload => match judge_payload(i) {

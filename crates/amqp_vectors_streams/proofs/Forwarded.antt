@@ -6,7 +6,7 @@ use Rattle.std.proofs.Math.Nat.{mul-le-mul_right}
 use Rattle.amqp_types.specs.Levels.{plain}
 use Rattle.amqp_types.specs.Judging.{IsBytes}
 use Rattle.amqp_types.proofs.Bytes.{IsBytes-take}
-use Rattle.amqp_wire.specs.Frames.{Frame, Raw, raw_of}
+use Rattle.amqp_wire.specs.Frames.{Frame, Raw, raw_of, frame_length}
 use Rattle.amqp_wire.specs.Canonical.{canon, canon_frames}
 use Rattle.amqp_wire.specs.Spelling.{SpellsFrames}
 use Rattle.amqp_wire.specs.Fronts.{front, place, ComesBefore}
@@ -22,7 +22,7 @@ use Rattle.amqp_stream.specs.declared.sink.SinkFault.{SinkFault}
 use Rattle.amqp_stream.specs.Ends.{Supply, Store, Takes, Gains}
 use Rattle.amqp_stream.specs.Errors.{stream_error, Cause, faulty, write_failed, cause_of}
 use Rattle.amqp_stream.specs.Reading.{Holding, Fails, idle_reads_at, PullsTo, IsBorrowed, HasNext}
-use Rattle.amqp_stream.specs.Writing.{WritesAll, Gathered, GatherFails, WritesFrame, IsUnwritten, frame_length}
+use Rattle.amqp_stream.specs.Writing.{WritesAll, Gathered, GatherFails, WritesFrame, IsUnwritten}
 use Rattle.amqp_stream.proofs.Adding.{Rises-later, Takes-then, Takes-none, Gains-none, Gains-then, IsBytes-append, IsBytes-nil}
 use Rattle.amqp_stream.proofs.Going.{frame_fits}
 use Rattle.amqp_vectors_streams.specs.Forwarding.{IsPassed, IsEndedBy, HasEnded, IsForwardedUpTo, HasForwarded, Forwards}

@@ -1,8 +1,8 @@
 //! A loop over the frames of a source: each one is read, and its canonical bytes are written before the next.
 
 ghost use Rattle.std.specs.Prelude.{◌≡◌, ◌+◌, ◌^◌, ◌<◌, ◌≤◌, [], length};
-ghost use Rattle.amqp_wire.specs.Frames.{raw_of};
-ghost use Rattle.amqp_stream.specs.Writing.{WritesFrame, frame_length};
+ghost use Rattle.amqp_wire.specs.Frames.{raw_of, frame_length};
+ghost use Rattle.amqp_stream.specs.Writing.{WritesFrame};
 ghost use Rattle.amqp_vectors_streams.specs.Forwarding.{Forwards};
 
 use amqp_stream::{

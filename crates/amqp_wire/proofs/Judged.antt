@@ -1,5 +1,5 @@
 -- Whole payloads that are decoded without memory.
-use Rattle.std.proofs.Common.{◌≡◌, ◌≤◌, ◌<◌, ℕ, Bool, true, false, List, [], length, take, Result, Ok, Err, refl, sym, ap, subst, ◌∙◌, arith, IsTrue, ◌∷◌, inl, inr}
+use Rattle.std.proofs.Common.{◌≡◌, ◌<◌, ℕ, Bool, true, false, List, [], length, take, Result, Ok, Err, refl, sym, ap, subst, ◌∙◌, arith, IsTrue, ◌∷◌, inl, inr}
 use Rattle.std.specs.Str.{bytes_eq}
 use Rattle.std.specs.Prelude.{eqb, ◌↔◌, ◌^◌}
 use Rattle.std.proofs.lemmas.Bool.{cases_eq, eq-eqb, ne_eqb}
@@ -29,6 +29,7 @@ use Rattle.amqp_canonical.specs.SlotJudgements.{TakesTidily, JudgesPayload, Judg
 use Rattle.amqp_wire.specs.declared.frame_type.AMQPFrameType.{AMQPFrameType}
 use Rattle.amqp_wire.specs.declared.frame_type.AMQPFrameType.TheVariants as kinds
 use Rattle.amqp_wire.specs.declared.judging.FrameJudgement.{FrameJudgement}
+use Rattle.amqp_wire.specs.declared.version.ProtocolVersion.{ProtocolVersion}
 use Rattle.amqp_wire.specs.Frames.{Frame, Proto, Meth, Head, Body, beat_on, raw_as}
 use Rattle.amqp_wire.specs.Canonical.{payload_of}
 use Rattle.amqp_wire.specs.Spelling.{Spells, bytes_as}
@@ -153,28 +154,13 @@ beat_frame channel payload empty e = record {
   tidy = e;
 }
 
-pub proto_frame : (channel : ℕ) (payload : List ℕ) → 3 ≤ length payload → length payload < 4 → JudgesFrame (raw_as kinds.ProtocolHeader channel payload) (Ok (record { canonical = true; tidy = true }))
+pub proto_frame : (channel : ℕ) (payload : List ℕ) (v : ProtocolVersion) → whole_as kinds.ProtocolHeader channel payload ≡ Ok (Proto v.major v.minor v.revision) → JudgesFrame (raw_as kinds.ProtocolHeader channel payload) (Ok (record { canonical = true; tidy = true }))
 unfolding whole_as is_tidy_as
-proto_frame channel [] long few = absurd (omega arith)
-proto_frame channel (a ∷ []) long few = absurd (omega arith)
-proto_frame channel (a ∷ b ∷ []) long few = absurd (omega arith)
-proto_frame channel (a ∷ b ∷ c ∷ []) long few = record { frame = Proto a b c; is = refl; canonical = same_bytes (a ∷ b ∷ c ∷ []); tidy = refl }
-proto_frame channel (a ∷ b ∷ c ∷ d ∷ more) long few = absurd (omega arith)
-
-pub proto_short : (channel : ℕ) (payload : List ℕ) → length payload < 3 → JudgesFrame (raw_as kinds.ProtocolHeader channel payload) (Err errors.ShortPayload)
-unfolding whole_as
-proto_short channel [] few = ((tt, λ e. cc), refl)
-proto_short channel (a ∷ []) few = ((tt, λ e. cc), refl)
-proto_short channel (a ∷ b ∷ []) few = ((tt, λ e. cc), refl)
-proto_short channel (a ∷ b ∷ c ∷ more) few = absurd (omega arith)
-
-pub proto_trailing : (channel : ℕ) (payload : List ℕ) → 4 ≤ length payload → JudgesFrame (raw_as kinds.ProtocolHeader channel payload) (Err errors.TrailingBytes)
-unfolding whole_as
-proto_trailing channel [] long = absurd (omega arith)
-proto_trailing channel (a ∷ []) long = absurd (omega arith)
-proto_trailing channel (a ∷ b ∷ []) long = absurd (omega arith)
-proto_trailing channel (a ∷ b ∷ c ∷ []) long = absurd (omega arith)
-proto_trailing channel (a ∷ b ∷ c ∷ d ∷ more) long = ((tt, λ e. cc), refl)
+proto_frame channel [] v is = absurd cc
+proto_frame channel (a ∷ []) v is = absurd cc
+proto_frame channel (a ∷ b ∷ []) v is = absurd cc
+proto_frame channel (a ∷ b ∷ c ∷ []) v is = record { frame = Proto a b c; is = refl; canonical = same_bytes (a ∷ b ∷ c ∷ []); tidy = refl }
+proto_frame channel (a ∷ b ∷ c ∷ d ∷ more) v is = absurd cc
 
 -- the same of a type that is this one
 pub judged_as : (kind other : AMQPFrameType) (channel : ℕ) (payload : List ℕ) (r : Result FrameJudgement ParserError) → kind ≡ other → JudgesFrame (raw_as other channel payload) r → JudgesFrame (raw_as kind channel payload) r

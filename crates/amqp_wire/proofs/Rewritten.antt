@@ -11,14 +11,14 @@ use Rattle.amqp_types.specs.Methods.{judge_payload, payload_bytes}
 use Rattle.amqp_types.specs.ContentHeaders.{SpellsContentHeader, judge_content_header, content_header_bytes}
 use Rattle.amqp_laws.proofs.MethodLaws.{payloads_lawful}
 use Rattle.amqp_laws.proofs.HeaderLaws.{content_headers_lawful}
-use Rattle.amqp_types.proofs.Puts.{puts_then}
+use Rattle.amqp_types.proofs.Puts.{puts_then, puts-length}
 use Rattle.amqp_canonical.specs.Writes.{IsRead, canonical_of}
 use Rattle.amqp_canonical.specs.WritingLaws.{WritesNoLonger}
 use Rattle.amqp_canonical.proofs.NoLonger.{payloads_no_longer, content_headers_no_longer}
 use Rattle.amqp_wire.specs.declared.frame_type.AMQPFrameType.{AMQPFrameType}
 use Rattle.amqp_wire.specs.declared.frame_type.AMQPFrameType.TheVariants as kinds
 use Rattle.amqp_wire.specs.declared.judging.FrameJudgement.{FrameJudgement}
-use Rattle.amqp_wire.specs.Frames.{Frame, Proto, Meth, Head, Body, Raw, beat_on}
+use Rattle.amqp_wire.specs.Frames.{Frame, Proto, Meth, Head, Body, Raw, beat_on, frame_length, length_around}
 use Rattle.amqp_wire.specs.Spelling.{framed}
 use Rattle.amqp_wire.specs.Canonical.{canon, payload_of}
 use Rattle.amqp_wire.specs.Judgements.{IsJudged}
@@ -141,16 +141,41 @@ pub beat_put : (old new : List ℕ) (at end : ℕ) (raw : Raw) (bytes : List ℕ
 unfolding whole_as
 beat_put old new at end raw bytes kind is p = rewrites old new at end raw (beat_on raw.channel) bytes (rw kind refl) (is ∙ canon_beat raw.channel) p
 
--- the payload of a protocol header is its version
-proto_canon : (channel : ℕ) (payload : List ℕ) (f : Frame) → whole_as kinds.ProtocolHeader channel payload ≡ Ok f → 65 ∷ 77 ∷ 81 ∷ 80 ∷ 0 ∷ payload ≡ canon f
-unfolding whole_as canon
-proto_canon channel [] f h = absurd cc
-proto_canon channel (a ∷ []) f h = absurd cc
-proto_canon channel (a ∷ b ∷ []) f h = absurd cc
-proto_canon channel (a ∷ b ∷ c ∷ []) f h = let same : Proto a b c ≡ f = cc in ap canon same
-proto_canon channel (a ∷ b ∷ c ∷ d ∷ more) f h = absurd cc
+-- a frame has eight bytes around its payload at most, or eight in all
+pub around_most : (kind : AMQPFrameType) (n : ℕ) → length_around kind n ≤ n + 8
+around_most kinds.ProtocolHeader n = omega arith
+around_most kinds.Method n = omega arith
+around_most kinds.Header n = omega arith
+around_most kinds.Body n = omega arith
+around_most kinds.Heartbeat n = omega arith
 
-pub proto_put : (old mid new : List ℕ) (at place end : ℕ) (raw : Raw) (found : FrameJudgement) → raw.kind ≡ kinds.ProtocolHeader → at + length raw.payload + 8 ≤ length old → IsJudged raw found
-    → Puts old mid at (65 ∷ 77 ∷ 81 ∷ 80 ∷ 0 ∷ []) place → Puts mid new place raw.payload end → Rewrites old new at (whole raw) (Ok end)
-proto_put old mid new at place end raw found kind room h first second =
-    rewrites old new at end raw h.frame _ h.is (proto_canon raw.channel raw.payload h.frame (whole_at raw kinds.ProtocolHeader h.frame kind h.is)) (puts_then old mid new at place end (65 ∷ 77 ∷ 81 ∷ 80 ∷ 0 ∷ []) raw.payload (omega (arith, room)) first second)
+-- ---- a protocol header
+
+-- the payload has three bytes, which follow the mark in the canonical bytes
+version_as : (channel : ℕ) (payload : List ℕ) (frame : Frame) → whole_as kinds.ProtocolHeader channel payload ≡ Ok frame → (length payload ≡ 3) × (65 ∷ 77 ∷ 81 ∷ 80 ∷ 0 ∷ payload ≡ canon frame)
+unfolding whole_as canon
+version_as channel [] frame is = absurd cc
+version_as channel (a ∷ []) frame is = absurd cc
+version_as channel (a ∷ b ∷ []) frame is = absurd cc
+version_as channel (a ∷ b ∷ c ∷ []) frame is = let same : Proto a b c ≡ frame = cc in (refl, ap canon same)
+version_as channel (a ∷ b ∷ c ∷ d ∷ more) frame is = absurd cc
+
+module _ (old mid : List ℕ) (at place : ℕ) (raw : Raw) (found : FrameJudgement) (kind : raw.kind ≡ kinds.ProtocolHeader) (h : IsJudged raw found) (room : at + frame_length raw ≤ length old)
+    (first : Puts old mid at (65 ∷ 77 ∷ 81 ∷ 80 ∷ 0 ∷ []) place) where
+  version_is : (length raw.payload ≡ 3) × (65 ∷ 77 ∷ 81 ∷ 80 ∷ 0 ∷ raw.payload ≡ canon h.frame)
+  version_is = version_as raw.channel raw.payload h.frame (whole_at raw kinds.ProtocolHeader h.frame kind h.is)
+
+  version_length : frame_length raw ≡ 8
+  version_length = ap (λ k. length_around k (length raw.payload)) kind
+
+  pub version_room : place + length raw.payload ≤ length mid
+  version_room =
+      let size = puts-length old mid at place (65 ∷ 77 ∷ 81 ∷ 80 ∷ 0 ∷ []) (omega (arith, room, version_length)) first in
+      omega (arith, version_is.0, first.behind, size, room, version_length)
+
+  pub version_put : (new : List ℕ) (end : ℕ) → Puts mid new place raw.payload end → Rewrites old new at (whole raw) (Ok end)
+  version_put new end second =
+      rewrites old new at end raw h.frame _ h.is version_is.1 (puts_then old mid new at place end (65 ∷ 77 ∷ 81 ∷ 80 ∷ 0 ∷ []) raw.payload (omega (arith, room, version_length, version_is.0)) first second)
+
+  pub version_within : (new : List ℕ) (end : ℕ) → Puts mid new place raw.payload end → end ≤ at + frame_length raw
+  version_within new end second = omega (arith, version_is.0, first.behind, second.behind, version_length)

@@ -1,5 +1,5 @@
 -- Frames as contracts see them.
-use Rattle.std.specs.Prelude.{ℕ, ◌==◌, List, if◌then◌else◌}
+use Rattle.std.specs.Prelude.{ℕ, ◌+◌, ◌==◌, List, length, if◌then◌else◌}
 use Rattle.amqp_types.specs.Methods.{Method}
 use Rattle.amqp_types.specs.ContentHeaders.{ContentHeader}
 use Rattle.amqp_wire.specs.declared.frame_type.AMQPFrameType.{AMQPFrameType}
@@ -28,6 +28,18 @@ raw_as kind channel payload = record { kind = kind; channel = channel; payload =
 -- a borrowed frame as contracts see it
 abbrev pub raw_of : AMQPRawFrame → Raw
 raw_of raw = record { kind = raw.frame_type; channel = raw.channel_id; payload = raw.payload.now }
+
+-- how many bytes a frame has around a payload of n bytes (AMQP 0-9-1, sections 4.2.2 and 4.2.3)
+abbrev pub length_around : AMQPFrameType → ℕ → ℕ
+length_around kinds.ProtocolHeader n = 8
+length_around kinds.Method n = n + 8
+length_around kinds.Header n = n + 8
+length_around kinds.Body n = n + 8
+length_around kinds.Heartbeat n = n + 8
+
+-- how many bytes a frame has
+abbrev pub frame_length : Raw → ℕ
+frame_length raw = length_around raw.kind (length raw.payload)
 
 -- the channel, 0 for a protocol header and a heartbeat
 abbrev pub channel_id_of : Frame → ℕ

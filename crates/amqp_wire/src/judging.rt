@@ -10,6 +10,7 @@ ghost use Rattle.amqp_wire.specs.Judgements.{JudgesAll, JudgesFrame};
 
 use crate::frame_type::AMQPFrameType;
 use crate::raw_frame::AMQPRawFrame;
+use crate::version::ProtocolVersion;
 use amqp_canonical::{judge_content_header, judge_payload};
 use amqp_types::{ChannelId, ParserError};
 
@@ -63,13 +64,12 @@ fn judge_as(
     ensures { JudgesFrame (record { kind = frame_type; channel = channel_id; payload = payload.now }) result }
 {
     match frame_type {
-        AMQPFrameType::ProtocolHeader => match payload {
-            [_, _, _] => Ok(FrameJudgement {
+        AMQPFrameType::ProtocolHeader => match ProtocolVersion::from_payload(payload) {
+            Err(error) => Err(error),
+            Ok(_) => Ok(FrameJudgement {
                 canonical: true,
                 tidy: true,
             }),
-            [_, _, _, _, ..] => Err(ParserError::TrailingBytes),
-            _ => Err(ParserError::ShortPayload),
         },
         AMQPFrameType::Method => judge_method(payload),
         AMQPFrameType::Header => judge_header(payload),

@@ -1,11 +1,12 @@
 //! Putting the canonical bytes of a borrowed frame, without memory. Most frames come in them, and are copied.
 
 ghost use Rattle.std.specs.Prelude.{◌≡◌, ◌≢◌, ◌+◌, ◌^◌, ◌<◌, ◌≤◌, ℕ, List, Ok, Err, length, IfOk, IfErr};
-ghost use Rattle.amqp_types.specs.Methods.{judge_payload, payload_bytes};
-ghost use Rattle.amqp_types.specs.ContentHeaders.{judge_content_header, content_header_bytes};
+ghost use Rattle.amqp_types.specs.Methods.{judge_payload};
+ghost use Rattle.amqp_types.specs.ContentHeaders.{judge_content_header};
 ghost use Rattle.amqp_types.specs.Writing.{Puts};
-ghost use Rattle.amqp_canonical.specs.Writes.{IsRead, canonical_of};
-ghost use Rattle.amqp_wire.specs.Frames.{raw_of};
+ghost use Rattle.amqp_canonical.specs.Payloads.{canonical_header, canonical_method};
+ghost use Rattle.amqp_canonical.specs.Writes.{IsRead};
+ghost use Rattle.amqp_wire.specs.Frames.{raw_of, length_around};
 ghost use Rattle.amqp_wire.specs.Judgements.{JudgesFrame};
 ghost use Rattle.amqp_wire.specs.Rewrites.{Rewrites};
 ghost use Rattle.amqp_wire.specs.Spelling.{framed};
@@ -30,7 +31,7 @@ fn put_method(
     requires read { IsRead (judge_payload payload.now) }
     requires few { length payload.now < 2 ^ 32 }
     requires room { at + length payload.now + 8 ≤ length buf.old }
-    ensures { Puts buf.old buf.new at (framed method_byte channel_id (canonical_of payload_bytes (judge_payload payload.now))) result }
+    ensures { Puts buf.old buf.new at (framed method_byte channel_id (canonical_method payload.now)) result }
 {
     let end = put_payload(buf, at + 7, scratch, payload);
     put_around(buf, at, end, FRAME_METHOD, channel_id)
@@ -47,7 +48,7 @@ fn put_header(
     requires read { IsRead (judge_content_header payload.now) }
     requires few { length payload.now < 2 ^ 32 }
     requires room { at + length payload.now + 8 ≤ length buf.old }
-    ensures { Puts buf.old buf.new at (framed header_byte channel_id (canonical_of content_header_bytes (judge_content_header payload.now))) result }
+    ensures { Puts buf.old buf.new at (framed header_byte channel_id (canonical_header payload.now)) result }
 {
     let end = put_content_header(buf, at + 7, scratch, payload);
     put_around(buf, at, end, FRAME_HEADER, channel_id)
@@ -67,9 +68,11 @@ pub fn put_judged(
 ) -> usize
     requires whole { JudgesFrame (record { kind = frame_type; channel = channel_id; payload = payload.now }) (Ok judged) }
     requires few { length payload.now < 2 ^ 32 }
-    requires room { at + length payload.now + 8 ≤ length buf.old }
+    requires room { at + length_around frame_type (length payload.now) ≤ length buf.old }
     ensures puts { Rewrites buf.old buf.new at (whole_as frame_type channel_id payload.now) (Ok result) }
-    ensures within { result ≤ at + length payload.now + 8 }
+
+    // No more bytes are put than the frame has.
+    ensures within { result ≤ at + length_around frame_type (length payload.now) }
 {
     match frame_type {
         AMQPFrameType::ProtocolHeader => {
@@ -103,7 +106,6 @@ pub fn put_canonical(
     requires room { at + length raw.payload.now + 8 ≤ length buf.old }
     ensures whole { Rewrites buf.old buf.new at (whole (raw_of raw.entry)) result }
 
-    // No more bytes are put than the borrowed frame has.
     ensures within { IfOk result (λ end. end ≤ at + length raw.entry.payload.now + 8) }
     ensures inside { IfErr result IsPayloadError }
     ensures memory { result ≢ Err ParserError.NoMemory }

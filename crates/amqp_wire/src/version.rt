@@ -1,6 +1,6 @@
 //! Versions of the protocol, as protocol headers name them (AMQP 0-9-1, section 4.2.2).
 
-ghost use Rattle.std.specs.Prelude.{◌≡◌, ◌≢◌, ℕ, Some, Err, IfErr};
+ghost use Rattle.std.specs.Prelude.{◌≡◌, ◌≢◌, ◌∷◌, [], ℕ, Some, Ok, Err, IfErr};
 ghost use Rattle.amqp_types.specs.Answers.{AnswersWhole};
 ghost use Rattle.amqp_wire.specs.declared.frame_type.AMQPFrameType.TheVariants as kinds;
 ghost use Rattle.amqp_wire.specs.Display.{version_text};
@@ -41,6 +41,8 @@ impl ProtocolVersion {
     pub fn from_payload(payload: &[u8]) -> Result<Self, ParserError>
         ensures whole { (channel : ℕ) → AnswersWhole (λ version. Proto version.major version.minor version.revision) result
             (whole_as kinds.ProtocolHeader channel payload.now) }
+        ensures found { (major minor revision : ℕ) → payload.now ≡ major ∷ minor ∷ revision ∷ []
+            → result ≡ Ok (record { major = major; minor = minor; revision = revision }) }
         ensures inside { IfErr result IsPayloadError }
         ensures memory { result ≢ Err ParserError.NoMemory }
     {

@@ -3,7 +3,7 @@ use Rattle.std.proofs.Common.{length, sym, ap, subst, arith}
 use Rattle.amqp_types.specs.Judging.{Judged}
 use Rattle.amqp_types.specs.ContentHeaders.{ContentHeader, content_header_bytes}
 use Rattle.amqp_canonical.specs.Writes.{IsRead, canonical_of}
-use Rattle.amqp_canonical.proofs.PutParts.{puts_as}
+use Rattle.amqp_canonical.proofs.Putting.{put_in_room, same_put}
 use Rattle.amqp_canonical.proofs.PayloadParts.{header_put}
 use Rattle.amqp_canonical.proofs.payload_writing.put_content_header.Goals as goal
 
@@ -14,7 +14,7 @@ pub put_header-requires-clause-read : goal.put_header-requires-clause-read
 put_header-requires-clause-read c = let P : Judged ContentHeader → Type 0 = λ j. IsRead j in subst P (sym c.header_parts-class.ensures.same) c.requires.read
 
 pub put_header-requires-clause-room : goal.put_header-requires-clause-room
-put_header-requires-clause-room c = omega (arith, ap (λ j. length (canonical_of content_header_bytes j)) c.header_parts-class.ensures.same, c.requires.room)
+put_header-requires-clause-room c = record { few = omega (arith, ap (λ j. length (canonical_of content_header_bytes j)) c.header_parts-class.ensures.same, c.requires.room); room = λ known. omega (arith, ap (λ j. length (canonical_of content_header_bytes j)) c.header_parts-class.ensures.same, c.requires.room) }
 
 pub returns : goal.returns
-returns c = puts_as _ _ _ _ _ _ (ap (λ j. canonical_of content_header_bytes j) c.header_parts-class.ensures.same) c.put_header.ensures
+returns c = put_in_room c.requires.room (same_put (ap (λ j. canonical_of content_header_bytes j) c.header_parts-class.ensures.same) c.put_header.ensures)

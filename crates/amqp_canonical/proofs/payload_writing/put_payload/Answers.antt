@@ -2,7 +2,7 @@
 use Rattle.std.proofs.Common.{List, ℕ, length, sym, ap, subst, arith}
 use Rattle.amqp_types.specs.Methods.{judge_payload, payload_bytes}
 use Rattle.amqp_canonical.specs.Writes.{IsRead, canonical_of}
-use Rattle.amqp_canonical.proofs.PutParts.{puts_as}
+use Rattle.amqp_canonical.proofs.Putting.{put_in_room, same_put}
 use Rattle.amqp_canonical.proofs.PayloadParts.{payload_long}
 use Rattle.amqp_canonical.proofs.payload_writing.put_payload.Goals as goal
 
@@ -13,7 +13,7 @@ pub put_method-requires-clause-read : goal.put_method-requires-clause-read
 put_method-requires-clause-read c = let P : List ℕ → Type 0 = λ bs. IsRead (judge_payload bs) in subst P (sym c.method_parts-class.ensures) c.requires.read
 
 pub put_method-requires-clause-room : goal.put_method-requires-clause-room
-put_method-requires-clause-room c = omega (arith, ap (λ bs. length (canonical_of payload_bytes (judge_payload bs))) c.method_parts-class.ensures, c.requires.room)
+put_method-requires-clause-room c = record { few = omega (arith, ap (λ bs. length (canonical_of payload_bytes (judge_payload bs))) c.method_parts-class.ensures, c.requires.room); room = λ known. omega (arith, ap (λ bs. length (canonical_of payload_bytes (judge_payload bs))) c.method_parts-class.ensures, c.requires.room) }
 
 pub returns : goal.returns
-returns c = puts_as _ _ _ _ _ _ (ap (λ bs. canonical_of payload_bytes (judge_payload bs)) c.method_parts-class.ensures) c.put_method.ensures
+returns c = put_in_room c.requires.room (same_put (ap (λ bs. canonical_of payload_bytes (judge_payload bs)) c.method_parts-class.ensures) c.put_method.ensures)

@@ -1,29 +1,21 @@
--- `filter`: clauses `stream`, `never_untidy`, `never_too_large`, `never_faulted`, `exact` and `complete`.
+-- `filter`: clauses `run`, `never_untidy`, `never_too_large` and `never_faulted`.
 use Rattle.std.proofs.Common.{true, refl}
-use Rattle.amqp_in_turn.proofs.Turning.{goes_stream, goes_exactly, never_untidy, fresh, welcome, done_or_memory}
+use Rattle.amqp_in_turn.proofs.Turning.{goes_run, never_untidy, fresh}
 use Rattle.amqp_filter.specs.Stepping.{is_method_type}
 use Rattle.amqp_filter.proofs.Running.{filters_by_turns, is_new}
 use Rattle.amqp_filter.proofs.filtering.filter.Goals as goal
 
-pub returns-clause-stream : goal.returns-clause-stream
-returns-clause-stream g c =
-    rw c.as_turned.ensures (goes_stream is_method_type true (filters_by_turns c.args.rules.now) _ _ _ _ _ _ _ _ c.run_stream.result (is_new c.args.rules.now _ c.new-writer.ensures.rules c.new-writer.ensures.messages) c.run_stream.ensures.stream)
+pub returns-clause-run : goal.returns-clause-run
+returns-clause-run g c =
+    rw c.as_turned.ensures (goes_run is_method_type true (filters_by_turns c.args.rules.now) _ _ c.run_stream.result (is_new c.args.rules.now _ c.new-writer.ensures.rules c.new-writer.ensures.messages) c.run_stream.ensures.run)
 
 pub returns-clause-never_untidy : goal.returns-clause-never_untidy
-returns-clause-never_untidy g c = rw c.as_turned.ensures (never_untidy is_method_type true (filters_by_turns c.args.rules.now) c.run_stream.result c.run_stream.ensures.stream)
+returns-clause-never_untidy g c = rw c.as_turned.ensures (never_untidy is_method_type true (filters_by_turns c.args.rules.now) c.run_stream.result c.run_stream.ensures.run)
 
 pub returns-clause-never_too_large : goal.returns-clause-never_too_large
 returns-clause-never_too_large g c =
-    rw c.as_turned.ensures (λ e. (fresh is_method_type true (filters_by_turns c.args.rules.now) _ _ _ _ _ _ _ _ c.run_stream.result _ (is_new c.args.rules.now _ c.new-writer.ensures.rules c.new-writer.ensures.messages) c.run_stream.ensures.stream e).0 refl)
+    rw c.as_turned.ensures (λ e. (fresh is_method_type true (filters_by_turns c.args.rules.now) c.run_stream.result _ (is_new c.args.rules.now _ c.new-writer.ensures.rules c.new-writer.ensures.messages) c.run_stream.ensures.run e).0 refl)
 
 pub returns-clause-never_faulted : goal.returns-clause-never_faulted
 returns-clause-never_faulted g c =
-    rw c.as_turned.ensures (λ e. (fresh is_method_type true (filters_by_turns c.args.rules.now) _ _ _ _ _ _ _ _ c.run_stream.result _ (is_new c.args.rules.now _ c.new-writer.ensures.rules c.new-writer.ensures.messages) c.run_stream.ensures.stream e).1 refl)
-
-pub returns-clause-exact : goal.returns-clause-exact
-returns-clause-exact g c = λ bytes e.
-    rw c.as_turned.ensures (goes_exactly is_method_type true (filters_by_turns c.args.rules.now) _ _ bytes _ _ c.run_stream.result (is_new c.args.rules.now _ c.new-writer.ensures.rules c.new-writer.ensures.messages) (c.run_stream.ensures.exact bytes e))
-
-pub returns-clause-complete : goal.returns-clause-complete
-returns-clause-complete g c = λ bytes e valid whole faultless.
-    rw c.as_turned.ensures (done_or_memory c.run_stream.result (c.run_stream.ensures.complete bytes e valid (welcome is_method_type true (filters_by_turns c.args.rules.now) _ _ bytes (is_new c.args.rules.now _ c.new-writer.ensures.rules c.new-writer.ensures.messages) whole) faultless))
+    rw c.as_turned.ensures (λ e. (fresh is_method_type true (filters_by_turns c.args.rules.now) c.run_stream.result _ (is_new c.args.rules.now _ c.new-writer.ensures.rules c.new-writer.ensures.messages) c.run_stream.ensures.run e).1 refl)

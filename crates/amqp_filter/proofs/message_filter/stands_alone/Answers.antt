@@ -8,7 +8,7 @@ use Rattle.amqp_filter.proofs.Stepping.{beat_passed}
 use Rattle.amqp_filter.proofs.message_filter.stands_alone.Goals as goal
 
 pub returns-in-Method : goal.returns-in-Method
-returns-in-Method c = λ frame h alone. ap (mark_after greatest None) (sym (c.outline_raw.ensures.frame frame h)) ∙ c.is_passed.ensures.0 alone
+returns-in-Method c = λ frame h alone. ap (mark_after greatest None) (sym (c.outline_raw.ensures.frame frame h)) ∙ c.is_passed.ensures alone
 
 pub returns-in-Heartbeat : goal.returns-in-Heartbeat
 returns-in-Heartbeat c = λ frame h alone. beat_passed (raw_of c.args.raw) frame c.in-Heartbeat.is h

@@ -1,9 +1,9 @@
--- `dump`: clauses `stream` and `exact`.
-use Rattle.amqp_lines.proofs.Dumps.{dumps_stream, dumps_exactly}
+-- `dump`: clauses `run` and `never_untidy`.
+use Rattle.amqp_lines.proofs.Dumps.{dump_run, never_untidy}
 use Rattle.amqp_lines.proofs.dumping.dump.Goals as goal
 
-pub returns-in-Ok-clause-stream : goal.returns-in-Ok-clause-stream
-returns-in-Ok-clause-stream g c = dumps_stream tt tt _ _ _ _ _ _ c.unrefused.result (rw c.unrefused.ensures at c.run_stream.ensures.stream)
+pub returns-in-Ok-clause-run : goal.returns-in-Ok-clause-run
+returns-in-Ok-clause-run g c = dump_run c.unrefused.result (rw c.unrefused.ensures at c.run_stream.ensures.run)
 
-pub returns-in-Ok-clause-exact : goal.returns-in-Ok-clause-exact
-returns-in-Ok-clause-exact g c = λ bytes e. dumps_exactly tt _ _ _ _ c.unrefused.result (rw c.unrefused.ensures at (c.run_stream.ensures.exact bytes e))
+pub returns-in-Ok-clause-never_untidy : goal.returns-in-Ok-clause-never_untidy
+returns-in-Ok-clause-never_untidy g c = never_untidy c.unrefused.result (rw c.unrefused.ensures at c.run_stream.ensures.run)

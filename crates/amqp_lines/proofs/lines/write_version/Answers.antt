@@ -1,8 +1,12 @@
 -- `write_version`: what it ensures.
+use Rattle.std.proofs.Common.{◌≡◌}
+use Rattle.amqp_wire.specs.declared.version.ProtocolVersion.{ProtocolVersion}
 use Rattle.amqp_lines.proofs.Lining.{version_said}
 use Rattle.amqp_lines.proofs.lines.write_version.Goals as goal
 
-pub returns-in_ok-push-in-len3-2 : goal.returns-in_ok-push-in-len3-2
-returns-in_ok-push-in-len3-2 c =
-    version_said c.args.payload.now _ c.write_bytes.new.out.items c.write_decimal.new.out.items c.push.new.self.items c.write_decimal-in-len3.new.out.items c.push-in-len3.new.self.items _ c.write_decimal-in-len3-2.result
-    c.in_ok-write_bytes-in-len3.ensures c.in_ok-write_decimal-in-len3.ensures c.in_ok-push-in-len3.ensures.items c.in_ok-write_decimal-in-len3-2.ensures c.in_ok-push-in-len3-2.ensures.items c.write_decimal-in-len3-2.ensures
+pub returns-in_ok-push-in-Ok-2 : goal.returns-in_ok-push-in-Ok-2
+returns-in_ok-push-in-Ok-2 c = λ major minor revision is.
+    let named : ProtocolVersion = record { major = major; minor = minor; revision = revision } in
+    let version : c.in-Ok.version ≡ named = let found = c.in-Ok.ensures.found major minor revision is in cc in
+    version_said _ c.write_bytes.new.out.items c.write_decimal.new.out.items c.push.new.self.items c.write_decimal-in-Ok.new.out.items c.push-in-Ok.new.self.items _ c.in-Ok.version c.write_decimal-in-Ok-2.result
+    c.in_ok-write_bytes-in-Ok.ensures c.in_ok-write_decimal-in-Ok.ensures c.in_ok-push-in-Ok.ensures.items c.in_ok-write_decimal-in-Ok-2.ensures c.in_ok-push-in-Ok-2.ensures.items c.write_decimal-in-Ok-2.ensures major minor revision version

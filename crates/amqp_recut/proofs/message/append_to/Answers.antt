@@ -1,5 +1,5 @@
 -- `append_to`: clauses `ok` and `err`, and what calls require.
-use Rattle.std.proofs.Common.{◌≡◌, ◌++◌, true, false, Option, Some, sym, ap, ◌∙◌, subst}
+use Rattle.std.proofs.Common.{◌≡◌, ◌++◌, true, false, Option, sym, ap, ◌∙◌, subst}
 use Rattle.std.specs.Prelude.{IsSome}
 use Rattle.std.specs.FinMap as finite
 use Rattle.std.proofs.lemmas.Result.{on_ok_weaker, on_err_weaker}

@@ -1,18 +1,14 @@
 -- `judge_as`: what it ensures.
-use Rattle.std.proofs.Common.{true, Ok, Err}
-use Rattle.amqp_types.specs.declared.errors.ParserError.TheVariants as errors
+use Rattle.std.proofs.Common.{true, Ok, Err, ap}
 use Rattle.amqp_wire.specs.declared.frame_type.AMQPFrameType.TheVariants as kinds
-use Rattle.amqp_wire.proofs.Judged.{method_frame, header_frame, body_frame, beat_frame, proto_frame, proto_short, proto_trailing, judged_as}
+use Rattle.amqp_wire.proofs.Judged.{method_frame, header_frame, body_frame, beat_frame, proto_frame, judged_as}
 use Rattle.amqp_wire.proofs.judging.judge_as.Goals as goal
 
-pub returns-in_default : goal.returns-in_default
-returns-in_default c = judged_as c.args.frame_type kinds.ProtocolHeader c.args.channel_id c.args.payload.now (Err errors.ShortPayload) c.in-ProtocolHeader.is (proto_short c.args.channel_id c.args.payload.now c.in_default.len_below)
+pub returns-in-Err : goal.returns-in-Err
+returns-in-Err c = judged_as c.args.frame_type kinds.ProtocolHeader c.args.channel_id c.args.payload.now (Err c.in-Err.error) c.in-ProtocolHeader.is ((c.in-Err.ensures.inside, λ e. c.in-Err.ensures.memory (ap Err e)), c.in-Err.ensures.whole c.args.channel_id)
 
-pub returns-in-len3 : goal.returns-in-len3
-returns-in-len3 c = judged_as c.args.frame_type kinds.ProtocolHeader c.args.channel_id c.args.payload.now (Ok (record { canonical = true; tidy = true })) c.in-ProtocolHeader.is (proto_frame c.args.channel_id c.args.payload.now c.in-len3.len_at_least c.in-len3.len_below)
-
-pub returns-in-len4-up : goal.returns-in-len4-up
-returns-in-len4-up c = judged_as c.args.frame_type kinds.ProtocolHeader c.args.channel_id c.args.payload.now (Err errors.TrailingBytes) c.in-ProtocolHeader.is (proto_trailing c.args.channel_id c.args.payload.now c.in-len4-up.len_at_least)
+pub returns-in-Ok : goal.returns-in-Ok
+returns-in-Ok c = judged_as c.args.frame_type kinds.ProtocolHeader c.args.channel_id c.args.payload.now (Ok (record { canonical = true; tidy = true })) c.in-ProtocolHeader.is (proto_frame c.args.channel_id c.args.payload.now c.in-Ok.field-0 (c.in-Ok.ensures.whole c.args.channel_id))
 
 pub returns-in-Method : goal.returns-in-Method
 returns-in-Method c = judged_as c.args.frame_type kinds.Method c.args.channel_id c.args.payload.now _ c.in-Method.is (method_frame c.args.channel_id c.args.payload.now c.judge_method.result c.judge_method.ensures)
