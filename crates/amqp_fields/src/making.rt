@@ -35,13 +35,13 @@ fn within(head: usize, bad: Refusal) -> WriteError
 
 /// The first of some heads, and the others.
 #[inline(always)]
-fn first_head(heads: &[Head]) -> Option<(Head, &[Head])>
-    ensures found { IfSome result (λ found. heads.now ≡ found.0 ∷ found.1.now) }
+fn first_head(heads: &[Head]) -> Option<(&Head, &[Head])>
+    ensures found { IfSome result (λ found. heads.now ≡ found.0.now ∷ found.1.now) }
     ensures none { result ≡ None → length heads.now ≡ 0 }
 {
     match heads {
         [] => None,
-        [head, others @ ..] => Some((*head, others)),
+        [head, others @ ..] => Some((head, others)),
     }
 }
 

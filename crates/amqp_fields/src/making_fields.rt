@@ -25,9 +25,9 @@ fn make_plain(
     pool: &[u8],
     index: usize,
     form: Form,
-    node: Node,
+    node: &Node,
 ) -> Result<usize, Refusal>
-    ensures { Makes (made_plain pool.now index (form_of form) node) buf.old buf.new at result }
+    ensures { Makes (made_plain pool.now index (form_of form) node.now) buf.old buf.new at result }
 {
     match form {
         Form::Octet => make_octet(buf, at, index, node.number < 0x100, node.number),
@@ -48,10 +48,10 @@ fn make_form(
     pool: &[u8],
     end: usize,
     form: Form,
-    node: Node,
+    node: &Node,
     inside: &[Node],
 ) -> Result<usize, Refusal>
-    ensures { Makes (made_form pool.now (form_of form) end node inside.now) buf.old buf.new at result }
+    ensures { Makes (made_form pool.now (form_of form) end node.now inside.now) buf.old buf.new at result }
 {
     if form == Form::Table {
         return make_table(buf, at, pool, end, node, inside, INNER_DEPTH);
@@ -66,8 +66,8 @@ fn make_form(
 
 /// Whether a node is of the kind and at the place of a field.
 #[inline(always)]
-pub(crate) fn is_field(place: u8, form: Form, node: Node) -> bool
-    ensures { result ≡ is_field place (form_of form) node }
+pub(crate) fn is_field(place: u8, form: Form, node: &Node) -> bool
+    ensures { result ≡ is_field place (form_of form) node.now }
 {
     node.kind == kind_of(form) && node.place == place
 }
@@ -97,8 +97,8 @@ fn make_field(
 
 /// Whether a node is a flag at a place.
 #[inline(always)]
-fn is_flag(place: u8, node: Node) -> bool
-    ensures { result ≡ is_flag place node }
+fn is_flag(place: u8, node: &Node) -> bool
+    ensures { result ≡ is_flag place node.now }
 {
     is_field(place, Form::Flags(1), node) && node.inside == 0 && node.number < 2
 }
@@ -114,7 +114,7 @@ pub(crate) fn flags_byte(end: usize, place: u8, count: u8, nodes: &[Node]) -> Re
     match nodes {
         [] => Err(Refusal::bad(end)),
         [node, others @ ..] => {
-            if !is_flag(place, *node) {
+            if !is_flag(place, node) {
                 return Err(Refusal::bad(index_of(end, nodes)));
             }
             match flags_byte(end, further(place, 1), count - 1, others) {
@@ -241,9 +241,9 @@ pub(crate) fn make_slots(
 /// The bit and the form of the property that a node is, at a place or after it.
 #[inline(always)]
 #[tactic(auto, using(crate::proofs::PropertiesMade::property_stands, crate::proofs::PropertiesMade::property_before, crate::proofs::PropertiesMade::property_beyond, crate::proofs::PropertiesMade::property_other))]
-fn property_of(place: u8, node: Node) -> Option<(u16, Form)>
-    ensures found { IfSome result (λ shape. IsProperty place node (property_of shape)) }
-    ensures none { result ≡ None → IsNoProperty place node }
+fn property_of(place: u8, node: &Node) -> Option<(u16, Form)>
+    ensures found { IfSome result (λ shape. IsProperty place node.now (property_of shape)) }
+    ensures none { result ≡ None → IsNoProperty place node.now }
 {
     let shapes = property_shapes();
     let at = node.place as usize;

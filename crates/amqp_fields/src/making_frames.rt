@@ -21,8 +21,8 @@ use amqp_wire::frame_head;
 
 /// The nodes of a head, where the list has them.
 #[inline(always)]
-pub(crate) fn nodes_of(nodes: &[Node], head: Head) -> Option<&[Node]>
-    ensures { option_copied result ≡ nodes_in nodes.now head }
+pub(crate) fn nodes_of<'a>(nodes: &'a [Node], head: &Head) -> Option<&'a [Node]>
+    ensures { option_copied result ≡ nodes_in nodes.now head.now }
 {
     let first = head.first as usize;
     let count = head.nodes as usize;
@@ -35,8 +35,8 @@ pub(crate) fn nodes_of(nodes: &[Node], head: Head) -> Option<&[Node]>
 
 /// The place after the last node of a head.
 #[inline(always)]
-pub(crate) fn nodes_end(head: Head) -> usize
-    ensures { result ≡ head.first + head.nodes }
+pub(crate) fn nodes_end(head: &Head) -> usize
+    ensures { result ≡ head.now.first + head.now.nodes }
 {
     head.first as usize + head.nodes as usize
 }
@@ -66,8 +66,8 @@ pub(crate) fn unknown(class: u16) -> ParserError
 
 /// Both ids of a method.
 #[inline(always)]
-fn id_bytes(head: Head) -> [u8; 4]
-    ensures { result ≡ number_bytes bytes2 head.class_id ++ number_bytes bytes2 head.method_id }
+fn id_bytes(head: &Head) -> [u8; 4]
+    ensures { result ≡ number_bytes bytes2 head.now.class_id ++ number_bytes bytes2 head.now.method_id }
 {
     let class = head.class_id.to_be_bytes();
     let method = head.method_id.to_be_bytes();
@@ -82,9 +82,9 @@ fn make_method(
     at: usize,
     pool: &[u8],
     nodes: &[Node],
-    head: Head,
+    head: &Head,
 ) -> Result<usize, Refusal>
-    ensures { Makes (made_method pool.now nodes.now head) buf.old buf.new at result }
+    ensures { Makes (made_method pool.now nodes.now head.now) buf.old buf.new at result }
 {
     let shapes = match shapes_of(head.class_id, head.method_id) {
         Some(shapes) => shapes,
@@ -108,8 +108,8 @@ fn make_method(
 
 /// What stands in front of the properties of a content header: a class id, a weight of 0, and the size of the body.
 #[inline(always)]
-fn front_bytes(head: Head) -> [u8; 12]
-    ensures { result ≡ header_front head }
+fn front_bytes(head: &Head) -> [u8; 12]
+    ensures { result ≡ header_front head.now }
 {
     let class = head.class_id.to_be_bytes();
     let size = head.body_size.to_be_bytes();
@@ -127,9 +127,9 @@ fn make_header(
     at: usize,
     pool: &[u8],
     nodes: &[Node],
-    head: Head,
+    head: &Head,
 ) -> Result<usize, Refusal>
-    ensures { Makes (made_header pool.now nodes.now head) buf.old buf.new at result }
+    ensures { Makes (made_header pool.now nodes.now head.now) buf.old buf.new at result }
 {
     if head.method_id != 0 {
         return Err(Refusal::bad(0));
@@ -147,8 +147,8 @@ fn make_header(
 
 /// Whether a head has neither ids nor a body size.
 #[inline(always)]
-pub(crate) fn has_no_ids(head: Head) -> bool
-    ensures { result ≡ has_no_ids head }
+pub(crate) fn has_no_ids(head: &Head) -> bool
+    ensures { result ≡ has_no_ids head.now }
 {
     head.class_id == 0 && head.method_id == 0 && head.body_size == 0
 }
@@ -156,8 +156,8 @@ pub(crate) fn has_no_ids(head: Head) -> bool
 /// The payload of a body, which stands in the pool.
 #[inline(always)]
 #[tactic(auto, unfolding(crate::specs::MadeFrames::made_body))]
-fn make_body(buf: &mut [u8], at: usize, pool: &[u8], head: Head) -> Result<usize, Refusal>
-    ensures { Makes (made_body pool.now head) buf.old buf.new at result }
+fn make_body(buf: &mut [u8], at: usize, pool: &[u8], head: &Head) -> Result<usize, Refusal>
+    ensures { Makes (made_body pool.now head.now) buf.old buf.new at result }
 {
     if !has_no_ids(head) || head.nodes != 0 {
         return Err(Refusal::bad(0));
@@ -171,8 +171,8 @@ fn make_body(buf: &mut [u8], at: usize, pool: &[u8], head: Head) -> Result<usize
 /// The payload of a heartbeat, which is empty.
 #[inline(always)]
 #[tactic(auto, unfolding(crate::specs::MadeFrames::made_beat))]
-fn make_beat(buf: &mut [u8], at: usize, head: Head) -> Result<usize, Refusal>
-    ensures { Makes (made_beat head) buf.old buf.new at result }
+fn make_beat(buf: &mut [u8], at: usize, head: &Head) -> Result<usize, Refusal>
+    ensures { Makes (made_beat head.now) buf.old buf.new at result }
 {
     if has_no_ids(head) && head.nodes == 0 {
         Ok(put(buf, at, &[]))
@@ -189,9 +189,9 @@ fn make_version(
     at: usize,
     pool: &[u8],
     nodes: &[Node],
-    head: Head,
+    head: &Head,
 ) -> Result<usize, Refusal>
-    ensures { Makes (made_version pool.now nodes.now head) buf.old buf.new at result }
+    ensures { Makes (made_version pool.now nodes.now head.now) buf.old buf.new at result }
 {
     if !has_no_ids(head) || head.channel != 0 {
         return Err(Refusal::bad(0));
@@ -222,9 +222,9 @@ fn make_payload(
     at: usize,
     pool: &[u8],
     nodes: &[Node],
-    head: Head,
+    head: &Head,
 ) -> Result<usize, Refusal>
-    ensures { Makes (made_payload pool.now nodes.now head) buf.old buf.new at result }
+    ensures { Makes (made_payload pool.now nodes.now head.now) buf.old buf.new at result }
 {
     match head.frame_type {
         FRAME_METHOD => make_method(buf, at, pool, nodes, head),
@@ -240,11 +240,11 @@ fn make_payload(
 fn close_frame(
     buf: &mut [u8],
     at: usize,
-    head: Head,
+    head: &Head,
     payload: usize,
     max_payload: u32,
 ) -> Result<usize, Refusal>
-    ensures { Surrounds head.frame_type head.channel payload max_payload buf.old buf.new at result }
+    ensures { Surrounds head.now.frame_type head.now.channel payload max_payload buf.old buf.new at result }
 {
     if payload > max_payload as usize {
         return Err(Refusal {
@@ -269,10 +269,10 @@ fn make_typed(
     at: usize,
     pool: &[u8],
     nodes: &[Node],
-    head: Head,
+    head: &Head,
     max_payload: u32,
 ) -> Result<usize, Refusal>
-    ensures { Makes (made_typed pool.now nodes.now max_payload head) buf.old buf.new at result }
+    ensures { Makes (made_typed pool.now nodes.now max_payload head.now) buf.old buf.new at result }
 {
     if head.frame_type == PROTOCOL_BYTE {
         return make_version(buf, at, pool, nodes, head);
@@ -285,8 +285,8 @@ fn make_typed(
 
 /// The numbers of a head are within the widths of their members.
 #[inline(always)]
-pub(crate) fn head_held(head: Head)
-    ensures { is_held head ≡ true }
+pub(crate) fn head_held(head: &Head)
+    ensures { is_held head.now ≡ true }
 {
     short_held(head.channel);
     short_held(head.class_id);
@@ -302,10 +302,10 @@ pub(crate) fn make_frame(
     at: usize,
     pool: &[u8],
     nodes: &[Node],
-    head: Head,
+    head: &Head,
     max_payload: u32,
 ) -> Result<usize, Refusal>
-    ensures { Makes (made_frame pool.now nodes.now max_payload head) buf.old buf.new at result }
+    ensures { Makes (made_frame pool.now nodes.now max_payload head.now) buf.old buf.new at result }
 {
     head_held(head);
     make_typed(buf, at, pool, nodes, head, max_payload)

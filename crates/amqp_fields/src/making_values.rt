@@ -111,9 +111,9 @@ pub(crate) fn make_long_string(
     at: usize,
     pool: &[u8],
     index: usize,
-    node: Node,
+    node: &Node,
 ) -> Result<usize, Refusal>
-    ensures { Makes (made_span (made_long index) index (span_in pool.now node.start node.length)) buf.old buf.new at result }
+    ensures { Makes (made_span (made_long index) index (span_in pool.now node.now.start node.now.length)) buf.old buf.new at result }
 {
     match span(pool, node.start, node.length) {
         Some(bytes) => put_long(buf, at, index, bytes),
@@ -145,10 +145,10 @@ fn make_given_entries(
     at: usize,
     pool: &[u8],
     index: usize,
-    node: Node,
+    node: &Node,
     depth_left: usize,
 ) -> Result<usize, Refusal>
-    ensures { Makes (made_content (judge_entry (judge_value depth_left)) pool.now index node) buf.old buf.new at result }
+    ensures { Makes (made_content (judge_entry (judge_value depth_left)) pool.now index node.now) buf.old buf.new at result }
 {
     match span(pool, node.start, node.length) {
         Some(content) => match judge_entries(content, depth_left) {
@@ -165,10 +165,10 @@ fn make_given_values(
     at: usize,
     pool: &[u8],
     index: usize,
-    node: Node,
+    node: &Node,
     depth_left: usize,
 ) -> Result<usize, Refusal>
-    ensures { Makes (made_content (judge_value depth_left) pool.now index node) buf.old buf.new at result }
+    ensures { Makes (made_content (judge_value depth_left) pool.now index node.now) buf.old buf.new at result }
 {
     match span(pool, node.start, node.length) {
         Some(content) => match judge_values(content, depth_left) {
@@ -186,10 +186,10 @@ fn make_leaf(
     at: usize,
     pool: &[u8],
     index: usize,
-    node: Node,
+    node: &Node,
     tag: FieldTag,
 ) -> Result<usize, Refusal>
-    ensures { Makes (made_leaf pool.now index node tag) buf.old buf.new at result }
+    ensures { Makes (made_leaf pool.now index node.now tag) buf.old buf.new at result }
 {
     let number = node.number;
     match tag {
@@ -221,11 +221,11 @@ pub(crate) fn make_value(
     at: usize,
     pool: &[u8],
     end: usize,
-    node: Node,
+    node: &Node,
     inside: &[Node],
     depth_left: usize,
 ) -> Result<usize, Refusal>
-    ensures { Makes (made_value pool.now depth_left end node inside.now) buf.old buf.new at result }
+    ensures { Makes (made_value pool.now depth_left end node.now inside.now) buf.old buf.new at result }
 {
     match FieldTag::from_byte(node.kind) {
         Some(tag) => {
@@ -251,12 +251,12 @@ fn make_after_tag(
     at: usize,
     pool: &[u8],
     end: usize,
-    node: Node,
+    node: &Node,
     inside: &[Node],
     tag: FieldTag,
     depth_left: usize,
 ) -> Result<usize, Refusal>
-    ensures { Makes (made_behind pool.now (made_nested pool.now depth_left) tag end node inside.now) buf.old buf.new at result }
+    ensures { Makes (made_behind pool.now (made_nested pool.now depth_left) tag end node.now inside.now) buf.old buf.new at result }
 {
     match tag {
         FieldTag::FieldArray if depth_left == 0 => Err(too_deep(end, inside)),
@@ -289,11 +289,11 @@ fn make_array(
     at: usize,
     pool: &[u8],
     end: usize,
-    node: Node,
+    node: &Node,
     inside: &[Node],
     depth_left: usize,
 ) -> Result<usize, Refusal>
-    ensures { Makes (made_array pool.now depth_left (made_value pool.now depth_left) end node inside.now) buf.old buf.new at result }
+    ensures { Makes (made_array pool.now depth_left (made_value pool.now depth_left) end node.now inside.now) buf.old buf.new at result }
 {
     let index = own_index(end, inside);
     if inside.is_empty() {
@@ -313,11 +313,11 @@ pub(crate) fn make_table(
     at: usize,
     pool: &[u8],
     end: usize,
-    node: Node,
+    node: &Node,
     inside: &[Node],
     depth_left: usize,
 ) -> Result<usize, Refusal>
-    ensures { Makes (made_table pool.now depth_left (made_value pool.now depth_left) end node inside.now) buf.old buf.new at result }
+    ensures { Makes (made_table pool.now depth_left (made_value pool.now depth_left) end node.now inside.now) buf.old buf.new at result }
 {
     let index = own_index(end, inside);
     if inside.is_empty() {
@@ -397,11 +397,11 @@ fn make_entry(
     at: usize,
     pool: &[u8],
     end: usize,
-    node: Node,
+    node: &Node,
     inside: &[Node],
     depth_left: usize,
 ) -> Result<usize, Refusal>
-    ensures { Makes (made_entry pool.now (made_value pool.now depth_left) end node inside.now) buf.old buf.new at result }
+    ensures { Makes (made_entry pool.now (made_value pool.now depth_left) end node.now inside.now) buf.old buf.new at result }
 {
     let index = own_index(end, inside);
     let key = match make_text(buf, at, pool, index, node.key_start, node.key_length as u32) {

@@ -9,8 +9,8 @@ use crate::node::Node;
 /// The first of some nodes, those inside it, and the others. There is nothing where no nodes are left, or those inside it would
 /// pass the end.
 #[inline(always)]
-pub(crate) fn first_group(nodes: &[Node]) -> Option<(Node, &[Node], &[Node])>
-    ensures found { IfSome result (λ group. StandsFirst nodes.now group.0 group.1.now group.2.now) }
+pub(crate) fn first_group(nodes: &[Node]) -> Option<(&Node, &[Node], &[Node])>
+    ensures found { IfSome result (λ group. StandsFirst nodes.now group.0.now group.1.now group.2.now) }
     ensures none { result ≡ None → PassesEnd nodes.now }
 {
     match nodes {
@@ -21,7 +21,7 @@ pub(crate) fn first_group(nodes: &[Node]) -> Option<(Node, &[Node], &[Node])>
                 return None;
             }
             let (inside, others) = rest.split_at(count);
-            Some((*node, inside, others))
+            Some((node, inside, others))
         }
     }
 }

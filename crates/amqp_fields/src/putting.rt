@@ -154,9 +154,11 @@ pub(crate) fn span(pool: &[u8], start: u32, count: u32) -> Option<&[u8]>
 {
     let start = start as usize;
     let count = count as usize;
-    if start <= pool.len() && count <= pool.len() - start {
-        Some(&pool[start..start + count])
-    } else {
-        None
+    if start > pool.len() {
+        return None;
     }
+    if count > pool.len() - start {
+        return None;
+    }
+    Some(&pool[start..start + count])
 }

@@ -14,7 +14,7 @@ use Rattle.amqp_names.specs.declared.naming.Method.{Method}
 use Rattle.amqp_names.specs.declared.naming.MethodAt.{MethodAt}
 use Rattle.amqp_names.specs.Naming.{ClassNames, MethodNames}
 use Rattle.amqp_names.specs.Names.{class_names}
-use Rattle.amqp_names.specs.Tables.{all_methods, class_at, class_kinds, class_names_of, field_name, kinds_at, known_kinds, known_rows, located, method_in, method_kinds, method_names, methods_of, row_kinds}
+use Rattle.amqp_names.specs.Tables.{all_methods, class_at, class_kinds, class_names_of, field_name, kinds_at, known_kinds, known_rows, located, method_in, method_kinds, method_names, row_kinds}
 
 -- the first of the images that passes is the image of the first whose image passes
 pub find-map : {X Y : Type 0} (v : X → Y) (test : Y → Bool) (xs : List X) → find test (map v xs) ≡ option_map v (find (λ x. test (v x)) xs)
@@ -107,43 +107,50 @@ pub got_seen : {X Y : Type 0} (v : X → Y) (xs : List X) (ys : List Y) (k : ℕ
 got_seen v xs ys k r copy seen copied some at =
     ap (option_map v) (copied ∙ got xs k r some at) ∙ (sym (slice_get-map v xs k) ∙ ap (λ (l : List _). slice_get l k) seen)
 
--- the methods of classes, one after another
-abbrev methods_in : List Class → List (ℕ × MethodNames)
-methods_in cs = flat_map methods_of (map class_names_of cs)
-
--- a method of a class, with the id of the class
-abbrev in_class : Class → Method → ℕ × MethodNames
-in_class c m = (c.id, method_names m)
-
--- an element of a class
-in_front : (c : Class) (k : ℕ) → slice_get (methods_of (class_names_of c)) k ≡ option_map (in_class c) (slice_get c.methods.now k)
-in_front c k = slice_get-map (λ m. (c.id, m)) (map method_names c.methods.now) k
-    ∙ (ap (option_map (λ (m : MethodNames). (c.id, m))) (slice_get-map method_names c.methods.now k) ∙ twice (slice_get c.methods.now k))
-  where
-    twice : (o : Option Method) → option_map (λ (m : MethodNames). (c.id, m)) (option_map method_names o) ≡ option_map (in_class c) o
-    twice None = refl
-    twice (Some m) = refl
-
--- a method of the first of some classes
-pub counted_first : (cs : List Class) (none : Class) (k : ℕ) (m : Method) → 1 ≤ length cs → slice_get (get_or cs 0 none).methods.now k ≡ Some m
-    → Some (in_class (get_or cs 0 none) m) ≡ slice_get (flat_map methods_of (map class_names_of cs)) k
-counted_first [] none k m some at = search rules
-counted_first (c ∷ cs) none k m some at = get_first (methods_of (class_names_of c)) (methods_in cs) k (in_class c m) (in_front c k ∙ ap (option_map (in_class c)) at)
-
 -- what follows the first of some classes
 others_are : (c : Class) (cs : List Class) → take (length (c ∷ cs) - 1) (drop 1 (c ∷ cs)) ≡ cs
 others_are c cs = take_all (length (c ∷ cs) - 1) cs (omega arith)
 
--- a method of the others
-pub counted_later : (cs : List Class) (none : Class) (k : ℕ) (r : Option (ℕ × MethodNames)) → 1 ≤ length cs → slice_get (get_or cs 0 none).methods.now k ≡ None
-    → r ≡ slice_get (flat_map methods_of (map class_names_of (take (length cs - 1) (drop 1 cs)))) (k - length (get_or cs 0 none).methods.now) → r ≡ slice_get (flat_map methods_of (map class_names_of cs)) k
-counted_later [] none k r some at later = search rules
-counted_later (c ∷ cs) none k r some at later =
-    let as_long : length (methods_of (class_names_of c)) ≡ length c.methods.now = grind (arith, common_steps) in
-    later
-    ∙ (ap (λ (xs : List Class). slice_get (methods_in xs) (k - length c.methods.now)) (others_are c cs)
-    ∙ (ap (λ (n : ℕ). slice_get (methods_in cs) (k - n)) (sym as_long)
-    ∙ get_second (methods_of (class_names_of c)) (methods_in cs) k (in_front c k ∙ ap (option_map (in_class c)) at)))
+-- what is seen of the methods of classes, one after another, each with the id of its class
+module _ {A X : Type 0} (see : Method → X) (of : Class → A) (methods : A → List (ℕ × X)) (are : (c : Class) → methods (of c) ≡ map (λ x. (c.id, x)) (map see c.methods.now)) where
+  abbrev seen_in : List Class → List (ℕ × X)
+  seen_in cs = flat_map methods (map of cs)
+
+  -- of a method, with the id of a class
+  abbrev in_class : Class → Method → ℕ × X
+  in_class c m = (c.id, see m)
+
+  -- the same of what is seen
+  abbrev beside : Class → X → ℕ × X
+  beside c x = (c.id, x)
+
+  -- an element of a class
+  in_front : (c : Class) (k : ℕ) → slice_get (methods (of c)) k ≡ option_map (in_class c) (slice_get c.methods.now k)
+  in_front c k =
+      ap (λ (xs : List (ℕ × X)). slice_get xs k) (are c)
+      ∙ (slice_get-map (beside c) (map see c.methods.now) k
+      ∙ (ap (option_map (beside c)) (slice_get-map see c.methods.now k) ∙ twice (slice_get c.methods.now k)))
+    where
+      twice : (o : Option Method) → option_map (beside c) (option_map see o) ≡ option_map (in_class c) o
+      twice None = refl
+      twice (Some m) = refl
+
+  -- a method of the first of some classes
+  pub counted_first : (cs : List Class) (none : Class) (k : ℕ) (m : Method) → 1 ≤ length cs → slice_get (get_or cs 0 none).methods.now k ≡ Some m → Some (in_class (get_or cs 0 none) m) ≡ slice_get (seen_in cs) k
+  counted_first [] none k m some at = search rules
+  counted_first (c ∷ cs) none k m some at = get_first (methods (of c)) (seen_in cs) k (in_class c m) (in_front c k ∙ ap (option_map (in_class c)) at)
+
+  -- a method of the others
+  pub counted_later : (cs : List Class) (none : Class) (k : ℕ) (r : Option (ℕ × X)) → 1 ≤ length cs → slice_get (get_or cs 0 none).methods.now k ≡ None
+      → r ≡ slice_get (seen_in (take (length cs - 1) (drop 1 cs))) (k - length (get_or cs 0 none).methods.now) → r ≡ slice_get (seen_in cs) k
+  counted_later [] none k r some at later = search rules
+  counted_later (c ∷ cs) none k r some at later =
+      let seen : length (map (beside c) (map see c.methods.now)) ≡ length c.methods.now = grind (arith, common_steps) in
+      let as_long : length (methods (of c)) ≡ length c.methods.now = ap length (are c) ∙ seen in
+      later
+      ∙ (ap (λ (xs : List Class). slice_get (seen_in xs) (k - length c.methods.now)) (others_are c cs)
+      ∙ (ap (λ (n : ℕ). slice_get (seen_in cs) (k - n)) (sym as_long)
+      ∙ get_second (methods (of c)) (seen_in cs) k (in_front c k ∙ ap (option_map (in_class c)) at)))
 
 -- what all elements pass, one of them passes
 passes_at : {X : Type 0} (test : X → Bool) (xs : List X) (k : ℕ) (x : X) → list_all test xs ≡ true → Some x ≡ slice_get xs k → test x ≡ true

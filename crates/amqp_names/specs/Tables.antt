@@ -1,7 +1,7 @@
 -- What the tables of the program stand for, and what stands at an id or a place of them.
 use Rattle.std.specs.Prelude.{◌==◌, ℕ, List, map, Option, option_map, option_and_then}
 use Rattle.std.specs.List.{find, flat_map}
-use Rattle.amqp_types.specs.Rows.{Row, slots_at}
+use Rattle.amqp_types.specs.Rows.{Row, classes, slots_at}
 use Rattle.amqp_types.specs.Properties.{Property}
 use Rattle.amqp_fields.specs.Kinds.{kind_of}
 use Rattle.amqp_fields.specs.Meaning.{kinds_in}
@@ -46,6 +46,10 @@ known_kinds c = (c.id, class_kinds c)
 abbrev pub located : MethodAt → ℕ × MethodNames
 located m = (m.class_id, method_names m.method)
 
+-- the kinds of the fields of a method, with its id and that of its class
+abbrev pub located_kinds : MethodAt → ℕ × (ℕ × List ℕ)
+located_kinds m = (m.class_id, (m.method.id, method_kinds m.method))
+
 -- ---- by ids
 
 -- the same kinds, by the fields that the methods of a class have on the wire
@@ -81,3 +85,11 @@ methods_of c = map (λ m. (c.id, m)) c.methods
 -- all methods, by ascending ids of classes, and of methods in each
 abbrev pub all_methods : List (ℕ × MethodNames)
 all_methods = flat_map methods_of class_names
+
+-- the same kinds of a class, each with the id of the class
+abbrev pub kinds_of : ℕ × List (ℕ × List ℕ) → List (ℕ × (ℕ × List ℕ))
+kinds_of class = map (λ m. (class.0, m)) class.1
+
+-- the kinds of the fields of all methods, in the same order, by the fields that they have on the wire
+abbrev pub all_kinds : List (ℕ × (ℕ × List ℕ))
+all_kinds = flat_map kinds_of (map known_rows classes)

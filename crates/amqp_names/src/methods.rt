@@ -5,7 +5,7 @@ ghost use Rattle.std.specs.Prelude.{◌≡◌, ◌==◌, ◌≤◌, length, map,
 ghost use Rattle.std.specs.List.{find, flat_map};
 ghost use Rattle.amqp_types.specs.Rows.{classes as rows, rows_of};
 ghost use Rattle.amqp_names.specs.Names.{class_names};
-ghost use Rattle.amqp_names.specs.Tables.{all_methods, class_at, class_kinds, class_names_of, kinds_at, known_kinds, known_rows, located, method_in, method_kinds, method_names, methods_of, row_kinds};
+ghost use Rattle.amqp_names.specs.Tables.{all_kinds, all_methods, class_at, class_kinds, class_names_of, kinds_at, kinds_of, known_kinds, known_rows, located, located_kinds, method_in, method_kinds, method_names, methods_of, row_kinds};
 
 use crate::naming::{Class, Field, Follows, Method, MethodAt};
 use amqp_fields::{FLAG, LONG, LONG_LONG, LONG_STRING, OCTET, SHORT, SHORT_STRING, TABLE};
@@ -205,7 +205,8 @@ pub fn find_method(class_id: Identifier, method_id: Identifier) -> Option<Method
 
 /// Method `k` of these classes, counted from 0.
 fn counted(classes: &'static [Class], k: usize) -> Option<MethodAt>
-    ensures { option_map located result ≡ slice_get (flat_map methods_of (map class_names_of classes.now)) k }
+    ensures names { option_map located result ≡ slice_get (flat_map methods_of (map class_names_of classes.now)) k }
+    ensures kinds { option_map located_kinds result ≡ slice_get (flat_map kinds_of (map known_kinds classes.now)) k }
 {
     let [class, others @ ..] = classes else {
         return None;
@@ -222,7 +223,8 @@ fn counted(classes: &'static [Class], k: usize) -> Option<MethodAt>
 
 /// Method `k` of all, counted from 0: by ascending ids of classes, and of methods in each.
 pub fn method_at(k: u8) -> Option<MethodAt>
-    ensures found { option_map located result ≡ slice_get all_methods k }
+    ensures names { option_map located result ≡ slice_get all_methods k }
+    ensures kinds { option_map located_kinds result ≡ slice_get all_kinds k }
     ensures few { IfSome result (λ m. length m.method.fields.now ≤ 8) }
 {
     counted(classes(), k as usize)

@@ -7,5 +7,5 @@ use Rattle.amqp_fields.proofs.making_fields.property_of.Goals as goal
 
 pub returns-then-is_field-clause-found : goal.returns-then-is_field-clause-found
 returns-then-is_field-clause-found c =
-    property_stands c.property_shapes-shapes.result.now (0, forms.Octet) c.args.place c.args.node c.property_shapes-shapes.ensures
+    property_stands c.property_shapes-shapes.result.now (0, forms.Octet) c.args.place c.args.node.now c.property_shapes-shapes.ensures
     (grind (arith, nat_tests, c.if-at-shapes.false)) (grind (arith, nat_tests, c.if-node-place.false)) (sym c.is_field.ensures ∙ c.if-is_field.true)
