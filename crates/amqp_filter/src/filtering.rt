@@ -2,7 +2,7 @@
 
 ghost use Rattle.std.specs.Prelude.{◌≢◌, ◌⊎◌, Err};
 ghost use Rattle.amqp_select.specs.Matching.{decides};
-ghost use Rattle.amqp_in_turn.specs.Turning.{NeverBegan};
+ghost use Rattle.amqp_stream.specs.Transcribing.{NeverBegan};
 ghost use Rattle.amqp_filter.specs.Filtering.{FilterRun};
 
 use crate::message_filter::MessageFilter;
@@ -25,7 +25,7 @@ pub fn filter<S: Source, K: Sink>(
     turns: u64,
 ) -> Result<(), FilterError>
     ensures run { FilterRun (decides rules.now) S.supply K.store max_payload turns source.old source.new sink.old sink.new result
-        ⊎ NeverBegan source.old source.new sink.old sink.new result }
+        ⊎ NeverBegan source.old source.new sink.old sink.new (FilterError.Stream StreamError.NoMemory) result }
     ensures never_untidy { result ≢ Err (FilterError.Stream StreamError.NotTidy) }
     ensures never_too_large { result ≢ Err (FilterError.BadContent ContentFault.BodyTooLarge) }
     ensures never_faulted { result ≢ Err (FilterError.BadContent ContentFault.Faulted) }

@@ -23,9 +23,9 @@ use Rattle.amqp_stream.specs.Errors.{Cause, faulty, cut_short, turns_spent, read
 use Rattle.amqp_stream.specs.Ends.{Supply, Store}
 use Rattle.amqp_stream.specs.Steps.{Manner, text, refused, state, text_at, refused_at, state_at}
 use Rattle.amqp_stream.specs.Writing.{IsPrefix}
-use Rattle.amqp_stream.specs.Transcribing.{answer_to}
-use Rattle.amqp_stream.specs.Streaming.{Ending, finished, refused_by, stopped_by, ending_of, text_of, refused_of, state_of, AtWanting, HasWrittenBy, HasCauseBy, Streams, RunNeverBegan, answer_at_end, answer_of, IsExactRun, UnlessStoppedBy, StreamsExactly, IsWelcome, IsDoneOrWanting}
-use Rattle.amqp_stream.specs.Runs.{WriterRun}
+use Rattle.amqp_stream.specs.Transcribing.{NeverBegan, answer_to}
+use Rattle.amqp_stream.specs.Streaming.{Ending, finished, refused_by, stopped_by, ending_of, text_of, refused_of, state_of, AtWanting, HasWrittenBy, HasCauseBy, Streams, answer_at_end, answer_of, IsExactRun, UnlessStoppedBy, StreamsExactly, IsWelcome, IsDoneOrWanting}
+use Rattle.amqp_stream.specs.Runs.{WriterRun, NeverRan}
 use Rattle.amqp_stream.proofs.Transcribing.{error_by, error_by-cause, unless, caused_by, written_unless}
 use Rattle.amqp_stream.proofs.Runs.{run_by}
 use Rattle.amqp_in_turn.specs.declared.errors.TurnError.{TurnError}
@@ -34,7 +34,7 @@ use Rattle.amqp_in_turn.specs.declared.errors.Refusal.{Refusal}
 use Rattle.amqp_in_turn.specs.declared.errors.Refusal.TheVariants as refusals
 use Rattle.amqp_in_turn.specs.Errors.{as_turned}
 use Rattle.amqp_turns.specs.InTurn.{greatest, AreInTurn, IsLongestInTurn, IsNextFault, IsOpen, NoneIsOpen, state_on}
-use Rattle.amqp_in_turn.specs.Turning.{frames_at, AtWanted, IsAllInTurn, HasCauseInTurn, HasWrittenInTurn, GoesInTurn, NeverBegan, IsAnsweredTo, IsExactlyInTurn, UnlessStoppedInTurn, GoesExactly, IsComplete, IsOkOrNoMemory, TurnRun}
+use Rattle.amqp_in_turn.specs.Turning.{frames_at, AtWanted, IsAllInTurn, HasCauseInTurn, HasWrittenInTurn, GoesInTurn, IsAnsweredTo, IsExactlyInTurn, UnlessStoppedInTurn, GoesExactly, IsComplete, IsOkOrNoMemory, TurnRun}
 use Rattle.amqp_turns.proofs.Turns.{are_in_turn, none_lost, lost_later, before_or_with}
 
 -- ---- one frame
@@ -349,11 +349,11 @@ module _ {S : Type 0} {step : S → Frame → Result (List ℕ × S) Refusal} {e
 
   -- a call that ran, or never began
   abbrev pub RanOrNever : {A K : Type 0} → S → S → (A → Supply) → (K → Store) → ℕ → ℕ → A → A → K → K → Result (Unit {0}) (RunError Refusal) → Type 0
-  RanOrNever s t supply store m turns source source' sink sink' r = WriterRun w s t supply store m turns source source' sink sink' r ⊎ RunNeverBegan s t source source' sink sink' (ending_of r)
+  RanOrNever s t supply store m turns source source' sink sink' r = WriterRun w s t supply store m turns source source' sink sink' r ⊎ NeverRan s t source source' sink sink' r
 
   pub never_untidy : {A K : Type 0} {s t : S} {supply : A → Supply} {store : K → Store} {m turns : ℕ} {source source' : A} {sink sink' : K} (r : Result (Unit {0}) (RunError Refusal)) → RanOrNever s t supply store m turns source source' sink sink' r → as_turned r ≢ Err (errors.Stream streams.NotTidy)
   never_untidy r (inl run) e = run.stream.tidy_only (turns_by r streams.NotTidy e)
-  never_untidy r (inr h) e = let other = sym (turns_by r streams.NotTidy e) ∙ h.no_memory in absurd cc
+  never_untidy r (inr h) e = let other = sym (turns_by r streams.NotTidy e) ∙ ap ending_of h.0.no_memory in absurd cc
 
   fresh_run : (s t : S) (m turns : ℕ) (a b : Supply) (k l : Store) (bad : ContentFault) → StandsFor s [] → Streams w s t m turns a b k l (refused_by (refusals.BadContent bad)) → (bad ≢ faults.BodyTooLarge) × (bad ≢ faults.Faulted)
   fresh_run s t m turns a b k l bad new run = by_cause run.cause
@@ -372,7 +372,7 @@ module _ {S : Type 0} {step : S → Frame → Result (List ℕ × S) Refusal} {e
   fresh {s = s} {t = t} {supply = supply} {store = store} {m = m} {turns = turns} {source = source} {source' = source'} {sink = sink} {sink' = sink'} (Err (runs_end.Refused (refusals.BadContent worse))) bad new (inl run) e =
       let same : worse ≡ bad = cc in
       subst (λ (f : ContentFault). (f ≢ faults.BodyTooLarge) × (f ≢ faults.Faulted)) same (fresh_run s t m turns (supply source) (supply source') (store sink) (store sink') worse new run.stream)
-  fresh (Err (runs_end.Refused (refusals.BadContent worse))) bad new (inr h) e = let other = h.no_memory in absurd cc
+  fresh (Err (runs_end.Refused (refusals.BadContent worse))) bad new (inr h) e = let other = h.0.no_memory in absurd cc
 
   -- ---- the result by all of the bytes
 
@@ -414,7 +414,7 @@ module _ {S : Type 0} {step : S → Frame → Result (List ℕ × S) Refusal} {e
   -- ---- a whole call
 
   pub goes_run : {A K : Type 0} (s t : S) {supply : A → Supply} {store : K → Store} {m turns : ℕ} {source source' : A} {sink sink' : K} (r : Result (Unit {0}) (RunError Refusal)) → StandsFor s [] → RanOrNever s t supply store m turns source source' sink sink' r
-      → TurnRun (after []) wants supply store m turns source source' sink sink' (as_turned r) ⊎ NeverBegan source source' sink sink' (as_turned r)
+      → TurnRun (after []) wants supply store m turns source source' sink sink' (as_turned r) ⊎ NeverBegan source source' sink sink' (errors.Stream streams.NoMemory) (as_turned r)
   goes_run s t {supply = supply} {store = store} {m = m} {turns = turns} {source = source} {source' = source'} {sink = sink} {sink' = sink'} r new (inl run) =
       inl (run_by (goes s t m turns (supply source) (supply source') (store sink) (store sink') r new) (ap as_turned) (λ bytes. goes_exactly s m bytes (store sink) (store sink') r new) (λ bytes accepted. (accepted.0, welcome s m bytes new accepted.1)) (λ goes. done_or_memory r) run)
-  goes_run s t r new (inr h) = inr (record { no_memory = back r ∙ ap turned_ending h.no_memory; source_stays = h.source_stays; sink_stays = h.sink_stays })
+  goes_run s t r new (inr h) = inr (record { no_memory = ap as_turned h.0.no_memory; source_stays = h.0.source_stays; sink_stays = h.0.sink_stays })

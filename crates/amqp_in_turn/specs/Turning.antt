@@ -84,12 +84,6 @@ pub record GoesInTurn (text : List Frame → List ℕ) (wants : AMQPFrameType �
   pub cause : HasCauseInTurn text wants m turns taken written frames a b k l result
   pub behind : IsTextBehindBy text m taken written (m + 8)
 
--- memory ran out before anything was taken or written
-pub record NeverBegan {S K : Type 0} (source source' : S) (sink sink' : K) (result : Result (Unit {0}) TurnError) : Type 0 where
-  pub no_memory : result ≡ Err (errors.Stream streams.NoMemory)
-  pub source_stays : source' ≡ source
-  pub sink_stays : sink' ≡ sink
-
 -- What is returned for all the bytes of a source: the fault of the first frame that is not in turn; or else the result of canonicalizing them, and where
 -- that is Ok, whether content is open.
 abbrev pub IsAnsweredTo : ℕ → List ℕ → List Frame → Result (Unit {0}) TurnError → Type 0

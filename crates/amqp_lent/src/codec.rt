@@ -90,7 +90,7 @@ pub fn canonicalize_lent<S: Source, K: Sink>(
     turns: u64,
 ) -> Result<(), StreamError>
     ensures run { CanonicalRun plain S.supply K.store max_payload turns source.old source.new sink.old sink.new result
-        ⊎ NeverBegan source.old source.new sink.old sink.new result }
+        ⊎ NeverBegan source.old source.new sink.old sink.new StreamError.NoMemory result }
     ensures never_untidy { result ≢ Err StreamError.NotTidy }
 {
     match LentCodec::open(alloc, max_payload) {

@@ -65,7 +65,7 @@ pub fn dump<S: Source, K: Sink>(
     turns: u64,
 ) -> Result<(), StreamError>
     ensures run { DumpRun S.supply K.store max_payload turns source.old source.new sink.old sink.new result
-        ⊎ NeverBegan source.old source.new sink.old sink.new result }
+        ⊎ NeverBegan source.old source.new sink.old sink.new StreamError.NoMemory result }
     ensures never_untidy { result ≢ Err StreamError.NotTidy }
 {
     match LineText::open(alloc) {

@@ -1,5 +1,6 @@
 //! Laws of lines, each the contract of a function that does nothing.
 
+ghost use Rattle.amqp_lines.specs.Dumping.{WritesLines};
 ghost use Rattle.amqp_lines.specs.Laws.{EqualLinesAreEqualFrames, EqualTextsAreEqualSequences, LinesHaveOneNewline};
 ghost use Rattle.amqp_lines.specs.UndumpLaws.{CorrespondOneToOne, DumpedTextIsReadBack, OneLongestText, StrictFramesAreUsual, UndumpUndoesDump};
 
@@ -21,6 +22,11 @@ pub fn equal_texts_are_equal_sequences()
 /// Within a limit, bytes begin with at most one longest text.
 pub fn one_longest_text()
     ensures { OneLongestText }
+{}
+
+/// What `dump` writes for frames are their lines, one after another, and it refuses none.
+pub fn dump_writes_lines()
+    ensures { WritesLines }
 {}
 
 /// What `dump` writes for some bytes is, to its end, the text of the frames at their front.

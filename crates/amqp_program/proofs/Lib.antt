@@ -5,7 +5,7 @@ pub mod HexApart
 pub mod Ran
 pub mod RawRuns
 pub mod TurnStatuses
-pub mod RecutRuns
+pub mod TurnRuns
 pub mod FilterRuns
 pub mod TextRuns
 pub mod Selections

@@ -19,7 +19,7 @@ made_sequence n = let sequence = all_made n in (sequence.frames, sequence.spelle
 
 -- A call over a source that never fails into a sink that counts. It ran, or never began.
 abbrev Ran : ℕ → List ℕ → List ℕ → Counted → Counted → Result (Unit {0}) StreamError → Type 0
-Ran turns bytes rest k l r = CanonicalRun plain faultless count_of max_payload turns bytes rest k l r ⊎ NeverBegan bytes rest k l r
+Ran turns bytes rest k l r = CanonicalRun plain faultless count_of max_payload turns bytes rest k l r ⊎ NeverBegan bytes rest k l errors.NoMemory r
 
 -- no more was counted than there was
 few_counted : (turns : ℕ) (bytes rest : List ℕ) (k l : Counted) (r : Result (Unit {0}) StreamError) → Ran turns bytes rest k l r → l.total ≤ k.total + length bytes
@@ -38,7 +38,7 @@ made_or_no_memory n turns bytes rest k l r few is enough start ran below =
     let zero : k.total ≡ 0 = ap (λ s. s.total) start in
     let none : k.faults ≡ 0 = ap (λ s. s.faults) start in
     let total : l.total < last = omega (arith, few_counted turns bytes rest k l r ran, made-short n few) in
-    complete_of ok_done never_done ran bytes refl (record { sequence = subst (IsSequence plain max_payload) (sym is) (made_sequence n); enough = omega arith }) (record {
+    complete_of ok_done (never_done IsOkOrNoMemory tt) ran bytes refl (record { sequence = subst (IsSequence plain max_payload) (sym is) (made_sequence n); enough = omega arith }) (record {
       source = refl;
       source_below = omega arith;
       sink = below total ∙ sym none;

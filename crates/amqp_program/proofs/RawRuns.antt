@@ -24,7 +24,7 @@ pub raw_not_two : (a b : Supply) (k l : Store) (status : ℕ) → RunsRaw a b k 
 raw_not_two a b k l status run h = answer_status_not_two run.answer (sym run.status_is ∙ h)
 
 -- what status 0 says
-accepted : (a b : Supply) (k l : Store) (answer : Result (Unit {0}) StreamError) → Canonicalizes plain max_payload raw_turns a b k l answer ⊎ NeverBegan a b k l answer → answer ≡ Ok tt → AcceptsRaw a b k l
+accepted : (a b : Supply) (k l : Store) (answer : Result (Unit {0}) StreamError) → Canonicalizes plain max_payload raw_turns a b k l answer ⊎ NeverBegan a b k l errors.NoMemory answer → answer ≡ Ok tt → AcceptsRaw a b k l
 accepted a b k l answer (inl c) e =
     let cause = subst (λ r. HasCause plain max_payload raw_turns c.run.taken a b k l r) e c.run.cause in
     let writes : c.run.written ≡ canon_of plain max_payload c.run.taken = subst (λ r. HasWritten (transcript canon_frames plain max_payload c.run.taken) c.run.written r) e c.run.writes in
@@ -40,7 +40,7 @@ accepted a b k l answer (inr never) e = let other = sym never.no_memory ∙ e in
 
 -- a run with this result
 pub raw_runs : {S K : Type 0} (supply : S → Supply) (store : K → Store) (source source' : S) (sink sink' : K) (answer : Result (Unit {0}) StreamError) (status : ℕ) → status ≡ status_of answer
-    → CanonicalRun plain supply store max_payload raw_turns source source' sink sink' answer ⊎ NeverBegan source source' sink sink' answer → RunsRaw (supply source) (supply source') (store sink) (store sink') status
+    → CanonicalRun plain supply store max_payload raw_turns source source' sink sink' answer ⊎ NeverBegan source source' sink sink' errors.NoMemory answer → RunsRaw (supply source) (supply source') (store sink) (store sink') status
 raw_runs supply store source source' sink sink' answer status e ran =
     let stream = stream_of (never_at supply store) ran in
     let memory = other_of (λ (goes : Canonicalizes plain max_payload raw_turns (supply source) (supply source') (store sink) (store sink') answer). never_out_of_memory goes.run) stream in
@@ -52,5 +52,5 @@ raw_runs supply store source source' sink sink' answer status e ran =
       no_memory = λ three. memory (answer_status_three answer (sym e ∙ three));
       accepts = λ zero. accepted (supply source) (supply source') (store sink) (store sink') answer stream (answer_status_zero answer (sym e ∙ zero));
       exact = exact_of (never_exactly canon_frames plain max_payload store) ran;
-      complete = λ input left valid none. subst IsDoneOrNoMemory (sym e) (done_or_no_memory answer (complete_of ok_done never_done ran input left valid none));
+      complete = λ input left valid none. subst IsDoneOrNoMemory (sym e) (done_or_no_memory answer (complete_of ok_done (never_done IsOkOrNoMemory tt) ran input left valid none));
     }

@@ -4,7 +4,7 @@ use Rattle.amqp_types.specs.Levels.{plain}
 use Rattle.amqp_stream.specs.declared.errors.StreamError.{StreamError}
 use Rattle.amqp_stream.specs.declared.errors.StreamError.TheVariants as errors
 use Rattle.amqp_stream.specs.Ends.{Supply, Store}
-use Rattle.amqp_stream.specs.Transcribing.{Transcribes, TranscribesExactly, NeverBegan}
+use Rattle.amqp_stream.specs.Transcribing.{Transcribes, TranscribesExactly, NeverBegan, IsOkOrNoMemory}
 use Rattle.amqp_stream.proofs.Transcribing.{never_out_of_memory}
 use Rattle.amqp_select.specs.declared.rule.Rule.{Rule}
 use Rattle.amqp_select.specs.Refusals.{Spell}
@@ -24,7 +24,7 @@ select_not_two rules a b k l status run h = answer_status_not_two run.answer (sy
 
 -- a run with this result
 pub select_runs : {S K : Type 0} (rules : List Rule) (supply : S → Supply) (store : K → Store) (source source' : S) (sink sink' : K) (answer : Result (Unit {0}) StreamError) (status : ℕ) → status ≡ status_of answer
-    → SelectRun rules supply store max_payload raw_turns source source' sink sink' answer ⊎ NeverBegan source source' sink sink' answer → RunsSelect rules (supply source) (supply source') (store sink) (store sink') status
+    → SelectRun rules supply store max_payload raw_turns source source' sink sink' answer ⊎ NeverBegan source source' sink sink' errors.NoMemory answer → RunsSelect rules (supply source) (supply source') (store sink) (store sink') status
 select_runs rules supply store source source' sink sink' answer status e ran =
     let stream = stream_of (never_at supply store) ran in
     record {
@@ -33,7 +33,7 @@ select_runs rules supply store source source' sink sink' answer status e ran =
       stream = stream;
       no_memory = λ three. other_of never_out_of_memory stream (answer_status_three answer (sym e ∙ three));
       exact = exact_of (never_exactly (selection rules) plain max_payload store) ran;
-      complete = λ input left valid none. subst IsDoneOrNoMemory (sym e) (done_or_no_memory answer (complete_of ok_done never_done ran input left valid none));
+      complete = λ input left valid none. subst IsDoneOrNoMemory (sym e) (done_or_no_memory answer (complete_of ok_done (never_done IsOkOrNoMemory tt) ran input left valid none));
     }
 
 -- the run by the rules that no earlier one covers is the run by all
@@ -41,7 +41,7 @@ by_all : (rules : List Rule) (a b : Supply) (k l : Store) (status : ℕ) → Run
 by_all rules a b k l status run = record {
   answer = run.answer;
   status_is = run.status_is;
-  stream = subst (λ text. Transcribes text plain max_payload raw_turns a b k l run.answer ⊎ NeverBegan a b k l run.answer) (same_selection rules) run.stream;
+  stream = subst (λ text. Transcribes text plain max_payload raw_turns a b k l run.answer ⊎ NeverBegan a b k l errors.NoMemory run.answer) (same_selection rules) run.stream;
   no_memory = run.no_memory;
   exact = λ input left. subst (λ text. TranscribesExactly text plain max_payload input k l run.answer) (same_selection rules) (run.exact input left);
   complete = run.complete;

@@ -1,8 +1,10 @@
 -- What a run of each command does. a is the source before the run and b after it, k and l the sink.
-use Rattle.std.specs.Prelude.{◌≡◌, ◌⊎◌, ℕ, ◌+◌, ◌^◌, ◌<◌, ◌≤◌, List, [], ◌∷◌, ◌++◌, length, Option, Some, None, Result, Ok, Err}
+use Rattle.std.specs.Prelude.{◌≡◌, ◌⊎◌, ℕ, Bool, ◌+◌, ◌^◌, ◌<◌, ◌≤◌, List, [], ◌∷◌, ◌++◌, length, Option, Some, None, Result, Ok, Err}
 use Rattle.hex.specs.Hex.{decode_of, encode_lower}
 use Rattle.std.specs.Io.BufRead.{strip_last}
 use Rattle.amqp_types.specs.Levels.{Level, plain}
+use Rattle.amqp_wire.specs.declared.frame_type.AMQPFrameType.{AMQPFrameType}
+use Rattle.amqp_wire.specs.Frames.{Frame}
 use Rattle.amqp_stream.specs.declared.errors.StreamError.{StreamError}
 use Rattle.amqp_stream.specs.declared.errors.StreamError.TheVariants as errors
 use Rattle.amqp_stream.specs.Errors.{status_of}
@@ -14,12 +16,14 @@ use Rattle.amqp_select.specs.declared.rule.Rule.{Rule}
 use Rattle.amqp_select.specs.Matching.{decides}
 use Rattle.amqp_select.specs.Selecting.{selection}
 use Rattle.amqp_in_turn.specs.declared.errors.TurnError.{TurnError}
+use Rattle.amqp_in_turn.specs.declared.errors.TurnError.TheVariants as turns
 use Rattle.amqp_in_turn.specs.Errors.{turn_error_status}
-use Rattle.amqp_in_turn.specs.Turning.{NeverBegan as NeverWritten, IsComplete as AreWhole}
-use Rattle.amqp_recut.specs.Recutting.{Recuts, RecutsExactly}
-use Rattle.amqp_filter.specs.Filtering.{Filters, FiltersExactly}
-use Rattle.amqp_lines.specs.Lines.{lines}
-use Rattle.amqp_lines.specs.Dumping.{Dumps}
+use Rattle.amqp_in_turn.specs.Turning.{GoesInTurn, GoesExactly, IsComplete as AreWhole}
+use Rattle.amqp_recut.specs.Recutting.{recut_bytes}
+use Rattle.amqp_recut.specs.Stepping.{is_content_type}
+use Rattle.amqp_filter.specs.Filtering.{kept_bytes}
+use Rattle.amqp_filter.specs.Stepping.{is_method_type}
+use Rattle.amqp_lines.specs.Dumping.{Dumps, DumpsExactly}
 use Rattle.amqp_lines.specs.Undumping.{Undumps, UndumpsExactly}
 use Rattle.amqp_lines.specs.Undumping.{IsValidText}
 use Rattle.amqp_lines.specs.Errors.{undump_error_status}
@@ -90,9 +94,9 @@ pub record AcceptsRaw (a b : Supply) (k l : Store) : Type 0 where
 pub record RunsRaw (a b : Supply) (k l : Store) (status : ℕ) : Type 0 where
   pub answer : Result (Unit {0}) StreamError
   pub status_is : status ≡ status_of answer
-  pub stream : Canonicalizes plain max_payload raw_turns a b k l answer ⊎ NeverBegan a b k l answer
-  pub memory : answer ≡ Err errors.NoMemory → NeverBegan a b k l answer
-  pub no_memory : status ≡ 3 → NeverBegan a b k l answer
+  pub stream : Canonicalizes plain max_payload raw_turns a b k l answer ⊎ NeverBegan a b k l errors.NoMemory answer
+  pub memory : answer ≡ Err errors.NoMemory → NeverBegan a b k l errors.NoMemory answer
+  pub no_memory : status ≡ 3 → NeverBegan a b k l errors.NoMemory answer
   pub accepts : status ≡ 0 → AcceptsRaw a b k l
   pub exact : (input : List ℕ) → a.left ≡ Some input → AnswersExactly plain max_payload input k l answer
   pub complete : (input : List ℕ) → a.left ≡ Some input → IsValid plain max_payload raw_turns input → NoFaults a b k l → IsDoneOrNoMemory status
@@ -101,8 +105,8 @@ pub record RunsRaw (a b : Supply) (k l : Store) (status : ℕ) : Type 0 where
 pub record RunsSelect (rules : List Rule) (a b : Supply) (k l : Store) (status : ℕ) : Type 0 where
   pub answer : Result (Unit {0}) StreamError
   pub status_is : status ≡ status_of answer
-  pub stream : Transcribes (selection rules) plain max_payload raw_turns a b k l answer ⊎ NeverBegan a b k l answer
-  pub no_memory : status ≡ 3 → NeverBegan a b k l answer
+  pub stream : Transcribes (selection rules) plain max_payload raw_turns a b k l answer ⊎ NeverBegan a b k l errors.NoMemory answer
+  pub no_memory : status ≡ 3 → NeverBegan a b k l errors.NoMemory answer
   pub exact : (input : List ℕ) → a.left ≡ Some input → TranscribesExactly (selection rules) plain max_payload input k l answer
   pub complete : (input : List ℕ) → a.left ≡ Some input → IsValid plain max_payload raw_turns input → NoFaults a b k l → IsDoneOrNoMemory status
 
@@ -110,8 +114,8 @@ pub record RunsSelect (rules : List Rule) (a b : Supply) (k l : Store) (status :
 pub record RunsDump (a b : Supply) (k l : Store) (status : ℕ) : Type 0 where
   pub answer : Result (Unit {0}) StreamError
   pub status_is : status ≡ status_of answer
-  pub stream : Dumps max_payload raw_turns a b k l answer ⊎ NeverBegan a b k l answer
-  pub exact : (input : List ℕ) → a.left ≡ Some input → TranscribesExactly lines plain max_payload input k l answer
+  pub stream : Dumps max_payload raw_turns a b k l answer ⊎ NeverBegan a b k l errors.NoMemory answer
+  pub exact : (input : List ℕ) → a.left ≡ Some input → DumpsExactly max_payload input k l answer
   pub complete : (input : List ℕ) → a.left ≡ Some input → IsValid plain max_payload raw_turns input → NoFaults a b k l → IsDoneOrNoMemory status
 
 -- the status of a result of undumping
@@ -132,21 +136,21 @@ abbrev pub turn_status_of : Result (Unit {0}) TurnError → ℕ
 turn_status_of (Ok done) = 0
 turn_status_of (Err error) = turn_error_status error
 
--- the canonical bytes of the frames were written, with the bodies of messages cut into so many bytes
-pub record RunsRecut (size : ℕ) (a b : Supply) (k l : Store) (status : ℕ) : Type 0 where
+-- What is to be written for frames in turn was written, as far as the result says. Memory may run out at frames of the types in `wants`.
+pub record RunsInTurn (text : List Frame → List ℕ) (wants : AMQPFrameType → Bool) (a b : Supply) (k l : Store) (status : ℕ) : Type 0 where
   pub answer : Result (Unit {0}) TurnError
   pub status_is : status ≡ turn_status_of answer
-  pub stream : Recuts max_payload size raw_turns a b k l answer ⊎ NeverWritten a b k l answer
-  pub exact : (input : List ℕ) → a.left ≡ Some input → RecutsExactly max_payload size input k l answer
+  pub stream : GoesInTurn text wants max_payload raw_turns a b k l answer ⊎ NeverBegan a b k l (turns.Stream errors.NoMemory) answer
+  pub exact : (input : List ℕ) → a.left ≡ Some input → GoesExactly text max_payload input k l answer
   pub complete : (input : List ℕ) → a.left ≡ Some input → IsValid plain max_payload raw_turns input → AreWhole max_payload input → NoFaults a b k l → IsDoneOrNoMemory status
 
--- the canonical bytes of the messages whose openings rules keep were written, and of each other frame that they keep
-pub record RunsFilter (rules : List Rule) (a b : Supply) (k l : Store) (status : ℕ) : Type 0 where
-  pub answer : Result (Unit {0}) TurnError
-  pub status_is : status ≡ turn_status_of answer
-  pub stream : Filters (decides rules) max_payload raw_turns a b k l answer ⊎ NeverWritten a b k l answer
-  pub exact : (input : List ℕ) → a.left ≡ Some input → FiltersExactly (decides rules) max_payload input k l answer
-  pub complete : (input : List ℕ) → a.left ≡ Some input → IsValid plain max_payload raw_turns input → AreWhole max_payload input → NoFaults a b k l → IsDoneOrNoMemory status
+-- the canonical bytes of the frames, with the bodies of messages cut into so many bytes
+abbrev pub RunsRecut : ℕ → Supply → Supply → Store → Store → ℕ → Type 0
+RunsRecut size a b k l status = RunsInTurn (recut_bytes size) is_content_type a b k l status
+
+-- the canonical bytes of the messages whose openings rules keep, and of each other frame that they keep
+abbrev pub RunsFilter : List Rule → Supply → Supply → Store → Store → ℕ → Type 0
+RunsFilter rules a b k l status = RunsInTurn (kept_bytes (decides rules)) is_method_type a b k l status
 
 -- a text was printed, or a part of its front and then the sink failed
 pub record Prints (text : List ℕ) (k l : Store) (status : ℕ) : Type 0 where

@@ -1,7 +1,7 @@
 //! Streams whose messages have their bodies cut anew.
 
 ghost use Rattle.std.specs.Prelude.{◌≢◌, ◌⊎◌, ◌≤◌, Err};
-ghost use Rattle.amqp_in_turn.specs.Turning.{NeverBegan};
+ghost use Rattle.amqp_stream.specs.Transcribing.{NeverBegan};
 ghost use Rattle.amqp_recut.specs.Recutting.{RecutRun};
 
 use crate::recutter::Recutter;
@@ -25,7 +25,7 @@ pub fn recut<S: Source, K: Sink>(
     requires some { 1 ≤ size }
     requires fits { size ≤ max_payload }
     ensures run { RecutRun size S.supply K.store max_payload turns source.old source.new sink.old sink.new result
-        ⊎ NeverBegan source.old source.new sink.old sink.new result }
+        ⊎ NeverBegan source.old source.new sink.old sink.new (RecutError.Stream StreamError.NoMemory) result }
     ensures never_untidy { result ≢ Err (RecutError.Stream StreamError.NotTidy) }
     ensures never_too_large { result ≢ Err (RecutError.BadContent ContentFault.BodyTooLarge) }
     ensures never_faulted { result ≢ Err (RecutError.BadContent ContentFault.Faulted) }

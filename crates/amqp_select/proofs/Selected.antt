@@ -13,11 +13,12 @@ use Rattle.amqp_wire.specs.Verdicts.{whole}
 use Rattle.amqp_wire.specs.declared.judging.FrameJudgement.{FrameJudgement}
 use Rattle.amqp_wire.specs.Judgements.{IsJudged}
 use Rattle.amqp_stream.specs.declared.errors.StreamError.{StreamError}
+use Rattle.amqp_stream.specs.declared.errors.StreamError.TheVariants as errors
 use Rattle.amqp_stream.specs.Ends.{Supply, Store}
-use Rattle.amqp_stream.specs.Streaming.{ending_of, as_run, IsStep, RunNeverBegan}
+use Rattle.amqp_stream.specs.Streaming.{as_run, IsStep}
 use Rattle.amqp_stream.specs.Decisions.{IsKept, IsDropped}
 use Rattle.amqp_stream.specs.Transcribing.{Transcribes, TranscribesExactly, NeverBegan}
-use Rattle.amqp_stream.specs.Runs.{CanonicalRun, WriterRun}
+use Rattle.amqp_stream.specs.Runs.{CanonicalRun, WriterRun, NeverRan}
 use Rattle.amqp_stream.proofs.Transcribing.{Transcriber, maps, never_began}
 use Rattle.amqp_stream.proofs.Runs.{run_by, text_run}
 use Rattle.amqp_select.specs.declared.rule.Rule.{Rule}
@@ -37,7 +38,7 @@ selects_all rules all = fun_ext λ frames. ap canon_frames (sym (all_kept rules 
 
 -- where all are kept, what is canonicalized is what is selected
 pub all_run : {S K : Type 0} (rules : List Rule) {supply : S → Supply} {store : K → Store} {m turns : ℕ} {source source' : S} {sink sink' : K} {r : Result (Unit {0}) StreamError} → ((outline : FrameOutline) → true ≡ decides rules outline)
-    → CanonicalRun plain supply store m turns source source' sink sink' r ⊎ NeverBegan source source' sink sink' r → SelectRun rules supply store m turns source source' sink sink' r ⊎ NeverBegan source source' sink sink' r
+    → CanonicalRun plain supply store m turns source source' sink sink' r ⊎ NeverBegan source source' sink sink' errors.NoMemory r → SelectRun rules supply store m turns source source' sink sink' r ⊎ NeverBegan source source' sink sink' errors.NoMemory r
 all_run rules {supply = supply} {store = store} {m = m} {turns = turns} {source = source} {source' = source'} {sink = sink} {sink' = sink'} {r = r} all (inl run) =
     let same = selects_all rules all in
     inl (run_by (λ goes. subst (λ text. Transcribes text plain m turns (supply source) (supply source') (store sink) (store sink') r) same goes.run) (λ e. e) (λ bytes. subst (λ text. TranscribesExactly text plain m bytes (store sink) (store sink') r) same) (λ bytes e. e) (λ goes e. e) run)
@@ -91,7 +92,7 @@ selects s =
 
 -- a whole call
 pub select_run : {S K : Type 0} (s t : Selector) {supply : S → Supply} {store : K → Store} {m turns : ℕ} {source source' : S} {sink sink' : K} {r : Result (Unit {0}) StreamError}
-    → WriterRun selecting s t supply store m turns source source' sink sink' (as_run r) ⊎ RunNeverBegan s t source source' sink sink' (ending_of {E = Infallible} (as_run r))
-    → SelectRun s.rules.now supply store m turns source source' sink sink' r ⊎ NeverBegan source source' sink sink' r
+    → WriterRun selecting s t supply store m turns source source' sink sink' (as_run r) ⊎ NeverRan s t source source' sink sink' (as_run {E = Infallible} r)
+    → SelectRun s.rules.now supply store m turns source source' sink sink' r ⊎ NeverBegan source source' sink sink' errors.NoMemory r
 select_run s t (inl run) = inl (text_run (selects s) run)
-select_run s t (inr never) = inr (never_began never)
+select_run s t (inr never) = inr (never_began never.0)

@@ -100,7 +100,7 @@ pub fn select<S: Source, K: Sink>(
     turns: u64,
 ) -> Result<(), StreamError>
     ensures run { SelectRun rules.now S.supply K.store max_payload turns source.old source.new sink.old sink.new result
-        ⊎ NeverBegan source.old source.new sink.old sink.new result }
+        ⊎ NeverBegan source.old source.new sink.old sink.new StreamError.NoMemory result }
     ensures never_untidy { result ≢ Err StreamError.NotTidy }
 {
     // Where every frame is kept, no frame is looked at but by the canonicalizer.

@@ -1,5 +1,5 @@
 -- Frames that stand: their own bytes are what is written for them. And one frame of a run, taken.
-use Rattle.std.proofs.Common.{◌≡◌, ℕ, ◌+◌, ◌≤◌, List, [], ◌++◌, length, take, drop, true, Option, Some, None, Ok, Err, IsTrue, refl, sym, ap, subst, ◌∙◌, arith, append_assoc, append-nil}
+use Rattle.std.proofs.Common.{◌≡◌, ℕ, ◌+◌, ◌≤◌, List, ◌++◌, length, take, drop, true, Option, Some, None, Result, Ok, Err, IsTrue, refl, sym, ap, subst, ◌∙◌, arith, append_assoc, append-nil}
 use Rattle.std.proofs.lemmas.List.{drop-drop, length-append, length-drop, length-take-le}
 use Rattle.std.proofs.Math.Seq.{take-add}
 use Rattle.amqp_types.specs.Levels.{strict}
@@ -16,7 +16,7 @@ use Rattle.amqp_wire.proofs.Strictness.{strict_canon}
 use Rattle.amqp_stream.specs.declared.decision.Decision.{Decision}
 use Rattle.amqp_stream.specs.declared.decision.Decision.TheVariants as decisions
 use Rattle.amqp_stream.specs.declared.errors.RunError.{RunError}
-use Rattle.amqp_stream.specs.Decisions.{stands, drops, IsKept, IsDropped, PassesBy, RefusesTo}
+use Rattle.amqp_stream.specs.Decisions.{stands, IsKept, PassesBy, RefusesTo}
 use Rattle.amqp_stream.specs.Ends.{Store}
 use Rattle.amqp_stream.specs.Reading.{Lies}
 use Rattle.amqp_stream.specs.Steps.{Manner}
@@ -38,19 +38,20 @@ record Stands {S E : Type 0} (w : Manner S E) (s t : S) (raw : Raw) : Type 0 whe
   kept : IsKept w s t raw judged
   canonical : judged.canonical ≡ true
 
-stands_kept : {S E : Type 0} {w : Manner S E} {s t : S} {raw : Raw} (decision : Option Decision) → PassesBy w s t raw (Ok decision) → stands decision ≡ true → Stands w s t raw
-stands_kept (Some (decisions.Kept judged)) h is = record { judged = judged; kept = h; canonical = is }
-stands_kept (Some decisions.Dropped) h is = absurd cc
-stands_kept None h is = absurd cc
+stands_kept : {S E : Type 0} {w : Manner S E} {s t : S} {raw : Raw} (passed : Result (Option Decision) (RunError E)) → PassesBy w s t raw passed → stands passed ≡ true → Stands w s t raw
+stands_kept (Ok (Some (decisions.Kept judged))) h is = record { judged = judged; kept = h; canonical = is }
+stands_kept (Ok (Some decisions.Dropped)) h is = absurd cc
+stands_kept (Ok None) h is = absurd cc
+stands_kept (Err error) h is = absurd cc
 
 pub frame_room : {m : ℕ} {layout : FrameLayout} (passed : ℕ) (held : List ℕ) → passed ≤ length held → Lies m (drop passed held) layout → passed + layout.frame_len ≤ length held
 frame_room passed held within lies = omega (arith, lies.inside, length-drop passed held)
 
 -- a frame that stands lengthens the stretch
-pub stands_taken : {S E : Type 0} {w : Manner S E} {s t : S} {m : ℕ} {held pending : List ℕ} {layout : FrameLayout} {store : Store} {passed longer : ℕ} (raw : Raw) (decision : Option Decision) → IsBytes (drop passed held) → passed ≤ length held → Lies m (drop passed held) layout → raw ≡ laid_out layout (drop passed held) → PassesBy w s t raw (Ok decision) → stands decision ≡ true → longer ≡ passed + layout.frame_len → IsTaken w s t layout store store held held pending pending passed longer
-stands_taken {w = w} {s = s} {t = t} {m = m} {held = held} {pending = pending} {layout = layout} {store = store} {passed = passed} {longer = longer} raw decision fits within lies frame decides is same =
+pub stands_taken : {S E : Type 0} {w : Manner S E} {s t : S} {m : ℕ} {held pending : List ℕ} {layout : FrameLayout} {store : Store} {passed longer : ℕ} {raw : Raw} (decided : Result (Option Decision) (RunError E)) → IsBytes (drop passed held) → passed ≤ length held → Lies m (drop passed held) layout → raw ≡ laid_out layout (drop passed held) → PassesBy w s t raw decided → stands decided ≡ true → longer ≡ passed + layout.frame_len → IsTaken w s t layout store store held held pending pending passed longer
+stands_taken {w = w} {s = s} {t = t} {m = m} {held = held} {pending = pending} {layout = layout} {store = store} {passed = passed} {longer = longer} decided fits within lies frame passes is same =
     let n = layout.frame_len in
-    let at = stands_kept decision (subst (λ (r : Raw). PassesBy w s t r (Ok decision)) frame decides) is in
+    let at = stands_kept decided (subst (λ (r : Raw). PassesBy w s t r decided) frame passes) is in
     let own = stands_canon fits lies at.kept.is_judged at.canonical in
     let parts : take longer held ≡ take passed held ++ canon at.kept.is_judged.frame = ap (λ k. take k held) same ∙ take-add passed n held ∙ ap (λ (xs : List ℕ). take passed held ++ xs) own in
     record {
@@ -96,20 +97,6 @@ written_taken {w = w} {s = s} {t = t} {m = m} {held = held} {rest = rest} {befor
 -- the writer was left as it was, and wrote for it
 pub left_writes : {S E : Type 0} {w : Manner S E} {s u t : S} {raw : Raw} {old new : Store} {mid after : List ℕ} → u ≡ s → Writes w u t raw old new mid after → Writes w s t raw old new mid after
 left_writes {w = w} {t = t} {raw = raw} {old = old} {new = new} {mid = mid} {after = after} same h = subst (λ x. Writes w x t raw old new mid after) same h
-
--- a frame for which nothing is written, where nothing has passed
-drops_dropped : {S E : Type 0} (w : Manner S E) (s t : S) (raw : Raw) (decision : Option Decision) → PassesBy w s t raw (Ok decision) → drops decision ≡ true → IsDropped w s t raw
-drops_dropped w s t raw (Some decisions.Dropped) h is = h
-drops_dropped w s t raw (Some (decisions.Kept judged)) h is = absurd cc
-drops_dropped w s t raw None h is = absurd cc
-
-pub dropped_taken : {S E : Type 0} {w : Manner S E} {s t : S} {m : ℕ} {held rest pending : List ℕ} {layout : FrameLayout} {store : Store} {passed : ℕ} (raw : Raw) (decision : Option Decision) → Lies m (drop passed held) layout → raw ≡ laid_out layout (drop passed held) → PassesBy w s t raw (Ok decision) → drops decision ≡ true → passed ≡ 0 → rest ≡ drop layout.frame_len held → IsTaken w s t layout store store held rest pending pending passed passed
-dropped_taken {w = w} {s = s} {t = t} {held = held} {rest = rest} {pending = pending} {layout = layout} {store = store} {passed = passed} raw decision lies frame passes is none same =
-    let dropped = drops_dropped w s t raw decision passes is in
-    let nothing : take passed held ≡ [] = ap (λ k. take k held) none in
-    let stretch : Gathered store store pending pending (take passed held) = subst (λ (xs : List ℕ). Gathered store store pending pending xs) (sym nothing) (kept store pending pending refl) in
-    let writes : Writes w s t raw store store pending pending = record { bytes = []; step = dropped.step; gathered = kept store pending pending refl } in
-    written_taken raw lies frame stretch writes (λ compact. omega arith) (same ∙ ap (λ k. drop k held) {x = layout.frame_len} {y = passed + layout.frame_len} (omega (arith, none))) none
 
 -- ---- the run ends at it
 

@@ -10,6 +10,7 @@ use Rattle.amqp_wire.specs.Fronts.{front}
 use Rattle.amqp_wire.proofs.Strictness.{canon_front-short}
 use Rattle.amqp_stream.specs.declared.errors.StreamError.{StreamError}
 use Rattle.amqp_stream.specs.declared.errors.StreamError.TheVariants as errors
+use Rattle.amqp_stream.specs.declared.errors.RunError.TheVariants as ends
 use Rattle.amqp_stream.specs.Errors.{error_for, Cause, faulty, cut_short, turns_spent, read_failed, write_failed, out_of_memory, cause_of}
 use Rattle.amqp_stream.specs.Ends.{Supply, Store}
 use Rattle.amqp_stream.specs.Writing.{IsPrefix, Gathered}
@@ -18,7 +19,7 @@ use Rattle.amqp_stream.specs.Steps.{Manner, text, refused}
 use Rattle.amqp_stream.specs.Manners.{mapping, canonical_at}
 use Rattle.amqp_stream.specs.Transcribing.{transcript, answer_to, IsCausedBy, HasCause, IsWrittenUpTo, IsWrittenUnless, HasWritten, Transcribes, NeverBegan, UnlessStopped, IsExactly, IsAnswerTo, TranscribesExactly, IsOutOfMemory}
 use Rattle.amqp_stream.specs.Canonicalizing.{Canonicalizes}
-use Rattle.amqp_stream.specs.Streaming.{Ending, finished, refused_by, stopped_by, ending_of, as_run, text_of, state_of, HasWrittenBy, Streams, RunNeverBegan, answer_at_end, answer_of, IsExactRun, UnlessStoppedBy, StreamsExactly, IsWelcome, IsDoneOrWanting}
+use Rattle.amqp_stream.specs.Streaming.{Ending, finished, refused_by, stopped_by, ending_of, as_run, text_of, state_of, HasWrittenBy, Streams, answer_at_end, answer_of, IsExactRun, UnlessStoppedBy, StreamsExactly, IsWelcome, IsDoneOrWanting}
 
 -- From this state on the writer has this text for frames, refuses none, takes no memory, and may end anywhere.
 pub record Transcriber {S E : Type 0} (w : Manner S E) (s : S) (text_for : List Frame → List ℕ) : Type 0 where
@@ -130,8 +131,8 @@ returned-at_end : (E : Type 0) (answer : Result (Unit {0}) StreamError) → retu
 returned-at_end E (Ok done) = refl
 returned-at_end E (Err error) = ap Err (error_by-cause error)
 
-pub never_began : {T E S K : Type 0} {s t : T} {source source' : S} {sink sink' : K} {r : Result (Unit {0}) StreamError} → RunNeverBegan s t source source' sink sink' (ending_of {E = E} (as_run r)) → NeverBegan source source' sink sink' r
-never_began {E = E} {r = r} h = record { no_memory = sym (returned-run E r) ∙ ap returned h.no_memory; source_stays = h.source_stays; sink_stays = h.sink_stays }
+pub never_began : {E S K : Type 0} {source source' : S} {sink sink' : K} {r : Result (Unit {0}) StreamError} → NeverBegan source source' sink sink' (ends.Stream errors.NoMemory) (as_run {E = E} r) → NeverBegan source source' sink sink' errors.NoMemory r
+never_began {E = E} {r = r} h = record { no_memory = sym (returned-run E r) ∙ ap (λ x. returned (ending_of x)) h.no_memory; source_stays = h.source_stays; sink_stays = h.sink_stays }
 
 -- ---- the result by all of the bytes
 

@@ -1,5 +1,5 @@
 -- What a writer decides of a frame before anything is written for it.
-use Rattle.std.specs.Prelude.{◌≡◌, ℕ, Bool, true, false, List, [], Option, Some, None, Result, Ok, Err, IsTrue}
+use Rattle.std.specs.Prelude.{◌≡◌, ℕ, Bool, false, List, [], Option, Some, None, Result, Ok, Err, IsTrue}
 use Rattle.amqp_wire.specs.declared.judging.FrameJudgement.{FrameJudgement}
 use Rattle.amqp_wire.specs.Frames.{Raw}
 use Rattle.amqp_wire.specs.Canonical.{canon}
@@ -14,16 +14,11 @@ use Rattle.amqp_stream.specs.Steps.{Manner}
 use Rattle.amqp_stream.specs.Streaming.{IsStep, WritesBy, error_ending}
 
 -- the frame's own bytes are what is written for it
-abbrev pub stands : Option Decision → Bool
-stands (Some (decisions.Kept judged)) = judged.canonical
-stands (Some decisions.Dropped) = false
-stands None = false
-
--- nothing is written for the frame
-abbrev pub drops : Option Decision → Bool
-drops (Some (decisions.Kept judged)) = false
-drops (Some decisions.Dropped) = true
-drops None = false
+abbrev pub stands : {E : Type 0} → Result (Option Decision) E → Bool
+stands (Ok (Some (decisions.Kept judged))) = judged.canonical
+stands (Ok (Some decisions.Dropped)) = false
+stands (Ok None) = false
+stands (Err error) = false
 
 -- a frame that is kept was judged
 abbrev pub IsDecided : Raw → Decision → Type 0

@@ -10,7 +10,7 @@ use Rattle.amqp_stream.specs.declared.errors.RunError.TheVariants as ends
 use Rattle.amqp_stream.specs.Ends.{Supply, Store}
 use Rattle.amqp_stream.specs.Steps.{Manner}
 use Rattle.amqp_stream.specs.Streaming.{Streams, StreamsExactly, IsWelcome, IsDoneOrWanting, ending_of}
-use Rattle.amqp_stream.specs.Transcribing.{TranscribesExactly, IsValid, NoFaults}
+use Rattle.amqp_stream.specs.Transcribing.{NeverBegan, TranscribesExactly, IsValid, NoFaults}
 use Rattle.amqp_stream.specs.Canonicalizing.{Canonicalizes}
 
 -- What every run over two ends keeps, whatever it writes. `Goes` says which bytes were taken and written and why it ended, `Exactly` the same by all the
@@ -37,6 +37,10 @@ WriterRun w s t supply store m turns source source' sink sink' result = Runs sup
     (λ bytes. StreamsExactly w s m bytes (store sink) (store sink') (ending_of result))
     (λ bytes. IsValid w.level m turns bytes × IsWelcome w s m bytes)
     (IsDoneOrWanting (ending_of result))
+
+-- such a run that never began: the writer stays, too
+abbrev pub NeverRan : {T E S K : Type 0} → T → T → S → S → K → K → Result (Unit {0}) (RunError E) → Type 0
+NeverRan s t source source' sink sink' result = NeverBegan source source' sink sink' (ends.Stream errors.NoMemory) result × (t ≡ s)
 
 -- a run that writes this text for frames, and refuses none
 abbrev pub TextRun : {S K : Type 0} → (List Frame → List ℕ) → Level → (S → Supply) → (K → Store) → ℕ → ℕ → S → S → K → K

@@ -178,13 +178,6 @@ pub record Streams {S E : Type 0} (w : Manner S E) (s t : S) (m turns : ℕ) (a 
   pub tidy_only : ending ≡ stopped_by (faulty not_tidy) → AsksTidy w.level
   pub short_by : IsShortBy w s m taken written (m + 8)
 
--- memory ran out before anything was taken or written
-pub record RunNeverBegan {T E S K : Type 0} (s t : T) (source source' : S) (sink sink' : K) (ending : Ending E) : Type 0 where
-  pub no_memory : ending ≡ stopped_by out_of_memory
-  pub writer : t ≡ s
-  pub source_stays : source' ≡ source
-  pub sink_stays : sink' ≡ sink
-
 -- the result at the end of a stream in which nothing was refused
 abbrev pub answer_at_end : {E : Type 0} → Option E → Result (Unit {0}) StreamError → Ending E
 answer_at_end (Some why) (Ok done) = refused_by why

@@ -73,9 +73,9 @@ pub record Transcribes (text : List Frame → List ℕ) (level : Level) (m turns
   pub tidy_only : result ≡ Err errors.NotTidy → AsksTidy level
   pub behind : IsBehindBy text level m taken written (m + 8)
 
--- memory ran out before anything was taken or written
-pub record NeverBegan {S K : Type 0} (source source' : S) (sink sink' : K) (result : Result (Unit {0}) StreamError) : Type 0 where
-  pub no_memory : result ≡ Err errors.NoMemory
+-- memory ran out before anything was taken or written, and the result is this error
+pub record NeverBegan {S K E : Type 0} (source source' : S) (sink sink' : K) (error : E) (result : Result (Unit {0}) E) : Type 0 where
+  pub no_memory : result ≡ Err error
   pub source_stays : source' ≡ source
   pub sink_stays : sink' ≡ sink
 

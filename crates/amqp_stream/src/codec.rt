@@ -2,8 +2,7 @@
 
 ghost use Rattle.std.specs.Prelude.{◌≡◌, ◌≢◌, ◌⊎◌, Err, IfOk};
 ghost use Rattle.amqp_types.specs.Levels.{plain, level_of};
-ghost use Rattle.amqp_stream.specs.Runs.{CanonicalRun, WriterRun};
-ghost use Rattle.amqp_stream.specs.Streaming.{RunNeverBegan, ending_of};
+ghost use Rattle.amqp_stream.specs.Runs.{CanonicalRun, WriterRun, NeverRan};
 ghost use Rattle.amqp_stream.specs.Transcribing.{NeverBegan};
 
 use crate::canonical::{Canonical, TidyCanonical, unrefused};
@@ -137,7 +136,7 @@ pub fn run_stream<W: FrameWriter, S: Source, K: Sink>(
     turns: u64,
 ) -> Result<(), RunError<W::Refusal>>
     ensures run { WriterRun W.manner writer.old writer.new S.supply K.store max_payload turns source.old source.new sink.old sink.new result
-        ⊎ RunNeverBegan writer.old writer.new source.old source.new sink.old sink.new (ending_of result) }
+        ⊎ NeverRan writer.old writer.new source.old source.new sink.old sink.new result }
 {
     match Codec::open(alloc, max_payload) {
         Ok(codec) => {
@@ -158,7 +157,7 @@ pub fn canonicalize_in<S: Source, K: Sink>(
     turns: u64,
 ) -> Result<(), StreamError>
     ensures run { CanonicalRun (level_of profile) S.supply K.store max_payload turns source.old source.new sink.old sink.new result
-        ⊎ NeverBegan source.old source.new sink.old sink.new result }
+        ⊎ NeverBegan source.old source.new sink.old sink.new StreamError.NoMemory result }
 {
     match Codec::open(alloc, max_payload) {
         Ok(codec) => {
@@ -178,7 +177,7 @@ pub fn canonicalize<S: Source, K: Sink>(
     turns: u64,
 ) -> Result<(), StreamError>
     ensures run { CanonicalRun plain S.supply K.store max_payload turns source.old source.new sink.old sink.new result
-        ⊎ NeverBegan source.old source.new sink.old sink.new result }
+        ⊎ NeverBegan source.old source.new sink.old sink.new StreamError.NoMemory result }
     ensures never_untidy { result ≢ Err StreamError.NotTidy }
 {
     canonicalize_in(alloc, Profile::Plain, source, sink, max_payload, turns)

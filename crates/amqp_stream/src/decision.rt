@@ -2,7 +2,7 @@
 
 ghost use Rattle.std.specs.Prelude.{◌≡◌, ◌+◌, ◌^◌, ◌<◌, ◌≤◌, length};
 ghost use Rattle.amqp_wire.specs.Frames.{raw_of, frame_length};
-ghost use Rattle.amqp_stream.specs.Decisions.{stands, drops, IsDecided, PutsDecided};
+ghost use Rattle.amqp_stream.specs.Decisions.{stands, IsDecided, PutsDecided};
 
 use crate::output_buffer::OutputBuffer;
 use amqp_wire::{AMQPRawFrame, FrameJudgement};
@@ -17,27 +17,16 @@ pub enum Decision {
     Dropped,
 }
 
-/// Whether a frame's own bytes are what is written for it.
+/// Whether a frame's own bytes are what is written for it, by what a writer returned for it.
 #[inline(always)]
-pub(crate) fn stands(decision: Option<Decision>) -> bool
-    ensures { result ≡ stands decision }
+pub(crate) fn stands<E>(passed: &Result<Option<Decision>, E>) -> bool
+    ensures { result ≡ stands passed.now }
 {
-    match decision {
-        Some(Decision::Kept(judged)) => judged.canonical,
-        Some(Decision::Dropped) => false,
-        None => false,
-    }
-}
-
-/// Whether nothing is written for a frame.
-#[inline(always)]
-pub(crate) fn is_dropped(decision: Option<Decision>) -> bool
-    ensures { result ≡ drops decision }
-{
-    match decision {
-        Some(Decision::Kept(_)) => false,
-        Some(Decision::Dropped) => true,
-        None => false,
+    match passed {
+        Ok(Some(Decision::Kept(judged))) => judged.canonical,
+        Ok(Some(Decision::Dropped)) => false,
+        Ok(None) => false,
+        Err(_) => false,
     }
 }
 

@@ -10,7 +10,7 @@ ghost use Rattle.amqp_stream.specs.Resuming.{Resumes};
 ghost use Rattle.amqp_stream.specs.Decisions.{PassesBy};
 ghost use Rattle.amqp_stream.specs.Taking.{TakesFrame};
 
-use crate::decision::{Decision, is_dropped, put_decided, stands};
+use crate::decision::{Decision, put_decided, stands};
 use crate::errors::{RunError, StreamError};
 use crate::frame_writer::FrameWriter;
 use crate::output::{gather_stretch, stop, stop_after, write_after};
@@ -84,6 +84,20 @@ fn write_decided<W: FrameWriter, K: Sink>(
     }
 }
 
+/// A layout that lies elsewhere, so that the loop's own stays in registers.
+#[inline(always)]
+fn copy_layout(layout: FrameLayout) -> FrameLayout
+    ensures { result ≡ layout }
+{
+    FrameLayout {
+        frame_type: layout.frame_type,
+        channel_id: layout.channel_id,
+        payload_start: layout.payload_start,
+        payload_len: layout.payload_len,
+        frame_len: layout.frame_len,
+    }
+}
+
 /// Takes the frame that lies after the stretch, and returns the stretch after it. A frame that stands lengthens it. At an
 /// error all that was gathered is written.
 #[inline(always)]
@@ -104,23 +118,31 @@ fn take_frame<W: FrameWriter, K: Sink>(
     ensures takes { TakesFrame W.manner writer.old writer.new layout (K.store sink.old) (K.store sink.new)
         reader.old.held reader.new.held out.old.bytes out.new.bytes stretch result }
 {
-    match writer.pass(reader.frame_after(stretch.len, layout)) {
+    let passed = writer.pass(reader.frame_after(stretch.len, layout));
+    if stands(&passed) {
+        return Ok(stretch.with(layout));
+    }
+    let layout = copy_layout(layout);
+    match passed {
         Err(error) => {
             let bytes = reader.front(stretch.len);
             let error = stop_after(out, sink, bytes, stretch.has_large(), error);
             reader.skip(stretch.len);
             Err(error)
         }
-        Ok(decision) => {
-            if stands(decision) {
-                return Ok(stretch.with(layout));
-            }
-            if stretch.len == 0 && is_dropped(decision) {
+        Ok(Some(Decision::Kept(judged))) => {
+            let decision = Some(Decision::Kept(judged));
+            write_decided(reader, out, writer, sink, stretch, layout, decision)
+        }
+        Ok(Some(Decision::Dropped)) => {
+            if stretch.len == 0 {
                 reader.skip(layout.frame_len);
                 return Ok(stretch);
             }
+            let decision = Some(Decision::Dropped);
             write_decided(reader, out, writer, sink, stretch, layout, decision)
         }
+        Ok(None) => write_decided(reader, out, writer, sink, stretch, layout, None),
     }
 }
 

@@ -58,8 +58,20 @@ fn put_judged_after(
     put_judged(buf, len, scratch, frame_type, channel_id, payload, judged)
 }
 
-/// Bytes that are not written yet, in a buffer that is reserved in full, with the scratch that frames of this size
-/// need.
+/// Makes a scratch as long as a payload of so many bytes needs, within what is reserved, so that this takes no memory. What
+/// no payload needs is never touched.
+fn widen(scratch: &mut Vec<EntryMark>, payload_len: usize) {
+    let wanted = (payload_len / 2).min(scratch.capacity());
+    if scratch.len() < wanted {
+        match scratch.resize(wanted, EntryMark::default()) {
+            Ok(()) => {}
+            Err(_) => unreachable!(),
+        }
+    }
+}
+
+/// Bytes that are not written yet, in a buffer that is reserved in full, with room for the scratch that frames of this
+/// size need.
 #[derive(Drop)]
 pub struct OutputBuffer {
     buf: Vec<u8>,
@@ -84,7 +96,7 @@ impl OutputBuffer {
         ensures { IfOk result (λ out. out ≡ record { room = room; bytes = [] }) }
     {
         let buf = vec![in alloc; 0u8; room]?;
-        let scratch = vec![in alloc; EntryMark::default(); room / 2]?;
+        let scratch = Vec::with_capacity(alloc, room / 2)?;
         Ok(OutputBuffer {
             buf,
             len: 0,
@@ -143,6 +155,7 @@ impl OutputBuffer {
         ensures inside { IfErr result IsPayloadError }
         ensures memory { result ≢ Err ParserError.NoMemory }
     {
+        widen(&mut self.scratch, raw.payload.len());
         self.len = put_raw_after(&mut self.buf, self.len, &mut self.scratch, raw)?;
         Ok(())
     }
@@ -156,6 +169,9 @@ impl OutputBuffer {
         ensures adds { Adds self.old.bytes self.new.bytes (whole (raw_of raw.entry)) (Ok tt) }
         ensures compact { length self.new.bytes ≤ length self.old.bytes + frame_length (raw_of raw.entry) }
     {
+        if !judged.canonical {
+            widen(&mut self.scratch, raw.payload.len());
+        }
         self.len = put_judged_after(&mut self.buf, self.len, &mut self.scratch, raw, judged);
     }
 }
