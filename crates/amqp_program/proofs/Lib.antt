@@ -4,7 +4,6 @@ pub mod HexRuns
 pub mod HexApart
 pub mod Ran
 pub mod RawRuns
-pub mod TurnStatuses
 pub mod TurnRuns
 pub mod FilterRuns
 pub mod TextRuns

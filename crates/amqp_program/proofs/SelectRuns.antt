@@ -4,7 +4,7 @@ use Rattle.amqp_types.specs.Levels.{plain}
 use Rattle.amqp_stream.specs.declared.errors.StreamError.{StreamError}
 use Rattle.amqp_stream.specs.declared.errors.StreamError.TheVariants as errors
 use Rattle.amqp_stream.specs.Ends.{Supply, Store}
-use Rattle.amqp_stream.specs.Transcribing.{Transcribes, TranscribesExactly, NeverBegan, IsOkOrNoMemory}
+use Rattle.amqp_stream.specs.Transcribing.{NeverBegan, IsOkOrNoMemory}
 use Rattle.amqp_stream.proofs.Transcribing.{never_out_of_memory}
 use Rattle.amqp_select.specs.declared.rule.Rule.{Rule}
 use Rattle.amqp_select.specs.Refusals.{Spell}
@@ -12,7 +12,7 @@ use Rattle.amqp_select.specs.Covering.{uncovered}
 use Rattle.amqp_select.specs.Selecting.{selection, SelectRun}
 use Rattle.amqp_program.specs.Commands.{AreNamed}
 use Rattle.amqp_program.specs.Reports.{max_payload}
-use Rattle.amqp_program.specs.Runs.{IsDoneOrNoMemory, RunsSelect, raw_turns}
+use Rattle.amqp_program.specs.Runs.{IsDoneOrNoMemory, RunsText, RunsSelect, raw_turns}
 use Rattle.amqp_program.proofs.Ran.{stream_of, exact_of, complete_of, other_of, never_at, never_exactly, never_done, ok_done}
 use Rattle.amqp_program.proofs.RawRuns.{done_or_no_memory}
 use Rattle.amqp_program.proofs.Selections.{one_spelling, same_selection}
@@ -36,21 +36,11 @@ select_runs rules supply store source source' sink sink' answer status e ran =
       complete = λ input left valid none. subst IsDoneOrNoMemory (sym e) (done_or_no_memory answer (complete_of ok_done (never_done IsOkOrNoMemory tt) ran input left valid none));
     }
 
--- the run by the rules that no earlier one covers is the run by all
-by_all : (rules : List Rule) (a b : Supply) (k l : Store) (status : ℕ) → RunsSelect (uncovered rules) a b k l status → RunsSelect rules a b k l status
-by_all rules a b k l status run = record {
-  answer = run.answer;
-  status_is = run.status_is;
-  stream = subst (λ text. Transcribes text plain max_payload raw_turns a b k l run.answer ⊎ NeverBegan a b k l errors.NoMemory run.answer) (same_selection rules) run.stream;
-  no_memory = run.no_memory;
-  exact = λ input left. subst (λ text. TranscribesExactly text plain max_payload input k l run.answer) (same_selection rules) (run.exact input left);
-  complete = run.complete;
-}
-
 -- these are the rules that the words stand for
 pub runs_named : (words : List (List ℕ)) (found rules : List Rule) (a b : Supply) (k l : Store) (status : ℕ) → AreNamed words found → Spell words rules → RunsSelect found a b k l status → RunsSelect rules a b k l status
 runs_named words found rules a b k l status named spell run =
-    by_all rules a b k l status (subst (λ kept. RunsSelect kept a b k l status) (named.are ∙ ap uncovered (one_spelling words named.all rules named.spell spell)) run)
+    let same : selection found ≡ selection rules = ap selection (named.are ∙ ap uncovered (one_spelling words named.all rules named.spell spell)) ∙ same_selection rules in
+    subst (λ text. RunsText text a b k l status) same run
 
 -- memory ran out before the run began
 pub select_without_memory : (rules : List Rule) (a : Supply) (k : Store) → RunsSelect rules a a k k 3

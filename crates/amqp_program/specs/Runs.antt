@@ -24,8 +24,7 @@ use Rattle.amqp_recut.specs.Stepping.{is_content_type}
 use Rattle.amqp_filter.specs.Filtering.{kept_bytes}
 use Rattle.amqp_filter.specs.Stepping.{is_method_type}
 use Rattle.amqp_lines.specs.Dumping.{Dumps, DumpsExactly}
-use Rattle.amqp_lines.specs.Undumping.{Undumps, UndumpsExactly}
-use Rattle.amqp_lines.specs.Undumping.{IsValidText}
+use Rattle.amqp_lines.specs.Undumping.{Undumps, UndumpsExactly, IsValidText}
 use Rattle.amqp_lines.specs.Errors.{undump_error_status}
 use Rattle.amqp_lines.specs.declared.errors.UndumpError.{UndumpError}
 use Rattle.amqp_program.specs.Texts.{longest}
@@ -101,14 +100,18 @@ pub record RunsRaw (a b : Supply) (k l : Store) (status : ℕ) : Type 0 where
   pub exact : (input : List ℕ) → a.left ≡ Some input → AnswersExactly plain max_payload input k l answer
   pub complete : (input : List ℕ) → a.left ≡ Some input → IsValid plain max_payload raw_turns input → NoFaults a b k l → IsDoneOrNoMemory status
 
--- the canonical bytes of the frames that rules keep were written
-pub record RunsSelect (rules : List Rule) (a b : Supply) (k l : Store) (status : ℕ) : Type 0 where
+-- A text for the frames was written, of which none is refused.
+pub record RunsText (text : List Frame → List ℕ) (a b : Supply) (k l : Store) (status : ℕ) : Type 0 where
   pub answer : Result (Unit {0}) StreamError
   pub status_is : status ≡ status_of answer
-  pub stream : Transcribes (selection rules) plain max_payload raw_turns a b k l answer ⊎ NeverBegan a b k l errors.NoMemory answer
+  pub stream : Transcribes text plain max_payload raw_turns a b k l answer ⊎ NeverBegan a b k l errors.NoMemory answer
   pub no_memory : status ≡ 3 → NeverBegan a b k l errors.NoMemory answer
-  pub exact : (input : List ℕ) → a.left ≡ Some input → TranscribesExactly (selection rules) plain max_payload input k l answer
+  pub exact : (input : List ℕ) → a.left ≡ Some input → TranscribesExactly text plain max_payload input k l answer
   pub complete : (input : List ℕ) → a.left ≡ Some input → IsValid plain max_payload raw_turns input → NoFaults a b k l → IsDoneOrNoMemory status
+
+-- the canonical bytes of the frames that rules keep
+abbrev pub RunsSelect : List Rule → Supply → Supply → Store → Store → ℕ → Type 0
+RunsSelect rules a b k l status = RunsText (selection rules) a b k l status
 
 -- the lines of the frames were written
 pub record RunsDump (a b : Supply) (k l : Store) (status : ℕ) : Type 0 where

@@ -16,7 +16,7 @@ use std::alloc::Global;
 /// Writes the canonical bytes of the messages whose openings rules keep, and of each other frame that they keep, and
 /// reports a fault by the status alone. It is called apart, so that its loop is not laid out among those of other commands.
 #[inline(never)]
-#[tactic(auto, using(crate::proofs::TurnRuns::turn_runs, crate::proofs::TurnStatuses::own_statuses))]
+#[tactic(auto, using(crate::proofs::TurnRuns::turn_runs, crate::proofs::TurnRuns::own_statuses))]
 fn run_rules<S: Source, K: Sink>(alloc: Global, rules: &Rules, source: &mut S, sink: &mut K) -> u8
     ensures run { RunsFilter rules.now (S.supply source.old) (S.supply source.new) (K.store sink.old) (K.store sink.new) result }
     ensures few { 23 ≤ result → (result ≡ 24) ⊎ (result ≡ 25) }

@@ -12,7 +12,7 @@ use std::alloc::Global;
 
 /// Writes the canonical bytes of frames, with the bodies of messages cut into bodies of so many bytes, and reports a
 /// fault by the status alone.
-#[tactic(auto, using(crate::proofs::TurnRuns::turn_runs, crate::proofs::TurnStatuses::own_statuses))]
+#[tactic(auto, using(crate::proofs::TurnRuns::turn_runs, crate::proofs::TurnRuns::own_statuses))]
 pub fn run_recut<S: Source, K: Sink>(alloc: Global, size: u32, source: &mut S, sink: &mut K) -> u8
     requires some { 1 ≤ size }
     requires fits { size ≤ max_payload }
