@@ -21,6 +21,8 @@ mod scratch;
 mod statuses;
 #[cfg(test)]
 mod tests;
+#[cfg(test)]
+mod turn_tests;
 mod turns;
 mod vectors;
 mod version;

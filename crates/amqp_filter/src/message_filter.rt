@@ -25,7 +25,8 @@ use std::alloc::Global;
 const LAST_OPENING: Identifier = 71;
 
 /// Whether a frame is a method whose id no method that opens a message has. May return false for other frames of no message:
-/// most methods that open none are acknowledgements. The low byte of an id is at most the id, and one byte is read sooner than two in their order.
+/// most methods that open none are acknowledgements. The low byte of an id is at most the id, and is read without the swap of
+/// two.
 #[inline(always)]
 fn is_passed(outline: FrameOutline) -> bool
     ensures { IsTrue result → (mark_after greatest None outline ≡ Mark.Passed) }

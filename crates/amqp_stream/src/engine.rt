@@ -1,6 +1,6 @@
 //! The one loop that reads frames and writes for each.
 
-ghost use Rattle.std.specs.Prelude.{◌≡◌, ◌+◌, ◌≤◌, [], length, drop, zero, Ok, Err, IsTrue};
+ghost use Rattle.std.specs.Prelude.{◌≡◌, ◌+◌, ◌≤◌, [], length, drop, Ok, Err, IsTrue};
 ghost use Rattle.amqp_types.specs.Judging.{IsBytes};
 ghost use Rattle.amqp_wire.specs.Looks.{laid_out};
 ghost use Rattle.amqp_stream.specs.Reading.{Lies};
@@ -122,6 +122,12 @@ fn take_frame<W: FrameWriter, K: Sink>(
     if stands(&passed) {
         return Ok(stretch.with(layout));
     }
+    if stretch.len == 0 {
+        if let Ok(Some(Decision::Dropped)) = passed {
+            reader.skip(layout.frame_len);
+            return Ok(stretch);
+        }
+    }
     let layout = copy_layout(layout);
     match passed {
         Err(error) => {
@@ -135,10 +141,6 @@ fn take_frame<W: FrameWriter, K: Sink>(
             write_decided(reader, out, writer, sink, stretch, layout, decision)
         }
         Ok(Some(Decision::Dropped)) => {
-            if stretch.len == 0 {
-                reader.skip(layout.frame_len);
-                return Ok(stretch);
-            }
             let decision = Some(Decision::Dropped);
             write_decided(reader, out, writer, sink, stretch, layout, decision)
         }

@@ -1,8 +1,7 @@
 //! A buffer in which bytes are pending, to be written together.
 
-ghost use Rattle.std.specs.Prelude.{◌≡◌, ◌≢◌, ◌+◌, ◌++◌, ◌^◌, ◌<◌, ◌≤◌, [], length, take, Ok, Err, IfOk, IfErr};
+ghost use Rattle.std.specs.Prelude.{◌≡◌, ◌≢◌, ◌+◌, ◌++◌, ◌^◌, ◌<◌, ◌≤◌, ℕ, [], length, take, vec_len, vec_capacity, Ok, Err, IfOk, IfErr};
 ghost use Rattle.amqp_wire.specs.Frames.{raw_of, frame_length};
-ghost use Rattle.amqp_wire.specs.Spelling.{framed, head};
 ghost use Rattle.amqp_wire.specs.Verdicts.{IsPayloadError, whole};
 ghost use Rattle.amqp_wire.specs.Judgements.{IsJudged};
 ghost use Rattle.amqp_stream.specs.Buffers.{Adds, AddsAt};
@@ -58,6 +57,24 @@ fn put_judged_after(
     put_judged(buf, len, scratch, frame_type, channel_id, payload, judged)
 }
 
+/// Makes a buffer at least so long, within what is reserved, so that this takes no memory. What is never pending is never
+/// touched.
+#[inline(always)]
+fn lengthen(buf: &mut Vec<u8>, end: usize)
+    requires reserved { end ≤ vec_capacity buf.old }
+    ensures front { (len : ℕ) → len ≤ vec_len buf.old → take len buf.new.items ≡ take len buf.old.items }
+    ensures long { end ≤ vec_len buf.new }
+    ensures within { (room : ℕ) → vec_len buf.old ≤ room → end ≤ room → vec_len buf.new ≤ room }
+    ensures reserved { vec_capacity buf.old ≤ vec_capacity buf.new }
+{
+    if buf.len() < end {
+        match buf.resize(end, 0) {
+            Ok(()) => {}
+            Err(_) => unreachable!(),
+        }
+    }
+}
+
 /// Makes a scratch as long as a payload of so many bytes needs, within what is reserved, so that this takes no memory. What
 /// no payload needs is never touched.
 fn widen(scratch: &mut Vec<EntryMark>, payload_len: usize) {
@@ -71,23 +88,24 @@ fn widen(scratch: &mut Vec<EntryMark>, payload_len: usize) {
 }
 
 /// Bytes that are not written yet, in a buffer that is reserved in full, with room for the scratch that frames of this
-/// size need.
+/// size need. Both are touched as far as they are needed.
 #[derive(Drop)]
 pub struct OutputBuffer {
     buf: Vec<u8>,
     len: usize,
+    room: usize,
     scratch: Vec<EntryMark>,
 }
 
 impl Model for OutputBuffer {
-    ghost use Rattle.std.specs.Prelude.{◌≤◌, take, vec_len};
+    ghost use Rattle.std.specs.Prelude.{◌≤◌, take, vec_len, vec_capacity};
     ghost use Rattle.amqp_stream.specs.Buffers.{Buffered};
 
     ghost Value = { Buffered };
 
-    ghost view = { λ out. record { room = vec_len out.buf; bytes = take out.len out.buf.items } };
+    ghost view = { λ out. record { room = out.room; bytes = take out.len out.buf.items } };
 
-    ghost invariant = { λ out. out.len ≤ vec_len out.buf };
+    ghost invariant = { λ out. (out.len ≤ vec_len out.buf) × (vec_len out.buf ≤ out.room) × (out.room ≤ vec_capacity out.buf) };
 }
 
 impl OutputBuffer {
@@ -95,11 +113,12 @@ impl OutputBuffer {
     pub fn open(alloc: Global, room: usize) -> Result<OutputBuffer, NoMemory>
         ensures { IfOk result (λ out. out ≡ record { room = room; bytes = [] }) }
     {
-        let buf = vec![in alloc; 0u8; room]?;
+        let buf = Vec::with_capacity(alloc, room)?;
         let scratch = Vec::with_capacity(alloc, room / 2)?;
         Ok(OutputBuffer {
             buf,
             len: 0,
+            room,
             scratch,
         })
     }
@@ -115,7 +134,7 @@ impl OutputBuffer {
     pub fn room(&self) -> usize
         ensures { length self.now.bytes + result ≡ self.now.room }
     {
-        self.buf.len() - self.len
+        self.room - self.len
     }
 
     /// Drops the pending bytes.
@@ -141,6 +160,7 @@ impl OutputBuffer {
         ensures room { self.new.room ≡ self.old.room }
         ensures pushed { self.new.bytes ≡ self.old.bytes ++ bytes.now }
     {
+        lengthen(&mut self.buf, self.len + bytes.len());
         self.len = put_after(&mut self.buf, self.len, bytes);
     }
 
@@ -156,6 +176,7 @@ impl OutputBuffer {
         ensures memory { result ≢ Err ParserError.NoMemory }
     {
         widen(&mut self.scratch, raw.payload.len());
+        lengthen(&mut self.buf, self.len + (raw.payload.len() + 8));
         self.len = put_raw_after(&mut self.buf, self.len, &mut self.scratch, raw)?;
         Ok(())
     }
@@ -172,6 +193,8 @@ impl OutputBuffer {
         if !judged.canonical {
             widen(&mut self.scratch, raw.payload.len());
         }
+        let end = self.len + (raw.payload.len() + 8);
+        lengthen(&mut self.buf, end.min(self.room));
         self.len = put_judged_after(&mut self.buf, self.len, &mut self.scratch, raw, judged);
     }
 }
