@@ -1,6 +1,6 @@
 //! What is kept of the channels on which a message has begun.
 
-ghost use Rattle.std.specs.Prelude.{◌≡◌, ◌==◌, None, IsSome, OnOk, OnErr};
+ghost use Rattle.std.specs.Prelude.{◌≡◌, ◌==◌, None, IsSome, OnOk, OnErr, true};
 ghost use Rattle.std.specs.Option.{option_copied, option_copied_mut};
 ghost use Rattle.std.specs.Borrow.{sem};
 ghost use Rattle.std.specs.FinMap as finite;
@@ -12,13 +12,15 @@ use amqp_types::{ChannelId, NoMemory};
 use std::alloc::Global;
 use std::marker::Model;
 
-/// What is kept of each message that is not complete, by its channel.
+/// What is kept of each message that is not complete, by its channel, and whether it is known that there is none.
 #[derive(Drop)]
 pub struct OpenMessages<T> {
     channels: Channels<T>,
+    known_empty: bool,
 }
 
 impl<T> Model for OpenMessages<T> {
+    ghost use Rattle.std.specs.Prelude.{◌≡◌, [], true};
     ghost use Rattle.std.specs.Coded.{coded_ℕ};
     ghost use Rattle.std.specs.FinMap as finite;
     ghost use Rattle.amqp_turns.specs.ByChannel.{ByChannel};
@@ -28,6 +30,8 @@ impl<T> Model for OpenMessages<T> {
     ghost coded = { finite.code coded_ℕ T.code };
 
     ghost view = { λ messages. finite.from_entries messages.channels };
+
+    ghost invariant = { λ messages. messages.known_empty ≡ true → messages.channels ≡ [] };
 }
 
 impl<T: Drop> OpenMessages<T> {
@@ -37,6 +41,7 @@ impl<T: Drop> OpenMessages<T> {
     {
         OpenMessages {
             channels: Channels::new(alloc),
+            known_empty: true,
         }
     }
 
@@ -45,6 +50,14 @@ impl<T: Drop> OpenMessages<T> {
         ensures { result ≡ (finite.len self.now == 0) }
     {
         self.channels.is_empty()
+    }
+
+    /// Whether it is known that no message has begun, at the price of one test. May return false where none has.
+    #[inline(always)]
+    pub fn is_known_empty(&self) -> bool
+        ensures { result ≡ true → (finite.len self.now == 0) ≡ true }
+    {
+        self.known_empty
     }
 
     /// What is kept of a channel.
@@ -61,6 +74,7 @@ impl<T: Drop> OpenMessages<T> {
         ensures* writes_back { sem 𝓛 (lends_held T.row self.entry channel_id result) }
         ensures value { option_copied_mut result ≡ finite.get self.old channel_id }
     {
+        self.known_empty = false;
         self.channels.get_mut(channel_id)
     }
 
@@ -71,6 +85,7 @@ impl<T: Drop> OpenMessages<T> {
         ensures err { OnErr result (self.new ≡ self.old) }
         ensures absent { OnErr result (finite.get self.old channel_id ≡ None) }
     {
+        self.known_empty = false;
         self.channels.insert(channel_id, message)
     }
 
@@ -95,5 +110,6 @@ impl<T: Drop> OpenMessages<T> {
         ensures { self.new ≡ finite.remove self.old channel_id }
     {
         self.channels.forget(channel_id);
+        self.known_empty = self.channels.is_empty();
     }
 }
