@@ -15,8 +15,8 @@
  * Arguments
  *
  *   A pointer comes with a length: of bytes in bytes, of marks in marks, of nodes in nodes, of heads in heads. Both belong together: so
- *   much has to be there, and it has to stay as it is until the call returns. Where the length is 0 the pointer may be NULL. A buffer or a scratch
- *   that is written must overlap nothing else that is passed. All other arguments are tested. No pointer is kept after a call.
+ *   much has to be there, and it has to stay as it is until the call returns. Where the length is 0 the pointer may be NULL. A buffer or
+ *   a scratch that is written must overlap nothing else that is passed. All other arguments are tested. No pointer is kept after a call.
  *
  *   Beside that, a caller owes this:
  *   - there is enough stack, see below;
@@ -315,8 +315,8 @@ typedef struct feksroum_written {
 /* Writes the frames that heads and nodes mean at the front of `out`, one after another. All spans lie in the pool: those of nodes, and of
  * bodies. Reserved fields are written at their constants, entries of tables in the order of their nodes. So what is written is canonical
  * where the keys of each table ascend, none stands twice, and content that is given as bytes is canonical; else feksroum_canonicalize or
- * feksroum_canonicalize_in_place makes it so. What
- * feksroum_frames gave at FEKSROUM_DEEP can be passed as it is, with the bytes that were read as the pool. `out` must overlap no other.
+ * feksroum_canonicalize_in_place makes it so. What feksroum_frames gave at FEKSROUM_DEEP can be passed as it is, with the bytes that were
+ * read as the pool. `out` must overlap no other.
  *
  * Of a head these members count, and the others that its type does not have are 0:
  *   a method           channel, class_id, method_id, first, nodes: its fields that are not reserved, all of them, in their order
@@ -325,19 +325,19 @@ typedef struct feksroum_written {
  *   a heartbeat        channel
  *   a protocol header  first, nodes: three numbers
  * No use is made of `form`, and of start and length but of a body.
- * Of a node, its kind and place are as the table of names has them, and a value in a table or an array has one of the 17 tag bytes as its kind
- * ('U' and 'L' are not written). Of a table or an array with `inside` 0 the span is the content, which is tested and written as it stands; else the
- * nodes inside are its entries or values, and its span is not looked at. The key of a value in an array, `items`, and the place of
- * an entry or value are not looked at.
+ * Of a node, its kind and place are as the table of names has them, and a value in a table or an array has one of the 17 tag bytes as
+ * its kind ('U' and 'L' are not written). Of a table or an array with `inside` 0 the span is the content, which is tested and written as
+ * it stands; else the nodes inside are its entries or values, and its span is not looked at. The key of a value in an array, `items`, and
+ * the place of an entry or value are not looked at.
  *
- * Nothing is written but at status 0, and what comes after the bytes written is as it was. The status is that of the first refusal, frame by frame and
- * from left to right:
+ * Nothing is written but at status 0, and what comes after the bytes written is as it was. The status is that of the first refusal, frame
+ * by frame and from left to right:
  *   41 the type is none; 14 and 15 both ids are no method;
  *   41 the head has what its type has not, or its nodes or its bytes pass the end of the list or the pool;
- *   of each node 41 a kind, place or `inside` that does not fit, a number outside its width, a truth value above 1, a span outside the pool; 42 a
- *      short string longer than 255 bytes, or what fills a table or an array longer than 2^32 - 1; 18 a short string or a key that is
- *      not UTF-8; 20 tables and arrays nest too deep; 16, 18, 19, 20 the fault of a content that stands in the pool; 41 a field that
- *      misses or is too many;
+ *   of each node 41 a kind, place or `inside` that does not fit, a number outside its width, a truth value above 1, a span outside the
+ *      pool; 42 a short string longer than 255 bytes, or what fills a table or an array longer than 2^32 - 1; 18 a short string or a
+ *      key that is not UTF-8; 20 tables and arrays nest too deep; 16, 18, 19, 20 the fault of a content that stands in the pool; 41 a
+ *      field that misses or is too many;
  *   12 the payload is longer than max_payload.
  * Where nothing is refused it is 40 if `out` is shorter than `length` says; so a call with no buffer tells how long it has to be. */
 feksroum_written feksroum_write(const feksroum_head *heads, size_t head_count, const feksroum_node *nodes, size_t node_count,
@@ -376,8 +376,8 @@ typedef struct feksroum_turn {
 
 /* What one more frame is to its channel, and what is kept of the channel after it. Frames of one channel are given in their order; those
  * of different channels in any order. The frame is said by its numbers, as feksroum_next and feksroum_check have them. `size` is the
- * body_size of a content header, and the length of a body; else it is not looked at, as ids that the type does not have. A content header may announce
- * at most max_body bytes.
+ * body_size of a content header, and the length of a body; else it is not looked at, as ids that the type does not have. A content
+ * header may announce at most max_body bytes.
  *
  * status: 0 where the frame may come next; 24 where not, and then each later frame of the channel has fault 7; 10 where the type is none;
  * 41 where the numbers that are kept are none of a channel. */
@@ -408,8 +408,8 @@ typedef struct feksroum_piece {
  * content header are written as they are; each body is written at feksroum_body_head, its pieces and the byte 206. */
 feksroum_cut feksroum_recut(uint32_t size, uint32_t held, uint32_t length, uint8_t ends) FEKSROUM_RESULT;
 
-/* The payload of frame `k` of these, counted from 0, by the same numbers. Both spans lie within what they are spans of. Zeros where there is no such
- * frame: k is not below `pieces`, or the status was 41. */
+/* The payload of frame `k` of these, counted from 0, by the same numbers. Both spans lie within what they are spans of. Zeros where there
+ * is no such frame: k is not below `pieces`, or the status was 41. */
 feksroum_piece feksroum_piece_at(uint32_t size, uint32_t held, uint32_t length, uint8_t ends, uint64_t k) FEKSROUM_RESULT;
 
 /* A rule: keeps or drops the frames for which each part that is there holds. The numbers of a part that is not there are not looked
@@ -431,7 +431,8 @@ feksroum_frame_rule feksroum_rule(const uint8_t *word, size_t length) FEKSROUM_R
 
 /* Whether rules keep a frame, by its type, channel and ids, as feksroum_next and feksroum_check have them: 1 where the first rule that
  * matches says keep; 0 where it says drop, or none matches; 10 where the type is none; 41 where a rule has other numbers than are said
- * above. For whole messages, decide at the method that opens one (part 1 of feksroum_step), and let its content header and bodies follow. */
+ * above. For whole messages, decide at the method that opens one (part 1 of feksroum_step), and let its content header and bodies
+ * follow. */
 uint8_t feksroum_decide(const feksroum_frame_rule *rules, size_t count, uint8_t type, uint16_t channel, uint16_t class_id,
                         uint16_t method_id) FEKSROUM_RESULT FEKSROUM_READS(1, 2);
 
