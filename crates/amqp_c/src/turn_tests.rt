@@ -9,7 +9,7 @@ type Kept = (u64, u64, u32);
 type Frame = (u8, u16, u16, u64);
 
 /// What is kept before a frame and after it; its part, and whether the message is complete; of a body before, up_to and size.
-const STEPS: [(Kept, Frame, Kept, (u8, bool), (u64, u64, u64)); 10] = [
+const STEPS: &[(Kept, Frame, Kept, (u8, bool), (u64, u64, u64))] = &[
     ((0, 0, 0), (65, 0, 0, 0), (0, 0, 0), (0, false), (0, 0, 0)),
     ((0, 0, 0), (1, 60, 80, 0), (0, 0, 0), (0, false), (0, 0, 0)),
     ((0, 0, 0), (1, 60, 40, 0), (0, 0, 1), (1, false), (0, 0, 0)),
@@ -23,7 +23,7 @@ const STEPS: [(Kept, Frame, Kept, (u8, bool), (u64, u64, u64)); 10] = [
 ];
 
 /// Frames that are not in turn, where a body has at most nine bytes, and the fault of each.
-const FAULTS: [(Kept, Frame, u8); 8] = [
+const FAULTS: &[(Kept, Frame, u8)] = &[
     ((5, 2, 2), (1, 60, 80, 0), 1),
     ((0, 0, 0), (2, 60, 0, 5), 2),
     ((0, 0, 1), (3, 0, 0, 5), 3),
@@ -35,7 +35,7 @@ const FAULTS: [(Kept, Frame, u8); 8] = [
 ];
 
 /// Numbers of which one is none, and the status of each.
-const REFUSALS: [(Kept, Frame, u8); 4] = [
+const REFUSALS: &[(Kept, Frame, u8)] = &[
     ((0, 0, 3), (4, 0, 0, 0), 10),
     ((5, 5, 2), (4, 0, 0, 0), 41),
     ((0, 1, 0), (8, 0, 0, 0), 41),
@@ -57,7 +57,7 @@ fn step(channel: Kept, frame: Frame) -> ChannelStep {
 
 #[test]
 fn steps_are_made(rt: HostRuntime) {
-    for row in &STEPS {
+    for row in STEPS {
         let step = step(row.0, row.1);
         assert!(rt; step.status == 0 && step.fault == 0);
         assert!(rt; step.after == kept(row.2) && (step.part, step.finished) == row.3);
@@ -67,7 +67,7 @@ fn steps_are_made(rt: HostRuntime) {
 
 #[test]
 fn faults_are_told(rt: HostRuntime) {
-    for row in &FAULTS {
+    for row in FAULTS {
         let step = step(row.0, row.1);
         assert!(rt; (step.status, step.fault, step.part) == (24, row.2, 0));
         assert!(rt; step.after == kept((0, 0, 3)) && !step.finished);
@@ -76,7 +76,7 @@ fn faults_are_told(rt: HostRuntime) {
 
 #[test]
 fn numbers_are_refused(rt: HostRuntime) {
-    for row in &REFUSALS {
+    for row in REFUSALS {
         let step = step(row.0, row.1);
         assert!(rt; (step.status, step.fault, step.part) == (row.2, 0, 0));
         assert!(rt; step.after == kept((0, 0, 0)) && !step.finished);
