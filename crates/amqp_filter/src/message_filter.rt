@@ -199,7 +199,7 @@ impl<'a> MessageFilter<'a> {
         if !stands_alone(raw) {
             return false;
         }
-        self.messages.is_known_empty()
+        self.messages.is_empty()
     }
 
     /// Takes a frame: a fault of its payload comes first.

@@ -1,6 +1,6 @@
 //! What is kept of the channels on which a message has begun.
 
-ghost use Rattle.std.specs.Prelude.{◌≡◌, ◌==◌, None, IsSome, OnOk, OnErr, true};
+ghost use Rattle.std.specs.Prelude.{◌≡◌, ◌==◌, None, IsSome, OnOk, OnErr};
 ghost use Rattle.std.specs.Option.{option_copied, option_copied_mut};
 ghost use Rattle.std.specs.Borrow.{sem};
 ghost use Rattle.std.specs.FinMap as finite;
@@ -12,15 +12,15 @@ use amqp_types::{ChannelId, NoMemory};
 use std::alloc::Global;
 use std::marker::Model;
 
-/// What is kept of each message that is not complete, by its channel, and whether it is known that there is none.
+/// What is kept of each message that is not complete, by its channel, and whether there is none.
 #[derive(Drop)]
 pub struct OpenMessages<T> {
     channels: Channels<T>,
-    known_empty: bool,
+    empty: bool,
 }
 
 impl<T> Model for OpenMessages<T> {
-    ghost use Rattle.std.specs.Prelude.{◌≡◌, [], true};
+    ghost use Rattle.std.specs.Prelude.{◌≡◌, ◌==◌, length};
     ghost use Rattle.std.specs.Coded.{coded_ℕ};
     ghost use Rattle.std.specs.FinMap as finite;
     ghost use Rattle.amqp_turns.specs.ByChannel.{ByChannel};
@@ -31,7 +31,7 @@ impl<T> Model for OpenMessages<T> {
 
     ghost view = { λ messages. finite.from_entries messages.channels };
 
-    ghost invariant = { λ messages. messages.known_empty ≡ true → messages.channels ≡ [] };
+    ghost invariant = { λ messages. messages.empty ≡ (length messages.channels == 0) };
 }
 
 impl<T: Drop> OpenMessages<T> {
@@ -41,7 +41,7 @@ impl<T: Drop> OpenMessages<T> {
     {
         OpenMessages {
             channels: Channels::new(alloc),
-            known_empty: true,
+            empty: true,
         }
     }
 
@@ -49,15 +49,7 @@ impl<T: Drop> OpenMessages<T> {
     pub fn is_empty(&self) -> bool
         ensures { result ≡ (finite.len self.now == 0) }
     {
-        self.channels.is_empty()
-    }
-
-    /// Whether it is known that no message has begun, at the price of one test. May return false where none has.
-    #[inline(always)]
-    pub fn is_known_empty(&self) -> bool
-        ensures { result ≡ true → (finite.len self.now == 0) ≡ true }
-    {
-        self.known_empty
+        self.empty
     }
 
     /// What is kept of a channel.
@@ -74,7 +66,6 @@ impl<T: Drop> OpenMessages<T> {
         ensures* writes_back { sem 𝓛 (lends_held T.row self.entry channel_id result) }
         ensures value { option_copied_mut result ≡ finite.get self.old channel_id }
     {
-        self.known_empty = false;
         self.channels.get_mut(channel_id)
     }
 
@@ -85,8 +76,9 @@ impl<T: Drop> OpenMessages<T> {
         ensures err { OnErr result (self.new ≡ self.old) }
         ensures absent { OnErr result (finite.get self.old channel_id ≡ None) }
     {
-        self.known_empty = false;
-        self.channels.insert(channel_id, message)
+        let begun = self.channels.insert(channel_id, message);
+        self.empty = self.channels.is_empty();
+        begun
     }
 
     /// Keeps this in the place of what is kept of a channel, or nothing, where its message is complete. This takes no memory.
@@ -110,6 +102,6 @@ impl<T: Drop> OpenMessages<T> {
         ensures { self.new ≡ finite.remove self.old channel_id }
     {
         self.channels.forget(channel_id);
-        self.known_empty = self.channels.is_empty();
+        self.empty = self.channels.is_empty();
     }
 }

@@ -6,4 +6,4 @@ use Rattle.amqp_turns.proofs.Holding.{holding_empty}
 use Rattle.amqp_in_turn.proofs.open_messages.OpenMessages.is_empty.Goals as goal
 
 pub returns : goal.returns
-returns g c = c.is_empty.ensures ∙ holding_empty c.self.inside.channels ∙ ap (λ (m : ByChannel g.row.T.Denot). eqb (finite.len m) 0) c.self.view_is
+returns g c = c.self.invariant ∙ holding_empty c.self.inside.channels ∙ ap (λ (m : ByChannel g.row.T.Denot). eqb (finite.len m) 0) c.self.view_is
