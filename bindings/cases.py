@@ -144,13 +144,13 @@ def sized(octets):
 
 def typed_value(value):
     """A value of a table or array, as `typed` has it."""
-    from feksroum import _writing
+    from feksroum import _plain
 
     if isinstance(value, dict):
         return b"F" + typed_table(value)
     if isinstance(value, list):
         return b"A" + struct.pack("<I", len(value)) + b"".join(map(typed_value, value))
-    tag, number, octets, scale = _writing.plain(value)
+    tag, number, octets, scale = _plain.plain(value)
     if tag == ord("V"):
         return b"V"
     if tag in b"Sx":

@@ -577,6 +577,60 @@ static inline const char *feksroum_status_name(uint8_t status) {
     }
 }
 
+/* What a status says, in one sentence without a period; "" where it is no error's. */
+static inline const char *feksroum_status_text(uint8_t status) {
+    switch (status) {
+    case FEKSROUM_NO_MEMORY:
+        return "out of memory";
+    case FEKSROUM_READ_FAULT:
+        return "a read failed";
+    case FEKSROUM_WRITE_FAULT:
+        return "a write failed";
+    case FEKSROUM_UNKNOWN_FRAME_TYPE:
+        return "the first byte of a frame is none of 1, 2, 3, 8 and 65";
+    case FEKSROUM_BAD_PROTOCOL_HEADER:
+        return "a frame begins as a protocol header and is none";
+    case FEKSROUM_TOO_LARGE:
+        return "a payload is longer than the limit";
+    case FEKSROUM_BAD_FRAME_END:
+        return "the byte after the payload is not 206";
+    case FEKSROUM_UNKNOWN_CLASS:
+        return "a method of no class";
+    case FEKSROUM_UNKNOWN_METHOD:
+        return "a method that its class does not have";
+    case FEKSROUM_SHORT_PAYLOAD:
+        return "something passes the end of the payload, or of a table or an array in it";
+    case FEKSROUM_TRAILING_BYTES:
+        return "bytes are left after the last field of a payload";
+    case FEKSROUM_NOT_UTF8:
+        return "a short string is not UTF-8";
+    case FEKSROUM_UNKNOWN_TAG:
+        return "a field tag of no kind of value";
+    case FEKSROUM_TOO_DEEP:
+        return "tables or arrays nest more than 64 deep";
+    case FEKSROUM_INCOMPLETE:
+        return "the input ends inside a frame, or inside a line";
+    case FEKSROUM_TURNS_SPENT:
+        return "as many reads as were allowed were made";
+    case FEKSROUM_NOT_TIDY:
+        return "a frame whose ignored parts are not canonical";
+    case FEKSROUM_BAD_CONTENT:
+        return "a frame that may not come next on its channel";
+    case FEKSROUM_OPEN_CONTENT:
+        return "the input ends inside a message";
+    case FEKSROUM_BAD_TEXT:
+        return "a line is not the exact text form of any frame with a payload within the limit";
+    case FEKSROUM_BUFFER_TOO_SMALL:
+        return "the buffer is too short for what is written";
+    case FEKSROUM_BAD_ARGUMENT:
+        return "a number names none of what is asked for";
+    case FEKSROUM_TOO_LONG:
+        return "a short string has more than 255 bytes, or what fills a table or an array more than 2^32 - 1";
+    default:
+        return "";
+    }
+}
+
 /* ---- The table of names
  *
  * Which methods, fields and properties there are, and what the standard calls them: in lower case and with hyphens, as

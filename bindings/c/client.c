@@ -4,8 +4,7 @@
  *     client
  *
  * prints what was read, and the frames that are sent, a line each. */
-#include <feksroum.h>
-#include <feksroum_names.h>
+#include <feksroum_methods.h>
 #include <inttypes.h>
 #include <stdio.h>
 #include <stdlib.h>
@@ -29,8 +28,8 @@ typedef struct client {
     uint64_t delivery_tag;
     uint64_t body_size, body_read; /* of the message that comes in */
     char body[64];
-    uint8_t out[512]; /* what is to be sent */
-    size_t pending;
+    uint8_t bytes[512];
+    feksroum_buffer out; /* what is to be sent, in these bytes */
 } client;
 
 static void stop(const char *what, uint32_t status) {
@@ -38,43 +37,42 @@ static void stop(const char *what, uint32_t status) {
     exit(1);
 }
 
-/* The field of a method at a place, or the property; NULL where it is not set. */
-static const feksroum_node *field_at(const feksroum_node *nodes, size_t count, uint8_t place) {
-    for (size_t k = 0; k < count; k += 1 + nodes[k].inside) {
-        if (nodes[k].place == place) {
-            return nodes + k;
+static void print_text(const char *before, feksroum_bytes text) {
+    printf("%s%.*s", before, (int)text.length, (const char *)text.bytes);
+}
+
+static void read_method(client *c, const uint8_t *payload, feksroum_fields found, const feksroum_node *nodes) {
+    feksroum_connection_tune tune;
+    feksroum_basic_deliver deliver;
+    if (feksroum_connection_tune_read(&tune, found.class_id, found.method_id, payload, nodes)) {
+        c->max_payload = feksroum_max_payload(tune.frame_max);
+        printf("frames of %" PRIu32 " bytes at most, payloads of %" PRIu32 "\n", tune.frame_max, c->max_payload);
+    } else if (feksroum_basic_deliver_read(&deliver, found.class_id, found.method_id, payload, nodes)) {
+        c->delivery_tag = deliver.delivery_tag;
+        printf("delivery %" PRIu64 "%s", deliver.delivery_tag, deliver.redelivered ? ", not the first time," : "");
+        print_text(" of ", deliver.routing_key);
+        putchar('\n');
+    }
+}
+
+/* The value of a header; NULL where the message has none of this key. */
+static const feksroum_node *header(const uint8_t *payload, feksroum_fields found, const feksroum_node *nodes, const char *key) {
+    for (const feksroum_node *node = nodes; node < nodes + found.nodes; node += 1 + node->inside) {
+        if (node->place == FEKSROUM_PROPERTY_HEADERS) {
+            return feksroum_find(node, payload, key, strlen(key));
         }
     }
     return NULL;
 }
 
-/* Prints the bytes of a node, which lie in the payload. */
-static void print_text(const char *before, const uint8_t *payload, const feksroum_node *node) {
-    printf("%s%.*s", before, node ? (int)node->length : 0, node ? (const char *)payload + node->start : "");
-}
-
-static void read_method(client *c, const uint8_t *payload, feksroum_fields found, const feksroum_node *nodes) {
-    size_t count = (size_t)found.nodes;
-    if (found.class_id == FEKSROUM_CLASS_CONNECTION && found.method_id == FEKSROUM_CONNECTION_TUNE) {
-        uint32_t frame_max = (uint32_t)field_at(nodes, count, FEKSROUM_CONNECTION_TUNE_FRAME_MAX)->number;
-        c->max_payload = feksroum_max_payload(frame_max);
-        printf("frames of %" PRIu32 " bytes at most, payloads of %" PRIu32 "\n", frame_max, c->max_payload);
-    } else if (found.class_id == FEKSROUM_CLASS_BASIC && found.method_id == FEKSROUM_BASIC_DELIVER) {
-        c->delivery_tag = field_at(nodes, count, FEKSROUM_BASIC_DELIVER_DELIVERY_TAG)->number;
-        bool again = field_at(nodes, count, FEKSROUM_BASIC_DELIVER_REDELIVERED)->number != 0;
-        printf("delivery %" PRIu64 "%s", c->delivery_tag, again ? ", not the first time," : "");
-        print_text(" of ", payload, field_at(nodes, count, FEKSROUM_BASIC_DELIVER_ROUTING_KEY));
-        putchar('\n');
-    }
-}
-
 static void read_header(client *c, const uint8_t *payload, feksroum_fields found, const feksroum_node *nodes) {
-    const feksroum_node *headers = field_at(nodes, (size_t)found.nodes, FEKSROUM_PROPERTY_HEADERS);
-    const feksroum_node *attempt = headers ? feksroum_find(headers, payload, "attempt", 7) : NULL;
+    feksroum_basic_properties properties;
+    const feksroum_node *attempt = header(payload, found, nodes, "attempt");
+    feksroum_basic_properties_read(&properties, payload, nodes, (size_t)found.nodes);
     c->body_size = found.body_size;
     c->body_read = 0;
     printf("%" PRIu64 " bytes", c->body_size);
-    print_text(" of ", payload, field_at(nodes, (size_t)found.nodes, FEKSROUM_PROPERTY_CONTENT_TYPE));
+    print_text(" of ", properties.content_type);
     if (attempt && attempt->kind == 'I') {
         printf(", attempt %" PRId64, (int64_t)attempt->number);
     }
@@ -126,69 +124,35 @@ static size_t read_frames(client *c, const uint8_t *bytes, size_t length) {
     }
 }
 
-/* Puts bytes after what is pending. */
-static void send_bytes(client *c, const void *bytes, size_t length) {
-    if (length > sizeof c->out - c->pending) {
-        stop("what is sent", FEKSROUM_BUFFER_TOO_SMALL);
-    }
-    memcpy(c->out + c->pending, bytes, length);
-    c->pending += length;
-}
-
-/* Puts the frames of a body, each with at most so many bytes of it. A program with writev sends the three parts from where they
- * lie. */
-static void send_body(client *c, uint16_t channel, const char *body, size_t length, size_t piece) {
-    static const uint8_t end = FEKSROUM_FRAME_END;
-    for (size_t done = 0; done < length;) {
+/* Acknowledges the delivery, and publishes an answer, whose body goes in frames of at most so many bytes of it. What is refused
+ * first is kept in the buffer, and nothing is put after it. */
+static void answer(client *c, const char *body, size_t piece) {
+    uint8_t bytes[64];
+    feksroum_buffer *out = &c->out, headers = FEKSROUM_BUFFER(bytes);
+    feksroum_add_int32(&headers, feksroum_text("attempt"), 3);
+    feksroum_basic_ack ack = {.delivery_tag = c->delivery_tag};
+    feksroum_basic_publish publish = {.routing_key = FEKSROUM_TEXT("answers")};
+    feksroum_basic_properties properties = {.set = FEKSROUM_HAS_CONTENT_TYPE | FEKSROUM_HAS_HEADERS,
+                                            .content_type = FEKSROUM_TEXT("text/plain"),
+                                            .headers = feksroum_filled(&headers)};
+    size_t length = strlen(body);
+    feksroum_take(out, feksroum_basic_ack_put(1, &ack, c->max_payload, FEKSROUM_REST(out)));
+    feksroum_take(out, feksroum_basic_publish_put(1, &publish, c->max_payload, FEKSROUM_REST(out)));
+    feksroum_take(out, feksroum_basic_properties_put(1, length, &properties, c->max_payload, FEKSROUM_REST(out)));
+    for (size_t done = 0; done < length; done += piece) {
         size_t count = length - done < piece ? length - done : piece;
-        uint8_t head[FEKSROUM_BODY_HEAD];
-        feksroum_body_head(channel, (uint32_t)count, head, sizeof head);
-        send_bytes(c, head, sizeof head);
-        send_bytes(c, body + done, count);
-        send_bytes(c, &end, 1);
-        done += count;
+        feksroum_take(out, feksroum_put_body(1, (const uint8_t *)body + done, count, c->max_payload, FEKSROUM_REST(out)));
     }
-}
-
-/* The bytes of the answer, and where each of them begins. */
-static const char pool[] = "answers" "text/plain" "attempt" "hello again";
-enum { ROUTING_KEY = 0, CONTENT_TYPE = 7, ATTEMPT = 17, BODY = 24, BODY_LENGTH = 11 };
-
-/* Acknowledges the delivery, and publishes an answer, whose body goes in frames of at most so many bytes of it. */
-static void answer(client *c, uint32_t piece) {
-    const feksroum_node nodes[] = {
-        {.kind = FEKSROUM_LONG_LONG, .place = FEKSROUM_BASIC_ACK_DELIVERY_TAG, .number = c->delivery_tag},
-        {.kind = FEKSROUM_FLAG, .place = FEKSROUM_BASIC_ACK_MULTIPLE},
-        {.kind = FEKSROUM_SHORT_STRING, .place = FEKSROUM_BASIC_PUBLISH_EXCHANGE},
-        {.kind = FEKSROUM_SHORT_STRING, .place = FEKSROUM_BASIC_PUBLISH_ROUTING_KEY, .start = ROUTING_KEY, .length = 7},
-        {.kind = FEKSROUM_FLAG, .place = FEKSROUM_BASIC_PUBLISH_MANDATORY},
-        {.kind = FEKSROUM_FLAG, .place = FEKSROUM_BASIC_PUBLISH_IMMEDIATE},
-        {.kind = FEKSROUM_SHORT_STRING, .place = FEKSROUM_PROPERTY_CONTENT_TYPE, .start = CONTENT_TYPE, .length = 10},
-        {.kind = FEKSROUM_TABLE, .place = FEKSROUM_PROPERTY_HEADERS, .inside = 1},
-        {.kind = 'I', .number = 3, .key_start = ATTEMPT, .key_length = 7},
-    };
-    const feksroum_head heads[] = {
-        {.type = FEKSROUM_METHOD, .channel = 1, .class_id = FEKSROUM_CLASS_BASIC, .method_id = FEKSROUM_BASIC_ACK, .nodes = 2},
-        {.type = FEKSROUM_METHOD, .channel = 1, .class_id = FEKSROUM_CLASS_BASIC, .method_id = FEKSROUM_BASIC_PUBLISH, .first = 2,
-         .nodes = 4},
-        {.type = FEKSROUM_HEADER, .channel = 1, .class_id = FEKSROUM_CLASS_BASIC, .body_size = BODY_LENGTH, .first = 6, .nodes = 3},
-    };
-    feksroum_written put =
-        feksroum_write(heads, sizeof heads / sizeof *heads, nodes, sizeof nodes / sizeof *nodes, (const uint8_t *)pool,
-                       sizeof pool - 1, c->max_payload, c->out + c->pending, sizeof c->out - c->pending);
-    if (put.status != FEKSROUM_OK) {
-        fprintf(stderr, "client: frame %" PRIu32 ", node %" PRIu32 "\n", put.head, put.node);
-        stop("an answer", put.status);
+    if (headers.status != FEKSROUM_OK || out->status != FEKSROUM_OK) {
+        stop("an answer", headers.status ? headers.status : out->status);
     }
-    c->pending += (size_t)put.length;
-    send_body(c, 1, pool + BODY, BODY_LENGTH, piece < c->max_payload ? piece : c->max_payload);
 }
 
 /* Prints what is pending, a line for each frame. */
 static void print_pending(const client *c) {
-    for (size_t used = 0; used < c->pending;) {
+    for (size_t used = 0; used < c->out.length;) {
         char line[256];
-        feksroum_line found = feksroum_dump(c->out + used, c->pending - used, (uint8_t *)line, sizeof line, c->max_payload);
+        feksroum_line found = feksroum_dump(c->bytes + used, c->out.length - used, (uint8_t *)line, sizeof line, c->max_payload);
         if (found.status != FEKSROUM_OK) {
             stop("what is sent", found.status);
         }
@@ -198,13 +162,13 @@ static void print_pending(const client *c) {
 }
 
 int main(void) {
-    static const uint8_t greeting[] = {'A', 'M', 'Q', 'P', 0, 0, 9, 1};
     client c = {.max_payload = 131072 - FEKSROUM_AROUND_PAYLOAD};
-    send_bytes(&c, greeting, sizeof greeting);
+    c.out = (feksroum_buffer)FEKSROUM_BUFFER(c.bytes);
+    feksroum_take(&c.out, feksroum_put_protocol_header(0, 9, 1, FEKSROUM_REST(&c.out)));
     if (read_frames(&c, from_broker, sizeof from_broker) != sizeof from_broker) {
         stop("what the broker sent", FEKSROUM_INCOMPLETE);
     }
-    answer(&c, 8);
+    answer(&c, "hello again", 8);
     print_pending(&c);
     return 0;
 }

@@ -1,6 +1,6 @@
 /* The sizes of all structs, and where their members lie in them, as other languages declare them: the same on 32 bits. Nothing is
  * run; compiling it is the test. */
-#include <feksroum.h>
+#include <feksroum_methods.h>
 
 #define HAS(type, member, place) _Static_assert(offsetof(type, member) == (place), #type "." #member)
 #define TAKES(type, size) _Static_assert(sizeof(type) == (size), #type)
@@ -150,3 +150,31 @@ HAS(feksroum_frame_rule, type, 10);
 HAS(feksroum_frame_rule, has_class, 11);
 HAS(feksroum_frame_rule, has_method, 12);
 HAS(feksroum_frame_rule, status, 13);
+
+TAKES(feksroum_made, 16);
+HAS(feksroum_made, length, 0);
+HAS(feksroum_made, status, 8);
+HAS(feksroum_made, unused, 12);
+
+/* A pointer and a length, as the library takes a slice. */
+TAKES(feksroum_bytes, 2 * sizeof(void *));
+HAS(feksroum_bytes, bytes, 0);
+HAS(feksroum_bytes, length, sizeof(void *));
+
+TAKES(feksroum_basic_properties, 16 + 11 * sizeof(feksroum_bytes));
+HAS(feksroum_basic_properties, set, 0);
+HAS(feksroum_basic_properties, delivery_mode, 2);
+HAS(feksroum_basic_properties, priority, 3);
+HAS(feksroum_basic_properties, unused, 4);
+HAS(feksroum_basic_properties, timestamp, 8);
+HAS(feksroum_basic_properties, content_type, 16);
+HAS(feksroum_basic_properties, content_encoding, 16 + sizeof(feksroum_bytes));
+HAS(feksroum_basic_properties, headers, 16 + 2 * sizeof(feksroum_bytes));
+HAS(feksroum_basic_properties, correlation_id, 16 + 3 * sizeof(feksroum_bytes));
+HAS(feksroum_basic_properties, reply_to, 16 + 4 * sizeof(feksroum_bytes));
+HAS(feksroum_basic_properties, expiration, 16 + 5 * sizeof(feksroum_bytes));
+HAS(feksroum_basic_properties, message_id, 16 + 6 * sizeof(feksroum_bytes));
+HAS(feksroum_basic_properties, type, 16 + 7 * sizeof(feksroum_bytes));
+HAS(feksroum_basic_properties, user_id, 16 + 8 * sizeof(feksroum_bytes));
+HAS(feksroum_basic_properties, app_id, 16 + 9 * sizeof(feksroum_bytes));
+HAS(feksroum_basic_properties, cluster_id, 16 + 10 * sizeof(feksroum_bytes));

@@ -4,20 +4,22 @@
  *
  * Random fields are written by feksroum_write. amqp_decode_method, amqp_decode_properties and amqp_decode_table have to find the same
  * numbers and bytes, and amqp_encode_method and amqp_encode_properties have to write the same bytes, both of what was decoded and of a
- * struct that is filled from the nodes. Members of its structs stand in the order of the fields, reserved ones included. */
+ * struct that is filled from the nodes. The same frames are read into the structs of feksroum_methods.h and put by them, and librabbitmq has to
+ * write the payloads that it decodes of these. Members of its structs stand in the order of the fields, reserved ones included. */
 #include <amqp.h>
 #include <amqp_framing.h>
-#include <feksroum.h>
+#include <feksroum_methods.h>
 #include <stdio.h>
 #include <stdlib.h>
 #include <string.h>
 
+#include "again.h"
 #include "random.h"
 #include "table.h"
 
 enum { MAX_PAYLOAD = 1 << 20, STRUCT = 256, FRONT = 7 };
 
-static uint8_t frame[MAX_PAYLOAD], encoded[MAX_PAYLOAD];
+static uint8_t frame[MAX_PAYLOAD], encoded[MAX_PAYLOAD], again[MAX_PAYLOAD];
 
 static void stop(const char *why, const char *what) {
     fprintf(stderr, "rabbitmq: %s: %s\n", what, why);
@@ -286,6 +288,17 @@ static void same_encoding(int length, amqp_bytes_t wanted, const char *what) {
     }
 }
 
+/* The payload after so many bytes, put by a struct out of what was written. */
+static amqp_bytes_t put_by_struct(amqp_bytes_t written, size_t skipped, const char *what) {
+    size_t payload = written.len + skipped;
+    feksroum_frame found = feksroum_next(frame, payload + FEKSROUM_AROUND_PAYLOAD, MAX_PAYLOAD);
+    feksroum_made made = put_again(&found, frame + FRONT, FEKSROUM_DEEP, MAX_PAYLOAD, again, sizeof again);
+    if (made.status != FEKSROUM_OK) {
+        stop("a struct is refused", what);
+    }
+    return (amqp_bytes_t){(size_t)made.length - FEKSROUM_AROUND_PAYLOAD - skipped, again + FRONT + skipped};
+}
+
 /* ---- Methods, properties and tables */
 
 static bool compare_method(random_source *source, const method_fields *method) {
@@ -306,6 +319,11 @@ static bool compare_method(random_source *source, const method_fields *method) {
         same_encoding(amqp_encode_method(number, decoded, buffer), wanted, what);
         fill_fields(&made, method->fields, 0, filled, 0);
         same_encoding(amqp_encode_method(number, filled, buffer), wanted, what);
+        amqp_bytes_t put = put_by_struct(wanted, 4, what);
+        if (amqp_decode_method(number, &pool, put, &decoded) != AMQP_STATUS_OK) {
+            stop("librabbitmq decodes no struct", what);
+        }
+        same_encoding(amqp_encode_method(number, decoded, buffer), put, what);
     }
     recycle_amqp_pool(&pool);
     free(made.heads);
@@ -353,6 +371,11 @@ static void compare_header(random_source *source, uint16_t mask) {
         fill_fields(&made, properties, mask, (uint8_t *)&filled, sizeof filled._flags);
     }
     same_encoding(amqp_encode_properties(AMQP_BASIC_CLASS, &filled, buffer), wanted, what);
+    amqp_bytes_t put = put_by_struct(wanted, 12, what);
+    if (amqp_decode_properties(AMQP_BASIC_CLASS, &pool, put, &decoded) != AMQP_STATUS_OK) {
+        stop("librabbitmq decodes no struct", what);
+    }
+    same_encoding(amqp_encode_properties(AMQP_BASIC_CLASS, decoded, buffer), put, what);
     for (size_t k = 0; k < made.node_count; k += 1 + made.nodes[k].inside) {
         if (made.nodes[k].kind == FEKSROUM_TABLE) {
             compare_table(&made, made.nodes + k);

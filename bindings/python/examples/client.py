@@ -27,6 +27,8 @@ class Client:
 
     def __init__(self, host, port, user, password, vhost):
         self._socket = socket.create_connection((host, port), timeout=10)
+        # What is sent in pieces does not wait until the peer has acknowledged the first of them.
+        self._socket.setsockopt(socket.IPPROTO_TCP, socket.TCP_NODELAY, 1)
         self._reader = feksroum.FrameReader()
         self._frames = collections.deque()
         self._frame_max = feksroum.FRAME_MAX
@@ -86,8 +88,8 @@ class Client:
     def publish(self, queue, body, properties):
         """Publishes a message to a queue, and waits until the broker confirms it."""
         self.call(CHANNEL, Confirm.Select(), Confirm.SelectOk)
-        self.send(CHANNEL, Basic.Publish(routing_key=queue, mandatory=True))
-        self.send(CHANNEL, properties, body)
+        message = feksroum.Message(CHANNEL, Basic.Publish(routing_key=queue, mandatory=True), properties, body)
+        self._socket.sendall(message.encode(self._frame_max))
         self.expect(Basic.Ack)
 
     def consume(self, queue):

@@ -1,12 +1,14 @@
 #!/usr/bin/env python3
 """Stands between clients and a broker, and passes on the canonical bytes of what each side sends.
 
-    proxy.py [--broker HOST:PORT] [--listen PORT] [--keep RULE..] [--recut N]
+    proxy.py [--broker HOST[:PORT]] [--listen PORT] [--keep RULE..] [--drop-key KEY] [--drop-queue NAME] [--recut N]
 
-With --keep, whole messages are kept or dropped by rules; with --recut, bodies are cut into frames of N bytes.
+With --keep, whole messages are kept or dropped by rules. --drop-key drops those whose routing key a binding key takes, as 'orders.*', both
+ways; --drop-queue those that are published to a queue by its name. With --recut, bodies are cut into frames of N bytes.
 
-A peer that reads slowly is waited for. A side whose bytes are at fault is told so by connection.close, as is the other, and
-both are closed; what came before the fault is passed on.
+A client that waits for the confirm of a publish that is dropped waits for ever: the broker has never seen it, and counts without it. A
+peer that reads slowly is waited for. A side whose bytes are at fault is told so by connection.close, as is the other, and both are
+closed; what came before the fault is passed on.
 """
 
 import argparse
@@ -14,9 +16,27 @@ import asyncio
 import contextlib
 
 import feksroum
-from feksroum import Connection
+from feksroum import Basic, Connection
 
-CHUNK = 65536
+
+class Drop:
+    """A stage that drops whole messages by the methods that open them. What it is fed are whole canonical frames in turn."""
+
+    error = None
+
+    def __init__(self, drops):
+        self._drops, self._reader, self._dropped = drops, feksroum.FrameReader(), {}
+        self.close = self._reader.close
+
+    def feed(self, data):
+        return b"".join(frame.bytes for frame in self._reader.feed(data) if not self._is_dropped(frame))
+
+    def _is_dropped(self, frame):
+        if frame.method is not None and frame.method.carries_content:
+            self._dropped[frame.channel] = self._drops(frame.method)
+        elif frame.type not in (feksroum.FrameType.HEADER, feksroum.FrameType.BODY):
+            return False
+        return self._dropped.get(frame.channel, False)
 
 
 class Way:
@@ -30,7 +50,7 @@ class Way:
 
     async def run(self):
         """Passes on what comes until it ends, and returns the fault that ended it, or None."""
-        while data := await self._reader.read(CHUNK):
+        while data := await self._reader.read(65536):
             for stage in self._stages:
                 data = stage.feed(data)
             self.has_begun = self.has_begun or bool(data)
@@ -92,29 +112,33 @@ class Proxy:
 
 def makers_of(words):
     """What makes the stages that each direction goes through. Raises ValueError for words that are no rules, and no size."""
-    makers = []
-    if words.keep:
-        rules = feksroum.Rules(*words.keep)
-        makers.append(lambda: feksroum.Filter(rules))
+    rules = feksroum.Rules(*words.keep or ["keep"])
+    makers = [(lambda: feksroum.Filter(rules)) if words.keep else feksroum.Canonicalizer]
+    if words.drop_key is not None:
+        makers.append(lambda: Drop(lambda method: feksroum.key_matches(words.drop_key, method.routing_key)))
+    if words.drop_queue is not None:
+        place = ["", words.drop_queue]
+        makers.append(lambda: Drop(lambda method: isinstance(method, Basic.Publish) and [method.exchange, method.routing_key] == place))
     if words.recut is not None:
         feksroum.Recutter(words.recut)
         makers.append(lambda: feksroum.Recutter(words.recut))
-    return makers or [feksroum.Canonicalizer]
+    return makers
 
 
 async def main():
     parser = argparse.ArgumentParser(description=__doc__.splitlines()[0])
-    parser.add_argument("--broker", default="localhost:5672", metavar="HOST:PORT")
+    parser.add_argument("--broker", type=lambda text: f"{text}:5672".split(":")[:2], default="localhost", metavar="HOST[:PORT]")
     parser.add_argument("--listen", type=int, default=5673, metavar="PORT")
     parser.add_argument("--keep", nargs="+", default=[], metavar="RULE", help="as `drop,class=60,method=40 keep`")
+    parser.add_argument("--drop-key", metavar="KEY", help="a client that waits for the confirm of what is dropped waits for ever")
+    parser.add_argument("--drop-queue", metavar="NAME")
     parser.add_argument("--recut", type=int, metavar="N")
     words = parser.parse_args()
     try:
         makers = makers_of(words)
     except ValueError as error:
         parser.error(str(error))
-    host, port = words.broker.rsplit(":", 1)
-    server = await asyncio.start_server(Proxy(host, int(port), makers).serve, "localhost", words.listen)
+    server = await asyncio.start_server(Proxy(*words.broker, makers).serve, "localhost", words.listen)
     print("listening on port", server.sockets[0].getsockname()[1], flush=True)
     await server.serve_forever()
 

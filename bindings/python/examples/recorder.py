@@ -1,7 +1,7 @@
 #!/usr/bin/env python3
 """Stands between clients and a broker, passes all bytes on as they come, and records them with their times.
 
-    recorder.py --broker HOST:PORT [--listen PORT] FILE
+    recorder.py [--broker HOST[:PORT]] [--listen PORT] FILE
     python -m feksroum show --follow FILE
 
 A peer that reads slowly is waited for: what is read from the other one is written before more is read.
@@ -64,15 +64,20 @@ class Recorder:
         broker_writer.close()
 
 
+def place_of(text):
+    """A host and a port; 5672 where there is none."""
+    host, _, port = text.partition(":")
+    return host, int(port or 5672)
+
+
 async def main():
     parser = argparse.ArgumentParser(description=__doc__.splitlines()[0])
-    parser.add_argument("--broker", default="localhost:5672", metavar="HOST:PORT")
+    parser.add_argument("--broker", type=place_of, default="localhost", metavar="HOST[:PORT]")
     parser.add_argument("--listen", type=int, default=5673, metavar="PORT")
     parser.add_argument("file", metavar="FILE")
     words = parser.parse_args()
-    host, port = words.broker.rsplit(":", 1)
     with open(words.file, "wb") as file:
-        recorder = Recorder(file, host, int(port))
+        recorder = Recorder(file, *words.broker)
         server = await asyncio.start_server(recorder.serve, "localhost", words.listen)
         print("listening on port", server.sockets[0].getsockname()[1], flush=True)
         await server.serve_forever()

@@ -20,6 +20,19 @@ What is called is proved; `feksroum.h` says what each function promises. All of 
 `feksroum.values` says which kind is written for each value of a table.
 """
 
+import os
+import sys
+
+try:
+    from . import _library
+except ImportError as error:
+    # A command says it in one line. While Python looks for what `-m` names, `sys.argv[0]` is that.
+    is_module = sys.argv[:1] == ["-m"] and "feksroum" in getattr(sys, "orig_argv", ())
+    if is_module or os.path.basename(sys.argv[0] if sys.argv else "") == "feksroum-show":
+        sys.exit(str(error))
+    raise
+
+from . import _compiled
 from ._assembler import MAX_BODY, Assembler, Message, MessageReader, messages
 from ._buffers import MAX_PAYLOAD
 from ._canonical import Canonicalizer, Level, canonicalize
@@ -51,11 +64,14 @@ from ._errors import (
 from ._filter import Filter
 from ._filter import filter as filter
 from ._frames import Frame, FrameReader, FrameType, check, frames
+from ._keys import key_matches
 from ._recut import Recutter, recut
 from ._rules import BadRule, Rules
 from ._tables import read_table, write_table
 from ._text import dump, undump
 from .methods import Access, Basic, Channel, Confirm, Connection, Exchange, Method, Properties, Queue, Tx
+
+_compiled.bind()
 
 # `filter` is left out, so that `from feksroum import *` does not hide the one of Python.
 __all__ = [
@@ -64,7 +80,7 @@ __all__ = [
     "Exchange", "FRAME_MAX", "Filter", "Frame", "FrameReader", "FrameType", "Heartbeat", "Level", "MAX_BODY", "MAX_PAYLOAD",
     "Message", "MessageReader", "Method", "NotTidy", "NotUtf8", "OpenContent", "Properties", "ProtocolHeader", "Queue", "Recutter", "Rules",
     "ShortPayload", "TooDeep", "TooLarge", "TooLong", "TrailingBytes", "Tx", "UnknownClass", "UnknownFrameType",
-    "UnknownMethod", "UnknownStatus", "UnknownTag", "canonicalize", "check", "dump", "encode", "frames", "messages",
+    "UnknownMethod", "UnknownStatus", "UnknownTag", "canonicalize", "check", "dump", "encode", "frames", "key_matches", "messages",
     "read_table", "recut", "undump", "write_table",
 ]
 __version__ = "0.1.0"

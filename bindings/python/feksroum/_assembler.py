@@ -3,11 +3,12 @@
 import threading
 from typing import Any, Dict, Iterable, Iterator, List, Optional, Tuple, Union
 
-from ._buffers import MAX_PAYLOAD
+from ._arguments import LONG_LONG_MOST, SHORT_MOST, instance, whole
+from ._buffers import MAX_PAYLOAD, bytes_of, limit_of, view_of
 from ._encode import FRAME_MAX, encode
 from ._errors import AssemblerFull, BadContent, ContentError, OpenContent
 from ._frames import Frame, FrameReader, span_of
-from ._inputs import Input, frames_of
+from ._inputs import Input, check_input, frames_of
 from ._turns import BODY, HEADER, NO_PART, OPENING, Turns
 from .methods import Basic, Method, Properties
 
@@ -15,6 +16,7 @@ from .methods import Basic, Method, Properties
 MAX_BODY = 134_217_728
 
 Opening = Union[Basic.Publish, Basic.Return, Basic.Deliver, Basic.GetOk]
+_OPENINGS = Basic.Publish, Basic.Return, Basic.Deliver, Basic.GetOk
 
 
 class Message:
@@ -24,10 +26,12 @@ class Message:
     __match_args__ = ("channel", "opening", "properties", "body")
 
     def __init__(self, channel: int, opening: Opening, properties: Properties, body: bytes = b"") -> None:
-        self.channel = channel
+        self.channel = whole("channel", channel, SHORT_MOST)
         #: The method that opened it: Basic.Publish, Return, Deliver or GetOk.
-        self.opening = opening
-        self.properties = properties
+        self.opening = instance("opening", opening, _OPENINGS)
+        self.properties = instance("properties", properties, Properties)
+        if type(body) is not bytes:
+            view_of(body)
         self.body = body
 
     def encode(self, frame_max: int = FRAME_MAX) -> bytes:
@@ -72,9 +76,7 @@ class Assembler:
 
     def __init__(self, max_body: int = MAX_BODY, max_open: Optional[int] = None) -> None:
         self._turns = Turns(max_body)
-        if max_open is not None and max_open < 0:
-            raise ValueError("max_open is a number of bytes")
-        self._max_open = max_open
+        self._max_open = None if max_open is None else whole("max_open", max_open, LONG_LONG_MOST)
         self._messages: Dict[int, _Open] = {}
         self._lock = threading.Lock()
         self._used = 0
@@ -94,6 +96,7 @@ class Assembler:
         each later frame of it is refused with `ContentFault.FAULTED`, until `forget`; other channels go on. Raises AssemblerFull
         where more bytes would be held than are allowed: nothing changes then.
         """
+        instance("a frame", frame, Frame)
         with self._lock:
             return self._push(frame, frame._head)
 
@@ -139,6 +142,7 @@ class Assembler:
 
     def forget(self, channel: int) -> None:
         """Begins anew with a channel, as one that was closed and opened again does. What was held of it is dropped."""
+        whole("channel", channel, SHORT_MOST)
         with self._lock:
             self._turns.forget(channel)
             self._drop(channel)
@@ -170,7 +174,7 @@ class MessageReader:
         self._lock = threading.Lock()
         self._fault: Optional[ContentError] = None
         #: What puts the messages together.
-        self.assembler = Assembler() if assembler is None else assembler
+        self.assembler = Assembler() if assembler is None else instance("assembler", assembler, Assembler)
 
     @property
     def error(self) -> Optional[Exception]:
@@ -180,10 +184,11 @@ class MessageReader:
     def feed(self, data: Any) -> List[Message]:
         """The messages that this piece completes. Raises nothing for a fault, which is kept in `error`; what comes after it is not
         read."""
+        piece = bytes_of(data)
         with self._lock:
             found: List[Message] = []
             try:
-                for frame in self._reader.feed(data) if self._fault is None else []:
+                for frame in self._reader.feed(piece) if self._fault is None else []:
                     pushed = self.assembler.push(frame)
                     if isinstance(pushed, Message):
                         found.append(pushed)
@@ -208,4 +213,5 @@ def messages(
 ) -> Iterator[Message]:
     """The messages of an input, as they are complete: of bytes, an open binary file, or an iterable of bytes that are cut anywhere.
     Raises what is wrong with the frames as `frames` does, and with their turns as `Assembler` does."""
-    return Assembler(max_body, max_open).messages(frames_of(source, max_payload))
+    check_input(source)
+    return Assembler(max_body, max_open).messages(frames_of(source, limit_of(max_payload)))

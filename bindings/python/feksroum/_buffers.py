@@ -3,6 +3,8 @@
 import ctypes
 from typing import Any, Tuple, Union
 
+from ._arguments import LONG_MOST, whole
+
 Buffer = Union[bytes, bytearray, memoryview]
 
 #: The longest payload that the program accepts, in bytes.
@@ -12,8 +14,12 @@ SHORTEST = 8
 
 
 def view_of(data: Any) -> memoryview:
-    """The bytes of an object, one by one."""
-    return memoryview(data).cast("B")
+    """The bytes of an object, one by one. Raises TypeError for what has no buffer, or one that does not lie in one piece."""
+    try:
+        view = memoryview(data)
+    except TypeError:
+        raise TypeError(f"bytes are wanted, and not {type(data).__name__}") from None
+    return view.cast("B")
 
 
 def bytes_of(data: Any) -> bytes:
@@ -23,9 +29,7 @@ def bytes_of(data: Any) -> bytes:
 
 def limit_of(max_payload: int) -> int:
     """The limit, tested."""
-    if not 0 <= max_payload < 2**32:
-        raise ValueError("max_payload has to fit in 32 bits")
-    return max_payload
+    return whole("max_payload", max_payload, LONG_MOST)
 
 
 def address_of(data: bytes) -> Tuple[Any, int]:
@@ -41,20 +45,22 @@ class Room:
         self._make(size)
 
     def _make(self, size: int) -> None:
-        self._bytes = bytearray(max(size, 1))
+        #: What was written, from the front on.
+        self.octets = bytearray(max(size, 1))
         # It holds the buffer, so that it stays where it is.
-        self._front = ctypes.c_char.from_buffer(self._bytes)
+        self._front = ctypes.c_char.from_buffer(self.octets)
         #: Where it lies, until it grows.
         self.address = ctypes.addressof(self._front)
+        self.pointer = ctypes.c_void_p(self.address)
 
     def grow(self, size: int) -> None:
         """Makes it so long, at least; what was in it goes."""
-        if size > len(self._bytes):
-            self._make(max(size, 2 * len(self._bytes)))
+        if size > len(self.octets):
+            self._make(max(size, 2 * len(self.octets)))
 
     def __len__(self) -> int:
-        return len(self._bytes)
+        return len(self.octets)
 
     def copy(self, length: int) -> bytes:
         """Its first bytes, copied."""
-        return bytes(memoryview(self._bytes)[:length])
+        return bytes(memoryview(self.octets)[:length])

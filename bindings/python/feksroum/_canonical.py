@@ -5,6 +5,7 @@ import enum
 import threading
 from typing import Any, Optional, Tuple
 
+from ._arguments import whole
 from ._buffers import MAX_PAYLOAD, SHORTEST, Room, bytes_of, limit_of
 from ._errors import CutShort, error_of
 from ._library import Mark, library_for
@@ -22,7 +23,7 @@ class Canonicalizer:
 
     def __init__(self, max_payload: int = MAX_PAYLOAD, level: int = Level.PLAIN) -> None:
         self._limit = limit_of(max_payload)
-        self._level = Level(level)
+        self._level = Level(whole("level", level, Level.TIDY))
         self._lock = threading.Lock()
         self._held = bytearray()
         #: How many bytes the next frame has, where its length is known; else 0.
@@ -40,13 +41,14 @@ class Canonicalizer:
     def feed(self, data: Any) -> bytes:
         """The canonical bytes of the frames that this piece completes. Raises nothing for a fault, which is kept in `error`;
         nothing is written for what comes after it."""
+        piece = bytes_of(data)
         with self._lock:
             if self._fault:
                 return b""
-            if not self._held and type(data) is bytes:
-                whole = data
+            if not self._held:
+                whole = piece
             else:
-                self._held += data
+                self._held += piece
                 if len(self._held) < self._needed:
                     return b""
                 whole = bytes(self._held)

@@ -16,28 +16,30 @@ class Error(Exception):
         self.used = used
         #: What was written for these: canonical bytes; from `dump` lines of text.
         self.written: Union[bytes, str] = b""
+        #: Where it is in what was to be written: the name of a field, and the keys in a table; "" of bytes that are read.
+        self.place = ""
 
     def __str__(self) -> str:
-        return f"{type(self).__name__} at byte {self.used}: {self._what()}"
+        return f"{type(self).__name__} {f'in {self.place}' if self.place else f'at byte {self.used}'}: {self._what()}"
 
     def _what(self) -> str:
         return (type(self).__doc__ or f"status {self.status}").splitlines()[0]
 
 
 class UnknownFrameType(Error):
-    """The first byte of a frame names no frame type."""
+    """The first byte of a frame is none of 1, 2, 3, 8 and 65."""
 
     status = 10
 
 
 class BadProtocolHeader(Error):
-    """A first byte 65 that does not begin a protocol header."""
+    """A frame begins as a protocol header and is none."""
 
     status = 11
 
 
 class TooLarge(Error):
-    """A payload above the limit."""
+    """A payload is longer than the limit."""
 
     status = 12
 
@@ -61,37 +63,37 @@ class UnknownMethod(Error):
 
 
 class ShortPayload(Error):
-    """Something passes the end of the payload, or of a table or array in it."""
+    """Something passes the end of the payload, or of a table or an array in it."""
 
     status = 16
 
 
 class TrailingBytes(Error):
-    """Bytes are left after the last field of the payload."""
+    """Bytes are left after the last field of a payload."""
 
     status = 17
 
 
 class NotUtf8(Error):
-    """A short string that is not UTF-8."""
+    """A short string is not UTF-8."""
 
     status = 18
 
 
 class UnknownTag(Error):
-    """A field tag that names no type."""
+    """A field tag of no kind of value."""
 
     status = 19
 
 
 class TooDeep(Error):
-    """Tables or arrays nested more than 64 deep."""
+    """Tables or arrays nest more than 64 deep."""
 
     status = 20
 
 
 class CutShort(Error):
-    """The bytes end inside a frame, or the text inside a line."""
+    """The input ends inside a frame, or inside a line."""
 
     status = 21
 
@@ -102,19 +104,19 @@ class CutShort(Error):
 
 
 class NotTidy(Error):
-    """A frame that can be read and is not tidy, where only tidy frames are taken."""
+    """A frame whose ignored parts are not canonical."""
 
     status = 23
 
 
 class BadText(Error):
-    """A line that is not the line of any frame with a payload within the limit."""
+    """A line is not the exact text form of any frame with a payload within the limit."""
 
     status = 26
 
 
 class TooLong(Error):
-    """A short string or key of more than 255 bytes, which cannot be written."""
+    """A short string has more than 255 bytes, or what fills a table or an array more than 2^32 - 1."""
 
     status = 42
 
@@ -166,7 +168,7 @@ class BadContent(ContentError):
 
 
 class OpenContent(ContentError):
-    """The end came between two frames, inside a message."""
+    """The input ends inside a message."""
 
     status = 25
 

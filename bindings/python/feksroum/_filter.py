@@ -2,6 +2,7 @@
 
 from typing import Any, Set, Tuple
 
+from ._arguments import instance
 from ._buffers import MAX_PAYLOAD
 from ._inputs import Input
 from ._rules import Rules
@@ -20,7 +21,7 @@ class Filter(MessageStream):
 
     def __init__(self, rules: Rules, max_payload: int = MAX_PAYLOAD) -> None:
         super().__init__(max_payload)
-        self._rules = rules
+        self._rules = instance("rules", rules, Rules)
         #: The channels whose message is dropped.
         self._dropped: Set[int] = set()
 

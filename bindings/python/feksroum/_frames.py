@@ -1,12 +1,16 @@
 """Frames out of bytes, with what stands in them."""
 
+import ctypes
 import enum
+import struct
 import threading
-from typing import Any, Iterator, List, Optional, Tuple
+from typing import Any, Iterator, List, Optional, Tuple, cast
 
+from . import _compiled
+from ._arguments import OCTET_MOST, whole
 from ._buffers import MAX_PAYLOAD, SHORTEST, Room, address_of, bytes_of, limit_of, view_of
 from ._errors import BUFFER_TOO_SMALL, CutShort, error_of
-from ._library import HEAD, NODE, library_for
+from ._library import HEAD, LARGE, NODE, SMALL, SMALL_INPUT, Batch, library_for
 from ._reading import method_of, properties_of
 from .methods import METHODS, Method, Properties
 
@@ -118,8 +122,19 @@ FIRST_WINDOW, LAST_WINDOW = 4096, 262144
 HEADS, NODES = 2048, 16384
 #: Room for so many of each at first.
 FEW = 64
+#: The same as an argument, and lengths of bytes as arguments: to make them takes longer than the call.
+_C_FEW = ctypes.c_size_t(FEW)
+_SIZES = tuple(map(ctypes.c_size_t, range(1024)))
+#: The call without what tests its arguments.
+_direct = SMALL["feksroum_frames"]
+_direct.restype = Batch
+_unpack_batch = struct.Struct("=QQ3I4x").unpack
 SHALLOW, DEEP = 0, 1
 _METHOD, _HEADER = int(FrameType.METHOD), int(FrameType.HEADER)
+
+
+#: How far some frames go: how many bytes they have, how many the next one has at least, and the status of what follows them.
+End = Tuple[int, int, int]
 
 
 class BatchReader:
@@ -128,21 +143,27 @@ class BatchReader:
     def __init__(self, max_payload: int, detail: int = DEEP) -> None:
         self.limit = limit_of(max_payload)
         self._detail = detail
+        self._c_limit, self._c_detail = ctypes.c_uint32(self.limit), ctypes.c_uint8(detail)
         self._heads = Room(FEW * HEAD.size)
         self._nodes = Room(FEW * NODE.size)
+        #: In so many bytes there are no more frames and nodes than the lists have room for.
+        self._enough = FEW
 
     def _call(self, data: bytes, at: int, size: int) -> Any:
         """The heads and nodes of as many frames in front of a window as there is room for."""
-        kept, address = address_of(data)
+        kept, place = address_of(data) if at else (None, 0)
         heads, nodes = self._heads, self._nodes
-        return library_for(size).feksroum_frames(
-            address + at, size, self.limit, self._detail, heads.address, len(heads) // HEAD.size, nodes.address, len(nodes) // NODE.size
-        )
+        library = SMALL if size <= SMALL_INPUT else LARGE
+        return library.feksroum_frames(
+            place + at if at else data, size, self.limit, self._detail,
+            heads.address, len(heads.octets) // HEAD.size, nodes.address, len(nodes.octets) // NODE.size)
 
     def _fill(self, data: bytes, at: int, size: int) -> Any:
         """Fills the lists from a window of so many bytes, with one frame at least where one is in front, and says how far they go."""
-        self._heads.grow(min(size // SHORTEST + 1, HEADS) * HEAD.size)
-        self._nodes.grow(min(size, NODES) * NODE.size)
+        if size > self._enough:
+            self._heads.grow(min(size // SHORTEST + 1, HEADS) * HEAD.size)
+            self._nodes.grow(min(size, NODES) * NODE.size)
+            self._enough = min(size, NODES)
         end = self._call(data, at, size)
         if end.status == BUFFER_TOO_SMALL and end.heads == 0:
             self._nodes.grow(end.needed * NODE.size)
@@ -154,23 +175,38 @@ class BatchReader:
         end = self._fill(data, at, min(size, len(data) - at))
         return self._heads.copy(end.heads * HEAD.size), end
 
-    def batch(self, data: bytes, at: int, size: int) -> Tuple[Iterator[Frame], Any]:
-        """Some whole frames in front of a window, made as they are asked for, and how far they go."""
-        end = self._fill(data, at, min(size, len(data) - at))
-        heads, nodes = self._heads.copy(end.heads * HEAD.size), self._nodes.copy(end.nodes * NODE.size)
-        return _listed(data, at, data[at : at + end.used] if end.nodes else b"", heads, nodes), end
+    def some(self, data: bytes, at: int, size: int, found: List[Frame]) -> End:
+        """Adds some whole frames in front of a window to a list, and says how far they go: by the compiled part, where it is there."""
+        native = _compiled.native
+        if native is not None:
+            return cast(End, native.read(data, at, size, self.limit, found))
+        return self.read(data, at, size, found)
+
+    def read(self, data: bytes, at: int, size: int, found: List[Frame]) -> End:
+        """The same in Python."""
+        size = min(size, len(data) - at)
+        status, count = BUFFER_TOO_SMALL, 0
+        if size < len(_SIZES) and not at:
+            # The usual frames of a client, by a call whose arguments are made already.
+            used, needed, count, listed, status = _unpack_batch(_direct(
+                data, _SIZES[size], self._c_limit, self._c_detail, self._heads.pointer, _C_FEW, self._nodes.pointer, _C_FEW))
+        if status == BUFFER_TOO_SMALL and count == 0:
+            used, needed, count, listed, status = _unpack_batch(self._fill(data, at, size))
+        heads, nodes = self._heads.octets, self._nodes.octets
+        window = data[at : at + used] if at and listed else data
+        for start in range(0, count * HEAD.size, HEAD.size):
+            found.append(_frame_of(HEAD.unpack_from(heads, start), data, at, window, nodes))
+        return used, needed, status
 
 
-def _listed(data: bytes, at: int, window: bytes, heads: bytes, nodes: bytes) -> Iterator[Frame]:
-    """The frames of lists of heads and nodes, whose spans count from a place in the data. Their strings are cut out of a copy of
-    that part. One frame after another, since what is let go of at once is quicker to make again."""
-    for head in HEAD.iter_unpack(heads):
-        frame = Frame(head, data, at)
-        if head[8] == _METHOD:
-            frame.method = method_of(METHODS[head[6], head[7]], window, nodes, head[3])
-        elif head[8] == _HEADER:
-            frame.properties = properties_of(window, nodes, head[3], head[3] + head[4])
-        yield frame
+def _frame_of(head: Tuple[int, ...], data: bytes, at: int, window: bytes, nodes: Any) -> Frame:
+    """A frame of a head and of nodes, whose spans count from a place in the data: from there on the window has the same bytes."""
+    frame = Frame(head, data, at)
+    if head[8] == _METHOD:
+        frame.method = method_of(METHODS[head[6], head[7]], window, nodes, head[3])
+    elif head[8] == _HEADER:
+        frame.properties = properties_of(window, nodes, head[3], head[3] + head[4])
+    return frame
 
 
 def frames(data: Any, max_payload: int = MAX_PAYLOAD) -> Iterator[Frame]:
@@ -180,6 +216,7 @@ def frames(data: Any, max_payload: int = MAX_PAYLOAD) -> Iterator[Frame]:
     A frame keeps the `bytes` that it was read from; of anything else it keeps a copy of some, and nothing of what was passed is
     held: a bytearray may be changed once the last frame came, or the exception.
     """
+    view_of(data).release()
     return _frames(data, BatchReader(max_payload))
 
 
@@ -192,27 +229,30 @@ def _part(data: Any, at: int, size: int) -> Tuple[bytes, int, bool]:
 
 
 def _frames(data: Any, reader: BatchReader) -> Iterator[Frame]:
-    at, usual, size = 0, FIRST_WINDOW, FIRST_WINDOW
+    at, size = 0, FIRST_WINDOW
     while True:
         part, start, is_last = _part(data, at, size)
-        found, end = reader.batch(part, start, size)
-        yield from found
-        at += end.used
-        if end.status == CutShort.status and not is_last:
-            size = max(2 * size, end.needed) if end.used == 0 else max(usual, end.needed)
-        elif end.status in (0, BUFFER_TOO_SMALL):
-            if end.status == 0 and is_last:
+        stop, before, status = start + size, at, BUFFER_TOO_SMALL
+        while status == BUFFER_TOO_SMALL:
+            found: List[Frame] = []
+            used, needed, status = reader.some(part, start, stop - start, found)
+            yield from found
+            start, at = start + used, at + used
+        if status == CutShort.status and not is_last:
+            size = max(2 * size, needed) if at == before else max(min(2 * size, LAST_WINDOW), needed)
+        elif status == 0:
+            if is_last:
                 return
-            usual = size = min(2 * usual, LAST_WINDOW)
+            size = min(2 * size, LAST_WINDOW)
         else:
-            raise fault_of(end, at)
+            raise fault_of(status, at, needed)
 
 
-def fault_of(end: Any, at: int) -> Exception:
-    """The exception for what ended some frames."""
-    if end.status == CutShort.status:
-        return CutShort(at, end.needed)
-    return error_of(end.status, at) or AssertionError("no fault")
+def fault_of(status: int, at: int, needed: int) -> Exception:
+    """The exception for what ended some frames, after so many bytes."""
+    if status == CutShort.status:
+        return CutShort(at, needed)
+    return error_of(status, at) or AssertionError("no fault")
 
 
 class FrameReader:
@@ -231,26 +271,47 @@ class FrameReader:
     def feed(self, data: Any) -> List[Frame]:
         """The frames that this piece completes. Raises nothing for a fault, which is kept in `error`; what comes after it is not
         read."""
+        piece = data if type(data) is bytes else bytes_of(data)
         found: List[Frame] = []
         with self._lock:
-            self._held += data
-            while self.error is None and len(self._held) >= max(1, self._needed):
-                if not self._read(found):
-                    break
+            if self.error is not None:
+                return found
+            if self._held:
+                self._held += piece
+                if len(self._held) < self._needed:
+                    return found
+                piece = bytes(self._held)
+            used = self._read(piece, found)
+            if used < len(piece):
+                self._held = bytearray(memoryview(piece)[used:])
+            elif self._held:
+                self._held.clear()
         return found
 
-    def _read(self, found: List[Frame]) -> bool:
-        """Adds a batch of what is held, and returns whether more of it may be whole."""
-        part, start, _ = _part(self._held, 0, max(LAST_WINDOW, self._needed))
-        some, end = self._reader.batch(part, start, len(part))
-        found += some
-        del self._held[: end.used]
-        self._used += end.used
-        is_cut = end.status == CutShort.status
-        self._needed = end.needed if is_cut and end.needed > SHORTEST else 0
-        if end.status not in (0, CutShort.status, BUFFER_TOO_SMALL):
-            self.error = fault_of(end, self._used)
-        return not is_cut or len(self._held) >= SHORTEST
+    def _read(self, data: bytes, found: List[Frame]) -> int:
+        """Adds the whole frames in front to a list, up to a fault, and returns how many bytes they have."""
+        native, reader, at, size = _compiled.native, self._reader, 0, LAST_WINDOW
+        self._needed = 0
+        while at < len(data):
+            # A part is copied, so that no frame keeps more than a window.
+            part, start = (data, at) if len(data) <= size else (data[at : at + size], 0)
+            is_last, status = part is data or at + size >= len(data), BUFFER_TOO_SMALL
+            while status == BUFFER_TOO_SMALL:
+                if native is not None:
+                    used, needed, status = native.read(part, start, size, reader.limit, found)
+                else:
+                    used, needed, status = reader.read(part, start, size, found)
+                start, at = start + used, at + used
+                self._used += used
+            if status == CutShort.status:
+                if is_last:
+                    self._needed = needed if needed > SHORTEST else 0
+                    break
+                size = max(LAST_WINDOW, needed)
+            elif status:
+                self.error = fault_of(status, self._used, needed)
+                break
+        return at
 
     def close(self) -> None:
         """Raises the fault that was met, and CutShort where the stream ended inside a frame."""
@@ -262,10 +323,8 @@ class FrameReader:
 
 def check(type: int, payload: Any) -> Tuple[int, int, int, bool, bool]:
     """What stands in a whole payload of this type, as (class_id, method_id, body_size, canonical, tidy). Raises its fault."""
-    if not 0 <= type < 256:
-        raise ValueError("type has to fit in 8 bits")
     data = bytes_of(payload)
-    found = library_for(len(data)).feksroum_check(type, data, len(data))
+    found = library_for(len(data)).feksroum_check(whole("type", type, OCTET_MOST), data, len(data))
     error = error_of(found.status)
     if error is not None:
         raise error

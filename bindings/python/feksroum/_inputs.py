@@ -29,8 +29,15 @@ def _is_buffer(source: Any) -> bool:
         return False
 
 
+def check_input(source: Any) -> None:
+    """Raises TypeError for what is no input."""
+    if isinstance(source, str) or not (_is_buffer(source) or isinstance(source, (Readable, Iterable))):
+        raise TypeError(f"bytes are wanted, an open binary file, or an iterable of bytes, and not {type(source).__name__}")
+
+
 def pieces_of(source: Input) -> Iterator[bytes]:
     """The bytes of an input, one piece after another. What is buffered in a file is taken as soon as it is there."""
+    check_input(source)
     if _is_buffer(source):
         yield bytes_of(source)
     elif isinstance(source, Readable):
@@ -42,8 +49,6 @@ def pieces_of(source: Input) -> Iterator[bytes]:
             if not piece:
                 return
             yield bytes_of(piece)
-    elif isinstance(source, str):
-        raise TypeError("bytes are wanted, and not a str")
     else:
         yield from map(bytes_of, source)
 

@@ -169,7 +169,11 @@ def _declare(library: Any, path: str) -> Any:
 
 def load(path: str) -> Tuple[Any, Any]:
     """The library at a path, for calls that keep the interpreter's lock, and for calls that let go of it."""
-    small, large = ctypes.PyDLL(path), ctypes.CDLL(path)
+    try:
+        small, large = ctypes.PyDLL(path), ctypes.CDLL(path)
+    except OSError as error:
+        raise ImportError(
+            f"feksroum: no library ({error}): make -C bindings builds it, and FEKSROUM_LIBRARY may say where it is") from None
     _declare(small, path)
     _declare(large, path)
     check_version(small.feksroum_version(), path)

@@ -1,26 +1,22 @@
 """From nodes, as the library lists them, to values of Python.
 
-This is the hot path of reading: one pass over the nodes, in plain loops, with the frequent kinds first. Where `_nodes.c` is
-built, its loops are used for tables instead of those here, which do the same.
+This is the hot path of reading where the compiled part is not there: one pass over the nodes, in plain loops, with the frequent kinds
+first.
 """
 
 import datetime
+import functools
 import struct
 from decimal import Decimal
 from itertools import islice
-from typing import Any, Iterator, List, Tuple, Type, cast
+from typing import Any, Callable, Iterator, List, NamedTuple, Optional, Tuple, Type, cast
 
 from ._kinds import (
     ARRAY, BYTE_ARRAY, DECIMAL, FLAG, FLOAT32, FLOAT64, INNER_TABLE, INT32, INT64, LONG_LONG, LONG_STRING, NOTHING, SHORT_STRING,
-    STRING, TIME, TRUTH,
+    STRING, TABLE, TIME, TRUTH,
 )
-from .methods import Method, Properties
+from .methods import METHODS, Method, Properties
 from .values import LAST_SECOND, NUMBERS, UTC, Float32, Float64, Int64, LongString, Table, Value, time_of
-
-try:
-    from ._nodes import table as compiled_table
-except ImportError:
-    compiled_table = None  # type: ignore[assignment]
 
 #: What is read of the node of a value: number (signed), start, length, key_start, items; key_length, kind, scale.
 VALUE_NODE = struct.Struct("=q3I4xI2BxB")
@@ -37,7 +33,7 @@ _time = datetime.datetime.fromtimestamp
 Nodes = Iterator[Tuple[int, ...]]
 
 
-def _rare(source: bytes, number: int, start: int, length: int, kind: int, scale: int) -> Value:
+def rare_value(source: bytes, number: int, start: int, length: int, kind: int, scale: int) -> Value:
     """A value of one of the kinds that the loops below leave, or one that is read as a wrapper."""
     if kind == STRING:
         return LongString(source[start : start + length])
@@ -46,11 +42,11 @@ def _rare(source: bytes, number: int, start: int, length: int, kind: int, scale:
     if kind == TIME:
         return time_of(number & _UNSIGNED)
     if kind == FLOAT64:
-        return Float64.from_bits(number & _UNSIGNED)
+        return cast(float, Float64.from_bits(number & _UNSIGNED))
     if kind == BYTE_ARRAY:
         return source[start : start + length]
     if kind == FLOAT32:
-        return Float32.from_bits(number)
+        return cast(float, Float32.from_bits(number))
     if kind == DECIMAL:
         return Decimal(f"{number}E-{scale}")
     return cast(Value, _number(NUMBERS[kind], number))
@@ -65,7 +61,7 @@ def table_of(source: bytes, nodes: Nodes, count: int) -> Table:
             try:
                 table[key] = source[start : start + length].decode()
             except UnicodeDecodeError:
-                table[key] = _rare(source, number, start, length, kind, scale)
+                table[key] = rare_value(source, number, start, length, kind, scale)
         elif kind == INT32:
             table[key] = number
         elif kind == TRUTH:
@@ -76,7 +72,7 @@ def table_of(source: bytes, nodes: Nodes, count: int) -> Table:
             table[key] = _time(number, UTC)
         elif kind == FLOAT64:
             (fraction,) = _unpack_float(_pack_bits(number))
-            table[key] = fraction if fraction == fraction else _rare(source, number, start, length, kind, scale)
+            table[key] = fraction if fraction == fraction else rare_value(source, number, start, length, kind, scale)
         elif kind == INNER_TABLE:
             table[key] = table_of(source, nodes, items)
         elif kind == ARRAY:
@@ -84,7 +80,7 @@ def table_of(source: bytes, nodes: Nodes, count: int) -> Table:
         elif kind == NOTHING:
             table[key] = None
         else:
-            table[key] = _rare(source, number, start, length, kind, scale)
+            table[key] = rare_value(source, number, start, length, kind, scale)
     return table
 
 
@@ -96,7 +92,7 @@ def array_of(source: bytes, nodes: Nodes, count: int) -> List[Value]:
             try:
                 array.append(source[start : start + length].decode())
             except UnicodeDecodeError:
-                array.append(_rare(source, number, start, length, kind, scale))
+                array.append(rare_value(source, number, start, length, kind, scale))
         elif kind == INT32:
             array.append(number)
         elif kind == TRUTH:
@@ -107,7 +103,7 @@ def array_of(source: bytes, nodes: Nodes, count: int) -> List[Value]:
             array.append(_time(number, UTC))
         elif kind == FLOAT64:
             (fraction,) = _unpack_float(_pack_bits(number))
-            array.append(fraction if fraction == fraction else _rare(source, number, start, length, kind, scale))
+            array.append(fraction if fraction == fraction else rare_value(source, number, start, length, kind, scale))
         elif kind == INNER_TABLE:
             array.append(table_of(source, nodes, items))
         elif kind == ARRAY:
@@ -115,23 +111,17 @@ def array_of(source: bytes, nodes: Nodes, count: int) -> List[Value]:
         elif kind == NOTHING:
             array.append(None)
         else:
-            array.append(_rare(source, number, start, length, kind, scale))
+            array.append(rare_value(source, number, start, length, kind, scale))
     return array
 
 
-#: What the loops in C call, and are told.
-_CALLED = _rare, _number, NUMBERS, _time, UTC, LAST_SECOND
-
-
-def read_table_of(source: bytes, nodes: bytes, first: int, inside: int, items: int) -> Table:
+def read_table_of(source: bytes, nodes: Any, first: int, inside: int, items: int) -> Table:
     """The table whose entries' nodes begin at `first`: `inside` with all that lies in them, of which `items` at most are its own."""
-    if compiled_table is not None:
-        return compiled_table(source, nodes, first, first + inside, *_CALLED)
     entries = memoryview(nodes)[first * NODE_SIZE : (first + inside) * NODE_SIZE]
     return table_of(source, VALUE_NODE.iter_unpack(entries), items)
 
 
-def _field_of(source: bytes, nodes: bytes, index: int, kind: int, node: Tuple[int, ...]) -> Any:
+def _field_of(source: bytes, nodes: Any, index: int, kind: int, node: Tuple[int, ...]) -> Any:
     """The value of the field whose node this is, at `index` in the list; of a number that is done already."""
     number, start, length, inside, items, _ = node
     if kind == SHORT_STRING:
@@ -143,17 +133,55 @@ def _field_of(source: bytes, nodes: bytes, index: int, kind: int, node: Tuple[in
     return read_table_of(source, nodes, index + 1, inside, items)
 
 
-def method_of(method: Type[Method], source: bytes, nodes: bytes, index: int) -> Method:
+class _Plan(NamedTuple):
+    """How the nodes of a method without tables are unpacked at once: of numbers and flags the number, of strings the span."""
+
+    unpack: Callable[[Any, int], Tuple[int, ...]]
+    fields: Tuple[Tuple[str, int], ...]
+
+
+_PARTS = {SHORT_STRING: "8x2I16x", LONG_STRING: "8x2I16x"}
+
+
+@functools.lru_cache(maxsize=None)
+def _plan_of(ids: Tuple[int, int]) -> Optional[_Plan]:
+    """The plan of a method; None where it has a table, behind whose nodes those of other fields may stand."""
+    method = METHODS[ids]
+    if TABLE in method.kinds:
+        return None
+    return _Plan(struct.Struct("=" + "".join(_PARTS.get(kind, "Q24x") for kind in method.kinds)).unpack_from, method.fields)
+
+
+def method_of(method: Type[Method], source: bytes, nodes: Any, index: int) -> Method:
     """The method whose fields' nodes begin at `index`."""
-    made = method.__new__(method)
-    for name, kind in method.fields:
+    made, plan = method.__new__(method), _plan_of(method.ids)
+    if plan is None:
+        return _with_tables(made, source, nodes, index)
+    numbers, at = plan.unpack(nodes, index * NODE_SIZE), 0
+    for name, kind in plan.fields:
+        value: Any = numbers[at]
+        at += 1
+        if kind == FLAG:
+            value = value == 1
+        elif kind >= SHORT_STRING:
+            value = source[value : value + numbers[at]]
+            at += 1
+            if kind == SHORT_STRING:
+                value = value.decode()
+        setattr(made, name, value)
+    return made
+
+
+def _with_tables(made: Method, source: bytes, nodes: Any, index: int) -> Method:
+    """The same of a method that has tables."""
+    for name, kind in made.fields:
         node = FIELD_NODE.unpack_from(nodes, index * NODE_SIZE)
         setattr(made, name, node[0] if kind <= LONG_LONG else _field_of(source, nodes, index, kind, node))
         index += 1 + node[3]
     return made
 
 
-def properties_of(source: bytes, nodes: bytes, index: int, end: int) -> Properties:
+def properties_of(source: bytes, nodes: Any, index: int, end: int) -> Properties:
     """The properties whose nodes stand from `index` to `end`."""
     values: List[Any] = [None] * len(Properties.fields)
     while index < end:

@@ -1,7 +1,8 @@
 """Recutting: the bodies of messages are cut anew into frames of one size."""
 
-from typing import Any, Dict, Iterable, Tuple
+from typing import Any, Dict, Tuple
 
+from ._arguments import LONG_MOST, whole
 from ._buffers import MAX_PAYLOAD, Room
 from ._errors import UnknownStatus
 from ._inputs import Input
@@ -26,9 +27,7 @@ class Recutter(MessageStream):
 
     def __init__(self, size: int, max_payload: int = MAX_PAYLOAD) -> None:
         super().__init__(max_payload)
-        if not 1 <= size < 2**32:
-            raise ValueError(f"the size of a piece has to be 1 to 2^32 - 1, and is {size}")
-        self._size = size
+        self._size = whole("the size of a piece", size, LONG_MOST, 1)
         #: The last bytes of a channel's body so far, which are too few for a piece.
         self._bodies: Dict[int, bytearray] = {}
         self._head = Room(_HEAD_LENGTH)
@@ -39,8 +38,7 @@ class Recutter(MessageStream):
             return
         channel, length = head[5], head[2]
         held = self._bodies.pop(channel, None) or bytearray()
-        ends = int(turn.finished)
-        cut = SMALL.feksroum_recut(self._size, len(held), length, ends)
+        cut = SMALL.feksroum_recut(self._size, len(held), length, int(turn.finished))
         if cut.status:
             raise UnknownStatus(self._used, cut.status)
         if cut.pieces == 1 and not held and length <= self._size:
@@ -49,28 +47,23 @@ class Recutter(MessageStream):
             return
         body = memoryview(written.source)[start + _HEAD_LENGTH : end - 1]
         if cut.pieces:
-            front = bytes(held)
-            pieces = (SMALL.feksroum_piece_at(self._size, len(held), length, ends, k) for k in range(cut.pieces))
-            self._write(channel, pieces, front, body, written)
-        if cut.left:
-            self._hold(channel, held, body, cut.left)
+            octets = bytes(held) + body
+            written.octets(self._frames(channel, octets[: len(octets) - cut.left]))
+            held = bytearray(octets[len(octets) - cut.left :])
+        else:
+            held += body
+        if held:
+            self._bodies[channel] = held
 
-    def _write(self, channel: int, pieces: Iterable[Any], front: bytes, body: memoryview, written: Written) -> None:
-        """Writes pieces of what was held and of the new bytes as frames."""
-        head, last = b"", -1
-        for piece in pieces:
-            length = piece.held_length + piece.length
-            if length != last:
-                head, last = self._head_of(channel, length), length
-            held = front[piece.held_start : piece.held_start + piece.held_length]
-            written.octets(head, held, body[piece.start : piece.start + piece.length], _FRAME_END)
-
-    def _hold(self, channel: int, held: bytearray, body: memoryview, left: int) -> None:
-        """Holds the last bytes of what was held and of the new ones."""
-        of_body = min(left, len(body))
-        del held[: len(held) - (left - of_body)]
-        held += body[len(body) - of_body :]
-        self._bodies[channel] = held
+    def _frames(self, channel: int, octets: bytes) -> bytes:
+        """Body frames of bytes: pieces of one size, and the last as long as it comes."""
+        size = self._size
+        last = len(octets) - len(octets) % size
+        head = self._head_of(channel, size) if last else b""
+        pieces = [part for at in range(0, last, size) for part in (head, octets[at : at + size], _FRAME_END)]
+        if last < len(octets):
+            pieces += [self._head_of(channel, len(octets) - last), octets[last:], _FRAME_END]
+        return b"".join(pieces)
 
     def _head_of(self, channel: int, length: int) -> bytes:
         """What comes before a body of so many bytes."""

@@ -1,7 +1,8 @@
 """Rules: which frames are kept."""
 
-from typing import Tuple
+from typing import Any, Tuple
 
+from ._arguments import instance
 from ._errors import UnknownStatus
 from ._frames import Frame
 from ._library import SMALL, FrameRule
@@ -43,7 +44,7 @@ class Rules:
 
     def decide(self, frame: Frame) -> bool:
         """Whether the frame is kept."""
-        return self.decide_head(frame._head)
+        return self.decide_head(instance("a frame", frame, Frame)._head)
 
     def decide_head(self, head: Tuple[int, ...]) -> bool:
         """The same of a frame by the numbers of its head."""
@@ -51,6 +52,9 @@ class Rules:
         if found > 1:
             raise UnknownStatus(0, found)
         return bool(found)
+
+    def __reduce__(self) -> Tuple[Any, ...]:
+        return type(self), self.words
 
     def __eq__(self, other: object) -> bool:
         return isinstance(other, Rules) and self.words == other.words

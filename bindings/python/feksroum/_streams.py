@@ -4,7 +4,7 @@ import threading
 from abc import ABC, abstractmethod
 from typing import Any, Iterator, List, Optional, Tuple
 
-from ._buffers import SHORTEST
+from ._buffers import SHORTEST, bytes_of
 from ._canonical import Canonicalizer
 from ._errors import BUFFER_TOO_SMALL, BadContent, CutShort, Error, OpenContent
 from ._frames import CANONICAL, LAST_WINDOW, SHALLOW, BatchReader, fault_of, span_of
@@ -81,13 +81,14 @@ class MessageStream(ABC):
     def feed(self, data: Any) -> bytes:
         """What is written for the frames that this piece completes. Raises nothing for a fault, which is kept in `error`; nothing is
         written for what comes after it."""
+        piece = bytes_of(data)
         with self._lock:
             if self._fault is not None:
                 return b""
-            if not self._held and type(data) is bytes:
-                whole = data
+            if not self._held:
+                whole = piece
             else:
-                self._held += data
+                self._held += piece
                 if len(self._held) < self._needed:
                     return b""
                 whole = bytes(self._held)
@@ -116,7 +117,7 @@ class MessageStream(ABC):
                 self._needed = 0
                 break
             elif end.status not in (0, BUFFER_TOO_SMALL):
-                self._fault = fault_of(end, self._used)
+                self._fault = fault_of(end.status, self._used, end.needed)
         return at
 
     def _take_all(self, data: bytes, heads: bytes, at: int, written: Written) -> bool:

@@ -1,13 +1,15 @@
 """Tables that stand alone, without their length, as the response of AMQPLAIN is one."""
 
-from typing import Any
+from typing import Any, Optional, cast
 
+from . import _compiled
+from ._arguments import instance
 from ._buffers import Room, bytes_of
-from ._errors import BUFFER_TOO_SMALL, error_of
+from ._errors import BUFFER_TOO_SMALL, Error, error_of
 from ._kinds import INNER_TABLE
 from ._library import NODE, library_for
+from ._packing import entries, refusal_in
 from ._reading import read_table_of
-from ._writing import NodeList
 from .values import Table
 
 
@@ -22,21 +24,18 @@ def read_table(content: Any) -> Table:
     error = error_of(found.status)
     if error is not None:
         raise error
-    return read_table_of(data, nodes.copy(found.nodes * NODE.size), 0, found.nodes, found.nodes)
+    listed, native = nodes.copy(found.nodes * NODE.size), _compiled.native
+    if native is not None:
+        return cast(Table, native.read_table(data, listed))
+    return read_table_of(data, listed, 0, found.nodes, found.nodes)
 
 
 def write_table(table: Table) -> bytes:
     """The content of a table: its entries in ascending order of their keys' bytes. Raises as `encode` does."""
-    nodes = NodeList()
-    nodes.add_entries(table)
-    listed, pool = b"".join(nodes.nodes), nodes.pool()
-    out = Room(64 + len(pool) + 16 * len(nodes.nodes))
-    write = library_for(len(listed) + len(pool)).feksroum_write_content
-    written = write(INNER_TABLE, listed, len(nodes.nodes), pool, len(pool), out.address, len(out))
-    if written.status == BUFFER_TOO_SMALL:
-        out.grow(written.length)
-        written = write(INNER_TABLE, listed, len(nodes.nodes), pool, len(pool), out.address, len(out))
-    error = error_of(written.status)
-    if error is not None:
-        raise error
-    return out.copy(written.length)
+    made: Optional[bytes] = _compiled.native.write_table(table) if _compiled.native is not None else None
+    if made is not None:
+        return made
+    try:
+        return entries(instance("a table", table, dict))
+    except (TypeError, ValueError, OverflowError, Error) as error:
+        raise refusal_in("table", table, 1) or error from None

@@ -50,7 +50,7 @@ def undump(text: Any, max_payload: int = MAX_PAYLOAD) -> bytes:
     """The canonical bytes of the frames whose lines this text is, a string or bytes. Raises BadText at a line that is not
     the line of any frame with a payload of at most so many bytes, as one that is not ASCII, and CutShort where the last line has
     no newline; the bytes before it are the exception's attribute `written`."""
-    data = text.encode("utf-8", "surrogatepass") if isinstance(text, str) else bytes_of(text)
+    data = str.encode(text, "utf-8", "surrogatepass") if isinstance(text, str) else bytes_of(text)
     written, error = _pieces("feksroum_undump", data, max_payload)
     if error is not None:
         error.written = written  # type: ignore[attr-defined]

@@ -2,6 +2,7 @@
 
 from typing import Any, Dict, Tuple
 
+from ._arguments import LONG_LONG_MOST, whole
 from ._errors import BadContent, UnknownStatus
 from ._frames import FrameType
 from ._library import SMALL, ChannelState
@@ -9,7 +10,7 @@ from ._library import SMALL, ChannelState
 #: What a frame is to its channel: no part of a message, the method that opens one, its content header, a body.
 NO_PART, OPENING, HEADER, BODY = range(4)
 #: The largest number of bytes that a body may have.
-ANY_SIZE = 2**64 - 1
+ANY_SIZE = LONG_LONG_MOST
 _BLANK = ChannelState()
 _FAULTED = 3
 _HEADER_TYPE = int(FrameType.HEADER)
@@ -19,9 +20,7 @@ class Turns:
     """The channels that are inside a message or at fault, with what the library keeps of each."""
 
     def __init__(self, max_body: int = ANY_SIZE) -> None:
-        if not 0 <= max_body <= ANY_SIZE:
-            raise ValueError("max_body has to fit in 64 bits")
-        self._max_body = max_body
+        self._max_body = whole("max_body", max_body, ANY_SIZE)
         self._channels: Dict[int, Any] = {}
 
     def look(self, head: Tuple[int, ...]) -> Any:

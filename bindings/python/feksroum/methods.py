@@ -2,14 +2,17 @@
 
 `Basic.Deliver`, `Queue.DeclareOk` and so on take their fields in the standard's order, by place or by name. A field that is
 not given has the standard's default, or 0, "" or an empty table. Reserved fields do not appear: tickets, the prefetch size of
-`Basic.Qos`, what is reserved in `Connection.Open`, `Channel.Open` and their answers. Names are the standard's in the spelling of
-Python, those of pamqp: `nowait`, `global_`, `exchange_type`, `message_type`. The generated `methods.pyi` has all of them.
+`Basic.Qos`, what is reserved in `Connection.Open`, `Channel.Open` and their answers. A method that has a reserved field before another
+takes its fields by name alone, as `Queue.Declare(queue="orders")`: in pamqp the reserved one has its place. Names are the standard's in
+the spelling of Python, those of pamqp: `nowait`, `global_`, `exchange_type`, `message_type`. The generated `methods.pyi` has all of them.
+
+`name in method`, `method[name]`, `len(method)` and `dict(method)` go by the fields, of properties by those that are set.
 """
 
 import ctypes
 import inspect
 import keyword
-from typing import Any, ClassVar, Dict, List, Tuple, Type, cast
+from typing import Any, ClassVar, Dict, Iterator, List, Tuple, Type, cast
 
 from . import _kinds as kinds
 from ._library import SMALL, name_of
@@ -26,9 +29,13 @@ class Fields:
     fields: ClassVar[Tuple[Tuple[str, int], ...]] = ()
     #: The values of the fields that are not given; of tables None, for which each gets a new one.
     defaults: ClassVar[Tuple[Any, ...]] = ()
+    #: They are given by name alone.
+    by_name: ClassVar[bool] = False
 
     def __init__(self, *values: Any, **named: Any) -> None:
         names = self.__match_args__
+        if values and self.by_name:
+            raise TypeError(f"{type(self).__qualname__} takes its fields by name, as {names[0]}={values[0]!r}")
         if len(values) > len(names):
             raise TypeError(f"{type(self).__qualname__} has {len(names)} fields, and {len(values)} were given")
         for name, value in zip(names, values):
@@ -58,6 +65,24 @@ class Fields:
     def set_fields(self) -> Tuple[str, ...]:
         """The names of the fields that are set: all of a method."""
         return self.__match_args__
+
+    def __contains__(self, name: object) -> bool:
+        return name in self.set_fields()
+
+    def __getitem__(self, name: str) -> Any:
+        if name not in self.set_fields():
+            raise KeyError(name)
+        return getattr(self, name)
+
+    def __iter__(self) -> Iterator[Tuple[str, Any]]:
+        """The name and the value of each field that is set."""
+        return ((name, getattr(self, name)) for name in self.set_fields())
+
+    def __len__(self) -> int:
+        return len(self.set_fields())
+
+    def __bool__(self) -> bool:
+        return True
 
 
 class Method(Fields):
@@ -115,6 +140,14 @@ _DEFAULTS: Dict[Tuple[str, str], Any] = {
 _RENAMED = {("exchange.declare", "type"): "exchange_type", ("properties", "type"): "message_type"}
 
 
+#: The methods that have a reserved field before another one, as the standard lists them.
+_BY_NAME = {
+    *(f"exchange.{name}" for name in ("declare", "delete", "bind", "unbind")),
+    *(f"queue.{name}" for name in ("declare", "bind", "purge", "delete", "unbind")),
+    *(f"basic.{name}" for name in ("qos", "consume", "publish", "get")),
+}
+
+
 def _class_name(name: str) -> str:
     """A class's name: GetOk for get-ok."""
     return "".join(part.capitalize() for part in name.split("-"))
@@ -129,9 +162,9 @@ def _field_name(owner: str, name: str) -> str:
     return spelled + "_" if keyword.iskeyword(spelled) else spelled
 
 
-def _signature(names: Tuple[str, ...], defaults: Tuple[Any, ...]) -> inspect.Signature:
+def _signature(names: Tuple[str, ...], defaults: Tuple[Any, ...], by_name: bool) -> inspect.Signature:
     """What `help` shows of the arguments."""
-    form = inspect.Parameter.POSITIONAL_OR_KEYWORD
+    form = inspect.Parameter.KEYWORD_ONLY if by_name else inspect.Parameter.POSITIONAL_OR_KEYWORD
     return inspect.Signature([inspect.Parameter(name, form, default=default) for name, default in zip(names, defaults)])
 
 
@@ -150,7 +183,8 @@ def _method_class(row: Any, group: str) -> Type[Method]:
         "__module__": __name__,
         "__qualname__": f"{group}.{_class_name(short_name)}",
         "__doc__": f"The method {name}.",
-        "__signature__": _signature(names, defaults),
+        "__signature__": _signature(names, defaults, name in _BY_NAME),
+        "by_name": name in _BY_NAME,
         "kinds": shape,
         "fields": tuple(zip(names, shape)),
         "defaults": defaults,
@@ -198,7 +232,7 @@ def _properties_class() -> Type[_Properties]:
         "__match_args__": tuple(names),
         "__module__": __name__,
         "__doc__": _Properties.__doc__,
-        "__signature__": _signature(tuple(names), defaults),
+        "__signature__": _signature(tuple(names), defaults, False),
         "kinds": tuple(shape),
         "fields": tuple(zip(names, shape)),
         "defaults": defaults,

@@ -11,7 +11,9 @@ A recording begins with MAGIC. Then come records: a head of 17 bytes, the most s
 """
 
 import struct
-from typing import List, NamedTuple
+from typing import Any, List, NamedTuple
+
+from ._buffers import view_of
 
 MAGIC = b"feksroum recording 1\n"
 _HEAD = struct.Struct(">cIQI")
@@ -42,9 +44,9 @@ class RecordReader:
     def __init__(self) -> None:
         self.held = bytearray()
 
-    def feed(self, data: bytes) -> List[Record]:
+    def feed(self, data: Any) -> List[Record]:
         """The records that this piece completes. Raises BadRecording where a direction is none."""
-        self.held += data
+        self.held += view_of(data)
         found: List[Record] = []
         at = 0
         while len(self.held) - at >= _HEAD.size:

@@ -1,4 +1,5 @@
-"""What `python -m feksroum show` prints: frames with their names and values, one a line, and tables indented below them.
+"""What `feksroum-show` and `python -m feksroum show` print: frames with their names and values, one a line, and tables indented below
+them.
 
 Passwords are hidden: the answers of a client that logs in, and the secret that renews a login.
 """
@@ -11,7 +12,9 @@ import sys
 import time
 from typing import Any, BinaryIO, Dict, Iterator, List, Optional, TextIO, Tuple
 
-from ._buffers import MAX_PAYLOAD
+from ._buffers import MAX_PAYLOAD, limit_of
+from ._captures import MAGIC_LENGTH, MAGICS, NoTshark, pieces_of
+from ._choice import Choice, names_of
 from ._errors import Error
 from ._frames import Frame, FrameReader, FrameType
 from .methods import Connection, Fields
@@ -102,10 +105,13 @@ def frame_lines(frame: Frame, style: Style, has_secrets: bool, indent: str) -> L
 class Stream:
     """Prints the frames of one direction, each after its offset."""
 
-    def __init__(self, out: TextIO, style: Style, has_secrets: bool, max_payload: int = MAX_PAYLOAD) -> None:
+    def __init__(
+        self, out: TextIO, style: Style, has_secrets: bool, max_payload: int = MAX_PAYLOAD, choice: Optional[Choice] = None
+    ) -> None:
         self._out = out
         self._style = style
         self._has_secrets = has_secrets
+        self._choice = Choice() if choice is None else choice
         self._reader = FrameReader(max_payload)
         self._offset = 0
         self.error: Optional[Exception] = None
@@ -115,9 +121,10 @@ class Stream:
         if self.error is not None:
             return
         for frame in self._reader.feed(data):
-            head = f"{prefix}{self._offset:>9} "
-            lines = frame_lines(frame, self._style, self._has_secrets, " " * len(head) + "      ")
-            self._out.write(self._style.paint(_DIM, head) + "\n".join(lines) + "\n")
+            if self._choice.shows(frame):
+                head = f"{prefix}{self._offset:>9} "
+                lines = frame_lines(frame, self._style, self._has_secrets, " " * len(head) + "      ")
+                self._out.write(self._style.paint(_DIM, head) + "\n".join(lines) + "\n")
             self._offset += frame.bytes.nbytes
         self._tell(self._reader.error, prefix)
 
@@ -136,14 +143,37 @@ class Stream:
             self._out.write(f"{prefix}{self._offset:>9} {self._style.paint(_FAULT, text)}\n")
 
 
-class Recording:
-    """Prints the frames of a recording, each after its time, its connection and its direction."""
+class Both:
+    """Prints the frames of both directions of some connections."""
 
-    def __init__(self, out: TextIO, style: Style, has_secrets: bool, max_payload: int = MAX_PAYLOAD) -> None:
+    def __init__(
+        self, out: TextIO, style: Style, has_secrets: bool, max_payload: int = MAX_PAYLOAD, choice: Optional[Choice] = None
+    ) -> None:
         self._arguments = out, style, has_secrets, max_payload
-        self._reader = RecordReader()
+        self._choice = Choice() if choice is None else choice
         self._streams: Dict[Tuple[int, str], Stream] = {}
         self.error: Optional[Exception] = None
+
+    def take(self, connection: int, direction: str, data: bytes, time: str = "") -> None:
+        """Prints the frames that a piece of one direction completes; one without bytes ends it."""
+        prefix = f"{time}{connection:>3} {direction} "
+        key = connection, direction
+        if key not in self._streams:
+            self._streams[key] = Stream(*self._arguments, choice=self._choice.new())
+        stream = self._streams[key]
+        if data:
+            stream.feed(data, prefix)
+        else:
+            stream.close(prefix)
+        self.error = self.error or stream.error
+
+
+class Recording(Both):
+    """Prints the frames of a recording, each after its time, its connection and its direction."""
+
+    def __init__(self, *arguments: Any) -> None:
+        super().__init__(*arguments)
+        self._reader = RecordReader()
 
     def feed(self, data: bytes) -> None:
         """Prints the frames that this piece completes."""
@@ -153,16 +183,7 @@ class Recording:
     def _show(self, record: Record) -> None:
         seconds, rest = divmod(record.time, 10**9)
         clock = time.strftime("%H:%M:%S", time.localtime(seconds))
-        prefix = f"{clock}.{rest // 1000:06} {record.connection:>3} {record.direction} "
-        key = record.connection, record.direction
-        if key not in self._streams:
-            self._streams[key] = Stream(*self._arguments)
-        stream = self._streams[key]
-        if record.data:
-            stream.feed(record.data, prefix)
-        else:
-            stream.close(prefix)
-        self.error = self.error or stream.error
+        self.take(record.connection, record.direction, record.data, f"{clock}.{rest // 1000:06} ")
 
     def close(self) -> None:
         """Prints that a recording ended inside a record, where it did."""
@@ -184,8 +205,25 @@ def _chunks(file: BinaryIO, is_followed: bool, out: TextIO) -> Iterator[bytes]:
             return
 
 
+def show_capture(
+    path: str, out: TextIO, style: Style, has_secrets: bool, max_payload: int = MAX_PAYLOAD, choice: Optional[Choice] = None
+) -> int:
+    """Prints the frames of a capture of packets. Returns the status of the first fault. Raises NoTshark."""
+    shown = Both(out, style, has_secrets, max_payload, choice)
+    for piece in pieces_of(path):
+        shown.take(piece.connection, piece.direction, piece.data)
+    return getattr(shown.error, "status", 0) if shown.error is not None else 0
+
+
+def is_capture(path: str) -> bool:
+    """Whether a file begins as a capture of packets does."""
+    with open(path, "rb") as file:
+        return file.read(MAGIC_LENGTH) in MAGICS
+
+
 def show(
-    file: BinaryIO, out: TextIO, style: Style, has_secrets: bool, is_followed: bool, max_payload: int = MAX_PAYLOAD
+    file: BinaryIO, out: TextIO, style: Style, has_secrets: bool, is_followed: bool, max_payload: int = MAX_PAYLOAD,
+    choice: Optional[Choice] = None,
 ) -> int:
     """Prints the frames of a file, which is a recording or the bytes of one direction. Returns the status of the first fault."""
     front = b""
@@ -196,54 +234,88 @@ def show(
             if MAGIC.startswith(front) and front != MAGIC:
                 continue
             is_recording = front.startswith(MAGIC)
-            shown = (Recording if is_recording else Stream)(out, style, has_secrets, max_payload)
+            shown = (Recording if is_recording else Stream)(out, style, has_secrets, max_payload, choice)
             chunk = front[len(MAGIC) :] if is_recording else front
         shown.feed(chunk)
         if shown.error is not None and isinstance(shown, Stream):
             break
     if shown is None:
-        shown = Stream(out, style, has_secrets, max_payload)
+        shown = Stream(out, style, has_secrets, max_payload, choice)
         shown.feed(front)
     shown.close()
     return getattr(shown.error, "status", 0) if shown.error is not None else 0
 
 
 DESCRIPTION = (
-    "Prints the frames of a file with their names and values. The file has the bytes of one direction of a connection, or is a "
-    "recording. The status is that of the fault that ended them."
+    "Prints the frames of a file with their names and values: of the bytes of one direction of a connection; of a recording, both "
+    "directions with the time of each frame; of a capture of packets, by tshark, both directions of each connection. Passwords are "
+    "hidden. The status is that of the fault that ended the frames."
 )
 
 
-def _arguments(words: Optional[List[str]]) -> argparse.Namespace:
-    parser = argparse.ArgumentParser(prog="python -m feksroum", description="Frames of AMQP 0-9-1, as text.")
-    commands = parser.add_subparsers(dest="command", required=True)
-    command = commands.add_parser("show", help="print the frames of a file, with their names and values",
-                                  description=DESCRIPTION)
+def _names(text: str) -> Any:
+    try:
+        return names_of(text)
+    except ValueError as error:
+        raise argparse.ArgumentTypeError(str(error)) from None
+
+
+def _add_arguments(command: argparse.ArgumentParser) -> None:
     command.add_argument("file", nargs="?", default="-", metavar="FILE", help="the file; standard input where there is none")
+    command.add_argument("--only", type=_names, metavar="NAME,..",
+                         help="only these methods, as basic.publish, or classes, as queue, with what follows them; header, body, heartbeat")
+    command.add_argument("--channel", type=int, action="append", metavar="N", help="only this channel; may be given again")
+    command.add_argument("--key", metavar="KEY",
+                         help="only methods with such a routing key, and their contents; as a binding key: 'orders.*', 'orders.#'")
     command.add_argument("--follow", action="store_true", help="wait for more at the end, until it is interrupted")
     command.add_argument("--secrets", action="store_true", help="print passwords too")
     command.add_argument("--color", choices=("auto", "always", "never"), default="auto", help="colours: on a terminal alone (auto)")
     command.add_argument("--max-payload", type=int, default=MAX_PAYLOAD, metavar="N", help=f"the longest payload ({MAX_PAYLOAD})")
-    return parser.parse_args(words)
 
 
-def main(words: Optional[List[str]] = None) -> int:
-    """Runs the command, and returns its exit status: 1 where the file cannot be read, 2 for invalid arguments."""
-    arguments = _arguments(words)
+def _show(arguments: argparse.Namespace) -> int:
+    """Shows what the arguments say."""
     is_coloured = arguments.color == "always" or (
         arguments.color == "auto" and sys.stdout.isatty() and not os.environ.get("NO_COLOR")
     )
-    options = Style(is_coloured), arguments.secrets, arguments.follow, arguments.max_payload
+    style, most = Style(is_coloured), limit_of(arguments.max_payload)
+    choice = Choice(arguments.only, arguments.channel, arguments.key)
+    if arguments.file == "-":
+        return show(sys.stdin.buffer, sys.stdout, style, arguments.secrets, arguments.follow, most, choice)
+    if is_capture(arguments.file):
+        return show_capture(arguments.file, sys.stdout, style, arguments.secrets, most, choice)
+    with open(arguments.file, "rb") as file:
+        return show(file, sys.stdout, style, arguments.secrets, arguments.follow, most, choice)
+
+
+def _run(arguments: argparse.Namespace) -> int:
+    """The same, and what goes wrong in one line."""
+    reconfigure = getattr(sys.stdout, "reconfigure", None)
+    if reconfigure is not None:
+        # A terminal that has not all characters gets them escaped.
+        reconfigure(errors="backslashreplace")
     try:
-        if arguments.file == "-":
-            return show(sys.stdin.buffer, sys.stdout, *options)
-        with open(arguments.file, "rb") as file:
-            return show(file, sys.stdout, *options)
+        return _show(arguments)
     except BrokenPipeError:
         os.dup2(os.open(os.devnull, os.O_WRONLY), sys.stdout.fileno())
         return 0
     except KeyboardInterrupt:
         return 130
-    except (OSError, BadRecording, ValueError) as error:
+    except (OSError, BadRecording, NoTshark, ValueError) as error:
         print(f"feksroum: {arguments.file}: {error}", file=sys.stderr)
         return 1
+
+
+def main(words: Optional[List[str]] = None) -> int:
+    """Runs `python -m feksroum`, and returns its exit status: 1 where the file cannot be read, 2 for invalid arguments."""
+    parser = argparse.ArgumentParser(prog="python -m feksroum", description="Frames of AMQP 0-9-1, as text.")
+    commands = parser.add_subparsers(dest="command", required=True)
+    _add_arguments(commands.add_parser("show", help="print the frames of a file, with their names and values", description=DESCRIPTION))
+    return _run(parser.parse_args(words))
+
+
+def command() -> int:
+    """Runs `feksroum-show`."""
+    parser = argparse.ArgumentParser(prog="feksroum-show", description=DESCRIPTION)
+    _add_arguments(parser)
+    return _run(parser.parse_args())

@@ -7,20 +7,28 @@
 | `int`                          | `I`, signed of 4 bytes, where it fits; else `l`, signed of 8 bytes          |
 | `float`                        | `d`, a fraction of 8 bytes                                                  |
 | `decimal.Decimal`              | `D`: its digits below 2^32, at most 255 of them behind the point, no sign   |
-| `datetime.datetime`            | `T`, whole seconds since 1970; it has to name its time zone                 |
+| `datetime.datetime`            | `T`, whole seconds since 1970; where it names no time zone it is UTC        |
+| `time.struct_time`             | `T`; it is UTC, as that of `time.gmtime`                                    |
 | `str`                          | `S`, a long string, as UTF-8                                                |
 | `bytes`, `bytearray`           | `x`, a byte array                                                           |
 | `list`, `tuple`                | `A`, an array                                                               |
 | `dict`                         | `F`, a table: keys are `str`, and stand in ascending order of their bytes   |
 
 What is read comes as the type in this table where it would be written as the same kind, and else as one of the classes
-below, which are numbers or bytes as well. So what was read and is written again is the canonical encoding.
+below, which are numbers or bytes as well. So what was read and is written again is the canonical encoding. `str` shows the value
+alone; `repr` names the class. An assignment as `table["count"] += 1` keeps the class; `+` alone gives a plain number.
 """
 
+import calendar
 import datetime
+import operator
 import struct
+import time
 from decimal import Decimal
-from typing import Any, Dict, List, Optional, Type, Union
+from typing import Any, Callable, Dict, List, Optional, Type, Union
+
+from ._arguments import LONG_LONG_MOST, whole
+from ._buffers import view_of
 
 Value = Union[None, bool, int, float, Decimal, datetime.datetime, str, bytes, List["Value"], Dict[str, "Value"]]
 #: The fields of a table by their keys.
@@ -31,6 +39,16 @@ UTC = datetime.timezone.utc
 LAST_SECOND = 253402300799
 
 
+def _kept(operation: Callable[[Any, Any], Any], plain: type) -> Any:
+    """An assignment that keeps the class of what is assigned to, where the result is of the plain type."""
+
+    def assign(self: Any, other: Any) -> Any:
+        result = operation(plain(self), other)
+        return type(self)(result) if type(result) is plain else result
+
+    return assign
+
+
 class Number(int):
     """A whole number that is written as one kind, whatever its size. Equal to the `int` that it is."""
 
@@ -39,9 +57,22 @@ class Number(int):
     least, most = 0, 0
 
     def __new__(cls, value: int) -> "Number":
-        if not cls.least <= value <= cls.most:
-            raise OverflowError(f"{value} is no {cls.__name__}")
-        return int.__new__(cls, value)
+        number = operator.index(value)
+        if not cls.least <= number <= cls.most:
+            raise OverflowError(f"{number} is no {cls.__name__}")
+        return int.__new__(cls, number)
+
+    __iadd__ = _kept(operator.add, int)
+    __isub__ = _kept(operator.sub, int)
+    __imul__ = _kept(operator.mul, int)
+    __ifloordiv__ = _kept(operator.floordiv, int)
+    __imod__ = _kept(operator.mod, int)
+    __ilshift__ = _kept(operator.lshift, int)
+    __irshift__ = _kept(operator.rshift, int)
+    __iand__ = _kept(operator.and_, int)
+    __ior__ = _kept(operator.or_, int)
+    __ixor__ = _kept(operator.xor, int)
+    __str__ = int.__repr__
 
     def __repr__(self) -> str:
         return f"{type(self).__name__}({int(self)})"
@@ -103,58 +134,69 @@ class Timestamp(Number):
     tag, least, most = ord("T"), 0, 2**64 - 1
 
 
-class Float32(float):
+class Fraction(float):
+    """A fraction whose bytes are kept bit by bit. Equal to the `float` that it is."""
+
+    __slots__ = ("bits",)
+    bits: int
+    #: As `struct` has it and its bits.
+    _forms = struct.Struct("=d"), struct.Struct("=Q")
+
+    def __new__(cls, value: float, bits: Optional[int] = None) -> "Fraction":
+        as_fraction, as_bits = cls._forms
+        if bits is not None:
+            packed = as_bits.pack(whole("bits", bits, 256**as_bits.size - 1))
+        elif isinstance(value, (str, bytes, bytearray)):
+            raise TypeError(f"{cls.__name__} is made of a number, and not of {type(value).__name__}")
+        else:
+            packed = as_fraction.pack(float(value))
+        made = float.__new__(cls, as_fraction.unpack(packed)[0])
+        made.bits = as_bits.unpack(packed)[0]
+        return made
+
+    @classmethod
+    def from_bits(cls, bits: int) -> Any:
+        """The fraction that these bits are."""
+        return cls(0.0, bits)
+
+    def __reduce__(self) -> Any:
+        return type(self).from_bits, (self.bits,)
+
+    __iadd__ = _kept(operator.add, float)
+    __isub__ = _kept(operator.sub, float)
+    __imul__ = _kept(operator.mul, float)
+    __itruediv__ = _kept(operator.truediv, float)
+    __str__ = float.__repr__
+
+    def __repr__(self) -> str:
+        width = 2 + 2 * self._forms[1].size
+        name = type(self).__name__
+        return f"{name}.from_bits({self.bits:#0{width}x})" if self != self else f"{name}({float(self)!r})"
+
+
+class Float32(Fraction):
     """Kind `f`: a fraction of 4 bytes, which are kept bit by bit."""
 
-    __slots__ = ("bits",)
-    bits: int
-
-    def __new__(cls, value: float, bits: Optional[int] = None) -> "Float32":
-        packed = struct.pack("=f", value) if bits is None else struct.pack("=I", bits)
-        made = float.__new__(cls, struct.unpack("=f", packed)[0])
-        made.bits = struct.unpack("=I", packed)[0]
-        return made
-
-    @classmethod
-    def from_bits(cls, bits: int) -> "Float32":
-        """The fraction that these 32 bits are."""
-        return cls(0.0, bits)
-
-    def __reduce__(self) -> Any:
-        return type(self).from_bits, (self.bits,)
-
-    def __repr__(self) -> str:
-        return f"Float32.from_bits({self.bits:#010x})" if self != self else f"Float32({float(self)!r})"
+    __slots__ = ()
+    _forms = struct.Struct("=f"), struct.Struct("=I")
 
 
-class Float64(float):
+class Float64(Fraction):
     """Kind `d`: a fraction of 8 bytes, which are kept bit by bit. It is read where the bytes are no number."""
 
-    __slots__ = ("bits",)
-    bits: int
-
-    def __new__(cls, value: float, bits: Optional[int] = None) -> "Float64":
-        packed = struct.pack("=d", value) if bits is None else struct.pack("=Q", bits)
-        made = float.__new__(cls, struct.unpack("=d", packed)[0])
-        made.bits = struct.unpack("=Q", packed)[0]
-        return made
-
-    @classmethod
-    def from_bits(cls, bits: int) -> "Float64":
-        """The fraction that these 64 bits are."""
-        return cls(0.0, bits)
-
-    def __reduce__(self) -> Any:
-        return type(self).from_bits, (self.bits,)
-
-    def __repr__(self) -> str:
-        return f"Float64.from_bits({self.bits:#018x})" if self != self else f"Float64({float(self)!r})"
+    __slots__ = ()
 
 
 class LongString(bytes):
     """Kind `S`: a long string that is not UTF-8. As `bytes` alone it would be written as a byte array."""
 
     __slots__ = ()
+
+    def __new__(cls, octets: Any = b"") -> "LongString":
+        return bytes.__new__(cls, view_of(octets))
+
+    __iadd__ = _kept(operator.add, bytes)
+    __str__ = bytes.__repr__
 
     def __repr__(self) -> str:
         return f"LongString({bytes(self)!r})"
@@ -169,13 +211,15 @@ def time_of(seconds: int) -> Union[datetime.datetime, Timestamp]:
     return datetime.datetime.fromtimestamp(seconds, UTC) if seconds <= LAST_SECOND else Timestamp(seconds)
 
 
-def seconds_of(time: Union[datetime.datetime, int]) -> int:
-    """How many whole seconds after 1970 began a time is."""
-    if not isinstance(time, datetime.datetime):
-        return Timestamp(time)
-    if time.tzinfo is None:
-        raise ValueError(f"{time!r} has no time zone")
-    seconds = (time - datetime.datetime(1970, 1, 1, tzinfo=UTC)) // datetime.timedelta(seconds=1)
+def seconds_of(moment: Union[datetime.datetime, time.struct_time, int]) -> int:
+    """How many whole seconds after 1970 began a time is; one that names no time zone is UTC."""
+    if isinstance(moment, time.struct_time):
+        seconds = calendar.timegm(moment)
+    elif isinstance(moment, datetime.datetime):
+        zoned = moment if moment.utcoffset() is not None else moment.replace(tzinfo=UTC)
+        seconds = (zoned - datetime.datetime(1970, 1, 1, tzinfo=UTC)) // datetime.timedelta(seconds=1)
+    else:
+        return whole("a time", moment, LONG_LONG_MOST)
     if seconds < 0:
-        raise ValueError(f"{time!r} is before 1970")
+        raise ValueError(f"{moment!r} is before 1970")
     return seconds

@@ -3,6 +3,7 @@
 FEKSROUM_BROKER is the port of a broker with user guest, password guest; without it only the server of the examples serves.
 """
 
+import importlib.util
 import os
 import shutil
 import subprocess
@@ -124,6 +125,28 @@ class Recorded(Between):
 class RabbitMQ(Clients, unittest.TestCase):
     def port(self):
         return BROKER
+
+
+def has(name):
+    """Whether this Python has a module."""
+    return importlib.util.find_spec(name) is not None
+
+
+@unittest.skipUnless(BROKER, "no broker")
+class OverPamqp(unittest.TestCase):
+    """Clients that were written for pamqp, as they are, over feksroum.pamqp."""
+
+    def check(self, name):
+        done = subprocess.run([sys.executable, os.path.join(HERE, "live_pamqp.py"), name, BROKER], capture_output=True, text=True, timeout=120)
+        self.assertEqual((done.returncode, done.stdout), (0, f"{name}: as wanted\n"), done.stderr)
+
+    @unittest.skipUnless(has("aio_pika"), "no python3-aio-pika")
+    def test_aio_pika(self):
+        self.check("aio_pika")
+
+    @unittest.skipUnless(has("aioamqp"), "no python3-aioamqp")
+    def test_aioamqp(self):
+        self.check("aioamqp")
 
 
 @unittest.skipUnless(BROKER, "no broker")

@@ -1,18 +1,21 @@
 """Filtering and recutting: the repository's examples, made streams as the program does them, inputs of each kind."""
 
+import copy
 import doctest
 import importlib
 import io
 import os
+import pickle
 import random
 import socket
 import subprocess
 import sys
 import tempfile
+import time
 import unittest
 
 import feksroum
-from feksroum import Filter, Recutter, Rules
+from feksroum import Filter, Recutter, Rules, _library
 
 HERE = os.path.dirname(os.path.abspath(__file__))
 sys.path[:0] = [HERE, os.path.join(HERE, "..", "..")]
@@ -179,6 +182,26 @@ class Streams(unittest.TestCase):
             self.assertEqual(found, message)
         self.assertEqual(feksroum.recut(feksroum.recut(data, 1000), 131_064), data)
 
+    def test_small_pieces(self):
+        """Of many pieces each costs the same."""
+        data = feksroum.Message(1, feksroum.Basic.Publish(), feksroum.Properties(), bytes(700_000)).encode()
+        began = time.process_time()
+        cut = feksroum.recut(data, 3)
+        self.assertLess(time.process_time() - began, 5)
+        self.assertEqual(feksroum.recut(cut, 131_064), data)
+
+    def test_pieces_as_the_library_has_them(self):
+        pick = random.Random(9)
+        for _ in range(200):
+            size, held, length, ends = pick.choice((1, 2, 3, 7, 100)), 0, pick.randrange(30), pick.random() < 0.5
+            held = pick.randrange(size)
+            cut = _library.SMALL.feksroum_recut(size, held, length, ends)
+            octets = bytes(range(held + length))
+            pieces = [_library.SMALL.feksroum_piece_at(size, held, length, ends, k) for k in range(cut.pieces)]
+            wanted = [octets[: p.held_length] + octets[held + p.start : held + p.start + p.length] for p in pieces]
+            found = Recutter(size)._frames(1, octets[: len(octets) - cut.left])
+            self.assertEqual([bytes(frame.payload) for frame in feksroum.frames(found)], wanted)
+
 
 class RulesAndWords(unittest.TestCase):
     def test_decide(self):
@@ -191,6 +214,11 @@ class RulesAndWords(unittest.TestCase):
         self.assertEqual((repr(rules), rules.words), ("Rules('drop,kind=beat', 'keep')", ("drop,kind=beat", "keep")))
         self.assertEqual((rules, hash(rules)), (Rules(*rules.words), hash(Rules(*rules.words))))
         self.assertNotEqual(rules, Rules("keep"))
+
+    def test_copies(self):
+        rules = Rules("drop,channel=1-5", "keep")
+        self.assertEqual(pickle.loads(pickle.dumps(rules)), rules)
+        self.assertEqual(copy.deepcopy(rules).decide(next(feksroum.frames(BEAT))), True)
 
     def test_words_that_are_none(self):
         for word in ("", "keep,class=060", "keep ", "kéep", "\ud800", "keep,channel=5-1", "Keep"):

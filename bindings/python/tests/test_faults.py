@@ -8,7 +8,7 @@ import unittest
 from unittest import mock
 
 import feksroum
-from feksroum import _canonical, _frames, _library, _text
+from feksroum import _canonical, _compiled, _frames, _library, _text
 
 BEAT = bytes.fromhex("08000000000000ce")
 
@@ -35,8 +35,10 @@ class Statuses(unittest.TestCase):
                 self.assertEqual(caught.exception.status, 99)
         with mock.patch.object(_canonical, "library_for", lambda length: answers):
             self.assertRaises(feksroum.UnknownStatus, feksroum.canonicalize, BEAT)
-        with mock.patch.object(_frames, "library_for", lambda length: answers):
+        in_python = mock.patch.object(_compiled, "native", None)
+        with mock.patch.object(_frames, "_direct", lambda *arguments: _library.Batch(0, 0, 0, 0, 99, 0)), in_python:
             self.assertRaises(feksroum.UnknownStatus, list, feksroum.frames(BEAT))
+        with mock.patch.object(_frames, "library_for", lambda length: answers):
             self.assertRaises(feksroum.UnknownStatus, feksroum.check, 1, b"")
 
     def test_out_of_memory(self):
@@ -52,7 +54,7 @@ class Statuses(unittest.TestCase):
     def test_text_of_an_error(self):
         with self.assertRaises(feksroum.UnknownFrameType) as caught:
             feksroum.canonicalize(BEAT + b"\x09")
-        self.assertEqual(str(caught.exception), "UnknownFrameType at byte 8: The first byte of a frame names no frame type.")
+        self.assertEqual(str(caught.exception), "UnknownFrameType at byte 8: The first byte of a frame is none of 1, 2, 3, 8 and 65.")
         self.assertEqual(str(feksroum.UnknownStatus(3, 99)).split(":")[0], "UnknownStatus at byte 3")
 
     def test_copies(self):

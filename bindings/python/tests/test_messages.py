@@ -143,7 +143,7 @@ class Faults(unittest.TestCase):
         error = caught.exception
         text = "BadContent at byte 8: a body outside of a message, or before the content header (UnexpectedBody), on channel 7."
         self.assertEqual((str(error), error.used), (text, 8))
-        for number, words in ((1, "The end came between two frames, inside a message."), (3, "The end came between two frames, inside a message: 3 open.")):
+        for number, words in ((1, "The input ends inside a message."), (3, "The input ends inside a message: 3 open.")):
             self.assertEqual(str(feksroum.OpenContent(9, number)), f"OpenContent at byte 9: {words}")
         for one in (error, feksroum.OpenContent(9, 3)):
             same = pickle.loads(pickle.dumps(one))
@@ -159,7 +159,7 @@ class Faults(unittest.TestCase):
         for source in (data + b"\3", [data, b"\3"]):
             self.assertRaises(feksroum.CutShort, list, feksroum.messages(source))
         self.assertRaises(feksroum.UnknownFrameType, list, feksroum.messages([data, b"\x09", BEAT]))
-        self.assertRaises(TypeError, list, feksroum.messages("text"))
+        self.assertRaises(TypeError, feksroum.messages, "text")
         self.assertRaises(TypeError, list, feksroum.messages([1, 2]))
 
 

@@ -92,6 +92,13 @@ class Methods(unittest.TestCase):
         self.assertEqual({method.name.split(".")[0] for method in METHODS.values() if theirs_of(method) is None}, {"access"})
         self.assertEqual(seen, 64)
 
+    def test_by_name_alone(self):
+        """The methods in which a place means something else in pamqp take their fields by name."""
+        for theirs in commands.INDEX_MAPPING.values():
+            ours = METHODS[theirs.index >> 16, theirs.index & 0xFFFF]
+            names = list(theirs.__slots__)[: len(ours.__slots__)]
+            self.assertEqual(ours.by_name, names != list(ours.__slots__), ours.name)
+
     def test_defaults(self):
         """What pamqp gives a field that is not given, where that is a value of its kind."""
         for theirs in commands.INDEX_MAPPING.values():
@@ -106,7 +113,7 @@ class Methods(unittest.TestCase):
         for method in METHODS.values():
             theirs = theirs_of(method)
             for _ in range(40 if theirs and method.kinds else int(theirs is not None)):
-                made = method(*(value_of(pick, kind) for kind in method.kinds))
+                made = method(**{name: value_of(pick, kind) for name, kind in method.fields})
                 with self.subTest(method=made):
                     self.both_read(made, theirs)
                 done += 1

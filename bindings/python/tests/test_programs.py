@@ -8,6 +8,7 @@ import subprocess
 import sys
 import tempfile
 import unittest
+from unittest import mock
 
 import feksroum
 from feksroum import Basic, Connection
@@ -83,7 +84,7 @@ class Programs(unittest.TestCase):
             start, close = all_frames(made)
             self.assertIsInstance(start.method, Connection.Start)
             self.assertEqual(
-                close.method.reply_text, "FRAME_ERROR - UnknownFrameType at byte 8: The first byte of a frame names no frame type.")
+                close.method.reply_text, "FRAME_ERROR - UnknownFrameType at byte 8: The first byte of a frame is none of 1, 2, 3, 8 and 65.")
 
     def test_recorder(self):
         with tempfile.TemporaryDirectory() as folder, Listening("server.py", "--port", "0") as server:
@@ -151,6 +152,33 @@ class Programs(unittest.TestCase):
             with Listening("proxy.py", *words, "--recut", "7") as proxy, connection(proxy.port) as made:
                 made.sendall(feksroum.encode(0, feksroum.ProtocolHeader()) + feksroum.encode(1, feksroum.Body(b"x")))
                 self.assertIn("client: BadContent at byte 8: a body outside of a message", proxy.line())
+
+    def test_proxy_drops_messages(self):
+        """Of a queue, or by routing key: what else is published arrives."""
+        with Listening("server.py", "--port", "0") as server:
+            words = "--broker", f"localhost:{server.port}", "--listen", "0"
+            for more, answer in (
+                (["--drop-queue", "kept"], Basic.GetEmpty), (["--drop-queue", "other"], Basic.GetOk), (["--drop-key", "kept"], Basic.GetEmpty),
+                (["--drop-key", "kept.*"], Basic.GetOk), (["--drop-key", "#"], Basic.GetEmpty),
+                (["--drop-key", "other", "--keep", "keep", "--recut", "2"], Basic.GetOk),
+            ):
+                with Listening("proxy.py", *words, *more) as proxy:
+                    self.check_get(proxy.port, answer)
+
+    def test_brokers_without_a_port(self):
+        for name, more in (("proxy.py", []), ("recorder.py", ["/dev/null"])):
+            with Listening(name, "--broker", "localhost", "--listen", "0", *more) as program:
+                self.assertTrue(program.port.isdigit(), name)
+
+    def test_a_publish_is_not_delayed(self):
+        """It is sent at once: no piece of it waits until the peer has acknowledged another."""
+        with Listening("server.py", "--port", "0") as server:
+            made = Client("localhost", int(server.port), "guest", "guest", "/")
+            self.assertTrue(made._socket.getsockopt(socket.IPPROTO_TCP, socket.TCP_NODELAY))
+            with mock.patch.object(made, "_socket", mock.Mock(wraps=made._socket)) as watched:
+                made.publish("q", b"hello", feksroum.Properties())
+                self.assertEqual(watched.sendall.call_count, 2)
+            made._socket.close()
 
     def test_proxy_refuses_other_words(self):
         for more, why in ((["--keep", "keep", "keep,all"], "'keep,all' is no rule"), (["--recut", "0"], "the size of a piece")):

@@ -1,6 +1,5 @@
 """Methods, properties and tables: reading, writing, and reading again."""
 
-import contextlib
 import copy
 import datetime
 import doctest
@@ -12,10 +11,9 @@ import struct
 import sys
 import unittest
 from decimal import Decimal
-from unittest import mock
 
 import feksroum
-from feksroum import Basic, Connection, Exchange, Properties, Queue, _library, _reading, values
+from feksroum import Basic, Connection, Exchange, Properties, Queue, values
 from feksroum.methods import METHODS
 from feksroum.values import Float32, Float64, Int8, Int16, Int32, Int64, LongString, Timestamp, UInt8, UInt16, UInt32
 
@@ -85,7 +83,7 @@ class Methods(unittest.TestCase):
         self.assertRaises(TypeError, hash, Basic.Ack(1))
 
     def test_copies(self):
-        method = Queue.Declare("q", arguments={"k": [1, Int64(2)]})
+        method = Queue.Declare(queue="q", arguments={"k": [1, Int64(2)]})
         for same in (copy.deepcopy(method), pickle.loads(pickle.dumps(method))):
             self.assertEqual(same, method)
             self.assertIs(type(same), Queue.Declare)
@@ -97,7 +95,7 @@ class Methods(unittest.TestCase):
     def test_each_method_comes_back(self):
         samples = {1: 200, 2: 40_000, 3: 3_000_000_000, 4: 2**64 - 1, 5: True, 6: "ü", 7: b"\xff\0", 8: {"k": "v"}}
         for method in METHODS.values():
-            for made in (method(), method(*(samples[kind] for kind in method.kinds))):
+            for made in (method(), method(**{name: samples[kind] for name, kind in method.fields})):
                 with self.subTest(method.name):
                     data = feksroum.encode(7, made)
                     frame = only(data)
@@ -161,13 +159,13 @@ class Contents(unittest.TestCase):
         refused = [
             (TypeError, (1, "x")), (TypeError, (1, Basic.Ack(1), b"x")), (ValueError, (65536, Basic.Ack(1))),
             (ValueError, (-1, Basic.Ack(1))), (ValueError, (1, Basic.Ack(2**64))), (ValueError, (1, Basic.Ack(-1))),
-            (TypeError, (1, Basic.Ack("1"))), (TypeError, (1, Queue.Declare(1))), (feksroum.TooLong, (1, Queue.Declare("x" * 256))),
-            (UnicodeEncodeError, (1, Queue.Declare("\ud800"))), (ValueError, (1, Basic.Qos(65536))),
+            (TypeError, (1, Basic.Ack("1"))), (TypeError, (1, Queue.Declare(queue=1))), (feksroum.TooLong, (1, Queue.Declare(queue="x" * 256))),
+            (UnicodeEncodeError, (1, Queue.Declare(queue="\ud800"))), (ValueError, (1, Basic.Qos(prefetch_count=65536))),
             (TypeError, (1, Basic.Ack(1, "x"))),
             (TypeError, (1, Queue.Declare(arguments=[1]))), (TypeError, (1, Queue.Declare(arguments={1: 1}))),
             (feksroum.TooLong, (1, Queue.Declare(arguments={"x" * 256: 1}))), (TypeError, (1, Connection.Secure(7))),
             (ValueError, (1, Basic.Ack(1), None, 8)), (ValueError, (1, Basic.Ack(1), None, -1)),
-            (feksroum.TooLarge, (1, Queue.Declare("x" * 200), None, 100)), (ValueError, (1, Properties(priority=256))),
+            (feksroum.TooLarge, (1, Queue.Declare(queue="x" * 200), None, 100)), (ValueError, (1, Properties(priority=256))),
         ]
         for error, arguments in refused:
             with self.subTest(arguments=arguments), self.assertRaises(error):
@@ -176,8 +174,8 @@ class Contents(unittest.TestCase):
             feksroum.encode(1, Queue.DeclareOk("q", 2**32, 0))
         self.assertIn("message_count", str(caught.exception))
         for method, name in (
-            (Basic.Ack("1"), "delivery_tag: a number"), (Queue.Declare(arguments={"k": {1}}), "arguments: no value"),
-            (Queue.Declare(arguments={"k": 2**63}), "arguments: 92"),
+            (Basic.Ack("1"), "delivery_tag: a number"), (Queue.Declare(arguments={"k": {1}}), "arguments['k']: no value"),
+            (Queue.Declare(arguments={"k": 2**63}), "arguments['k']: 92"),
         ):
             with self.assertRaises((TypeError, OverflowError)) as caught:
                 feksroum.encode(1, method)
@@ -260,7 +258,7 @@ class Tables(unittest.TestCase):
             (2**63, OverflowError), (-(2**63) - 1, OverflowError), (object(), TypeError), ({1: 2}, TypeError),
             (Decimal("-1"), ValueError), (Decimal("NaN"), ValueError), (Decimal(2**32), ValueError), (Decimal("1E-256"), ValueError),
             (Decimal("1E+99999999"), ValueError),
-            (datetime.datetime(2026, 1, 1), ValueError), (datetime.datetime(1969, 1, 1, tzinfo=UTC), ValueError), (1j, TypeError),
+            (datetime.datetime(1969, 1, 1, tzinfo=UTC), ValueError), (1j, TypeError),
             ("\udc80", UnicodeEncodeError), (set(), TypeError),
         ):
             with self.subTest(value=value), self.assertRaises(error):
@@ -326,53 +324,6 @@ def made_table(pick, depth):
     """The content of a table with keys in no order, some of them twice."""
     keys = [pick.choice((b"", b"a", b"b", "é".encode(), b"long key")) for _ in range(pick.randrange(8))]
     return b"".join(bytes([len(key)]) + key + made_value(pick, depth) for key in keys)
-
-
-@unittest.skipUnless(_reading.compiled_table, "_nodes.c is not built")
-class CompiledLoops(unittest.TestCase):
-    """What _nodes.c makes is what the loops in Python make, and no list of nodes leads it astray."""
-
-    def both(self, content):
-        data, without = declare(content), mock.patch.object(_reading, "compiled_table", None)
-        compiled = only(data).method.arguments
-        with without:
-            plain = only(data).method.arguments
-        self.assertEqual(repr(compiled), repr(plain))
-
-    def test_equal(self):
-        pick = random.Random(11)
-        for _ in range(500):
-            self.both(made_table(pick, 4))
-        for key in (b"", b"k" * 31, b"k" * 32, b"k" * 255, "é".encode()):
-            self.both(bytes([len(key)]) + key + b"V" + bytes([len(key)]) + key + b"t\1")
-
-    def test_types(self):
-        pick = random.Random(12)
-        for _ in range(500):
-            table = table_of(made_table(pick, 2))
-            with mock.patch.object(_reading, "compiled_table", None):
-                data = feksroum.encode(1, Queue.Declare(arguments=table))
-                plain = only(data).method.arguments
-            self.assertEqual(types_of(only(data).method.arguments), types_of(plain))
-
-    def test_nodes_that_lie_outside(self):
-        pick, source = random.Random(13), bytes(range(97, 123))
-        for _ in range(3000):
-            nodes = b"".join(
-                _library.NODE.pack(
-                    pick.randrange(2**64), *(pick.choice((0, 1, 5, 26, 2**32 - 1)) for _ in range(5)), pick.choice((0, 3, 255)),
-                    pick.choice(b"tbBsuIilfdDSATFxV?"), 0, pick.randrange(256))
-                for _ in range(pick.randrange(6)))
-            first, end = pick.choice((-1, 0, 1, 7)), pick.choice((-1, 0, 3, 5, 2**40))
-            with contextlib.suppress(ValueError, OverflowError, KeyError, struct.error):
-                _reading.compiled_table(source, nodes, first, end, *_reading._CALLED)
-
-
-def types_of(value):
-    """The types of a value and of all that lies in it."""
-    if isinstance(value, dict):
-        return [(key, types_of(inner)) for key, inner in value.items()]
-    return [types_of(inner) for inner in value] if isinstance(value, list) else type(value)
 
 
 class Speed(unittest.TestCase):

@@ -1,8 +1,8 @@
 //! Arrays: values in a row.
 
-use crate::draft::Items;
 use crate::encode::EncodeError;
 use crate::error::Error;
+use crate::items::Items;
 use crate::value::Value;
 use crate::walk::{self, Walk};
 use std::fmt;

@@ -11,6 +11,8 @@ use std::iter::FusedIterator;
 /// What has become of a frame.
 #[derive(Clone, Debug, PartialEq, Eq)]
 #[must_use]
+// It is looked at where it is returned, and a box would take memory for each.
+#[allow(clippy::large_enum_variant)]
 pub enum Pushed<'a> {
     /// It is part of no message.
     Passed(Frame<'a>),
@@ -18,6 +20,39 @@ pub enum Pushed<'a> {
     Taken,
     /// Its message is complete.
     Complete(Message),
+}
+
+/// A message, or a frame that is part of none, with memory of its own.
+#[derive(Clone, Debug, PartialEq, Eq, Hash)]
+// As of `Pushed`.
+#[allow(clippy::large_enum_variant)]
+pub enum Received {
+    /// A whole message.
+    Message(Message),
+    /// A frame that is part of no message: each method without content, a heartbeat, a protocol header.
+    Frame(OwnedFrame),
+}
+
+impl Received {
+    /// The message, where it is one.
+    #[must_use]
+    pub fn message(self) -> Option<Message> {
+        match self {
+            Received::Message(message) => Some(message),
+            Received::Frame(_) => None,
+        }
+    }
+}
+
+impl Pushed<'_> {
+    /// What was received, where something was.
+    pub(crate) fn received(self) -> Option<Received> {
+        match self {
+            Pushed::Passed(frame) => Some(Received::Frame(frame.into_owned())),
+            Pushed::Taken => None,
+            Pushed::Complete(message) => Some(Received::Message(message)),
+        }
+    }
 }
 
 /// A message that is not complete.
@@ -34,16 +69,16 @@ struct Open {
 ///
 /// ```
 /// use feksroum::method::BasicPublish;
-/// use feksroum::{Assembler, Content, Encode, Frames, Opening, Properties, MAX_BODY, MAX_PAYLOAD};
+/// use feksroum::{Assembler, Content, Encoder, Frames, Properties, Received, MAX_BODY, MAX_PAYLOAD};
 ///
-/// let mut wire = Vec::new();
-/// BasicPublish { routing_key: "orders", ..BasicPublish::default() }.encode(1, &mut wire)?;
-/// Content { properties: Properties::default().with_priority(1), body: b"hello" }.encode_within(20, 1, &mut wire)?;
+/// let (encoder, mut wire) = (Encoder::new(1).with_max_payload(20), Vec::new());
+/// encoder.encode(&BasicPublish { routing_key: "orders", ..BasicPublish::default() }, &mut wire)?;
+/// encoder.encode(&Content { properties: Properties::default().with_priority(1), body: b"hello" }, &mut wire)?;
 ///
-/// for message in Assembler::new(MAX_BODY, u64::MAX).messages(Frames::new(&wire, MAX_PAYLOAD)) {
-///     let message = message?;
-///     assert!(matches!(message.opening()?, Opening::Publish(publish) if publish.routing_key == "orders"));
-///     assert_eq!((message.channel(), message.properties()?.priority, message.body()), (1, Some(1), &b"hello"[..]));
+/// for received in Assembler::new(MAX_BODY, u64::MAX).messages(Frames::new(&wire, MAX_PAYLOAD)) {
+///     let Received::Message(message) = received? else { continue };
+///     assert_eq!((message.channel(), message.opening().routing_key()), (1, "orders"));
+///     assert_eq!((message.properties().priority, message.body()), (Some(1), &b"hello"[..]));
 /// }
 /// # Ok::<(), Box<dyn std::error::Error>>(())
 /// ```
@@ -76,16 +111,16 @@ impl Assembler {
         match turn.part {
             Ok(Part::None) => {}
             Ok(part) => self.reserve(&frame, part)?,
-            Err(_) => self.remove(frame.channel),
+            Err(_) => self.remove(frame.channel()),
         }
-        self.turns.keep(frame.channel, &turn)?;
+        self.turns.keep(frame.channel(), &turn)?;
         match turn.part {
             Ok(Part::None) => return Ok(Pushed::Passed(frame)),
             Ok(part) => self.add(&frame, part)?,
-            Err(fault) => return Err(Error::BadContent { channel: frame.channel, fault }),
+            Err(fault) => return Err(Error::BadContent { channel: frame.channel(), fault }),
         }
         if turn.finished {
-            return self.complete(frame.channel);
+            return self.complete(frame.channel());
         }
         Ok(Pushed::Taken)
     }
@@ -98,7 +133,7 @@ impl Assembler {
 
     /// How many messages are open.
     #[must_use]
-    pub fn open(&self) -> usize {
+    pub fn open_messages(&self) -> usize {
         self.open.len()
     }
 
@@ -120,7 +155,7 @@ impl Assembler {
         }
     }
 
-    /// The messages of some frames, as they are complete; other frames are passed over. The last item is the error, where there is one:
+    /// The messages of some frames, as they are complete, and the other frames, as they come. The last item is the error, where there is one:
     /// that of the frames, of [`push`](Assembler::push), or of [`finish`](Assembler::finish).
     pub fn messages<'a, I>(self, frames: I) -> Messages<I::IntoIter>
     where
@@ -131,11 +166,11 @@ impl Assembler {
 
     /// Makes room for a frame that is part of a message, where it may be held.
     fn reserve(&mut self, frame: &Frame<'_>, part: Part) -> Result<(), Error> {
-        let length = frame.payload.len();
+        let length = frame.payload().len();
         if self.held.saturating_add(length as u64) > self.max_open {
             return Err(Error::AssemblerFull);
         }
-        let reserved = match self.open.get_mut(&frame.channel) {
+        let reserved = match self.open.get_mut(&frame.channel()) {
             Some(message) if part == Part::Body => message.body.try_reserve(length),
             Some(_) => Ok(()),
             None => return self.open.try_reserve(1).map_err(|_| Error::NoMemory),
@@ -145,16 +180,16 @@ impl Assembler {
 
     /// Adds a frame to the message that is open on its channel.
     fn add(&mut self, frame: &Frame<'_>, part: Part) -> Result<(), Error> {
-        let length = frame.payload.len() as u64;
+        let length = frame.payload().len() as u64;
         if part == Part::Opening {
             let open = Open { opening: frame.into_owned(), header: None, body: Vec::new(), held: length };
-            self.open.insert(frame.channel, open);
+            self.open.insert(frame.channel(), open);
         } else {
-            let message = self.open.get_mut(&frame.channel).ok_or(Error::Incompatible(0))?;
+            let message = self.open.get_mut(&frame.channel()).ok_or(Error::Incompatible(0))?;
             message.held += length;
             match part {
                 Part::Header => message.header = Some(frame.into_owned()),
-                _ => message.body.extend_from_slice(frame.payload),
+                _ => message.body.extend_from_slice(frame.payload()),
             }
         }
         self.held += length;
@@ -165,7 +200,7 @@ impl Assembler {
         let Open { opening, header, body, held } = self.open.remove(&channel).ok_or(Error::Incompatible(0))?;
         self.held -= held;
         let header = header.ok_or(Error::Incompatible(0))?;
-        Ok(Pushed::Complete(Message { channel, opening, header, body }))
+        Ok(Pushed::Complete(Message::of_frames(channel, opening, header, body)?))
     }
 
     fn remove(&mut self, channel: u16) {
@@ -182,11 +217,11 @@ pub struct Messages<I> {
 }
 
 impl<'a, I: Iterator<Item = Result<Frame<'a>, Error>>> Messages<I> {
-    /// The next message, or the end.
-    fn advance(&mut self, assembler: &mut Assembler) -> Result<Option<Message>, Error> {
+    /// What is received next, or the end.
+    fn advance(&mut self, assembler: &mut Assembler) -> Result<Option<Received>, Error> {
         for frame in self.frames.by_ref() {
-            if let Pushed::Complete(message) = assembler.push(frame?)? {
-                return Ok(Some(message));
+            if let Some(received) = assembler.push(frame?)?.received() {
+                return Ok(Some(received));
             }
         }
         Ok(None)
@@ -194,14 +229,14 @@ impl<'a, I: Iterator<Item = Result<Frame<'a>, Error>>> Messages<I> {
 }
 
 impl<'a, I: Iterator<Item = Result<Frame<'a>, Error>>> Iterator for Messages<I> {
-    type Item = Result<Message, Error>;
+    type Item = Result<Received, Error>;
 
     fn next(&mut self) -> Option<Self::Item> {
         let mut assembler = self.assembler.take()?;
         match self.advance(&mut assembler) {
-            Ok(Some(message)) => {
+            Ok(Some(received)) => {
                 self.assembler = Some(assembler);
-                Some(Ok(message))
+                Some(Ok(received))
             }
             Ok(None) => assembler.finish().err().map(Err),
             Err(error) => Some(Err(error)),

@@ -31,11 +31,14 @@ pub struct Progress {
 }
 
 impl Progress {
-    /// What was answered for as many bytes. Counts beyond them are no answer of this library.
-    fn of(found: sys::Progress, length: usize) -> Progress {
-        let within = |count: u64| usize::try_from(count).ok().filter(|count| *count <= length);
+    /// What was answered for these bytes. Counts beyond them are no answer of this library.
+    fn of(found: sys::Progress, bytes: &[u8]) -> Progress {
+        let within = |count: u64| usize::try_from(count).ok().filter(|count| *count <= bytes.len());
         match (within(found.used), within(found.written)) {
-            (Some(used), Some(written)) => Progress { used, written, end: Error::of_status(found.status) },
+            (Some(used), Some(written)) => {
+                let end = Error::of_status(found.status).map_err(|error| error.in_frame(bytes.get(used..).unwrap_or_default()));
+                Progress { used, written, end }
+            }
             _ => Progress { used: 0, written: 0, end: Err(Error::Incompatible(found.status)) },
         }
     }
@@ -49,16 +52,16 @@ impl Progress {
 ///
 /// let bytes = [8, 0, 0, 0, 0, 0, 1, 7, 206, 8, 0, 0];
 /// let mut out = [0; 12];
-/// let progress = canonicalize_slice(&bytes, &mut out, &mut Scratch::none(), MAX_PAYLOAD, Level::Plain);
+/// let progress = canonicalize_slice(&bytes, &mut out, &mut Scratch::new(), MAX_PAYLOAD, Level::Plain);
 /// assert_eq!((progress.used, progress.written, progress.end), (9, 8, Err(Error::CutShort)));
 /// ```
 ///
-/// # Panics
-///
-/// Where `out` is shorter than `bytes`.
+/// Where `out` is shorter than `bytes`, nothing is used or written, and the end is [`Error::BufferTooSmall`].
 pub fn canonicalize_slice(bytes: &[u8], out: &mut [u8], scratch: &mut Scratch, max_payload: u32, level: Level) -> Progress {
-    assert!(out.len() >= bytes.len(), "the buffer is shorter than the bytes");
-    Progress::of(library::canonicalize(bytes, out, scratch.marks(), max_payload, level as u8), bytes.len())
+    if out.len() < bytes.len() {
+        return Progress { used: 0, written: 0, end: Err(Error::BufferTooSmall) };
+    }
+    Progress::of(library::canonicalize(bytes, out, scratch.marks(), max_payload, level as u8), bytes)
 }
 
 /// Writes the canonical bytes of all frames that a reader gives, before each further read. What is held is less than a frame,
@@ -86,7 +89,7 @@ mod tests {
     use super::*;
 
     fn answer(used: u64, written: u64, status: u32) -> Progress {
-        Progress::of(sys::Progress { used, written, status, unused: 0 }, 9)
+        Progress::of(sys::Progress { used, written, status, unused: 0 }, &[8, 0, 0, 0, 0, 0, 1, 7, 206])
     }
 
     #[test]

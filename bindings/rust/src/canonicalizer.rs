@@ -56,14 +56,19 @@ impl Canonicalizer {
         self.held.bytes()
     }
 
+    /// Where in the stream what follows the frames begins that were written: after an error, the offset of what it is about.
+    #[must_use]
+    pub fn position(&self) -> u64 {
+        self.held.taken()
+    }
+
     /// Ends the stream.
     ///
     /// # Errors
     ///
     /// The fault that was met; that of the bytes which are held, and [`Error::CutShort`] where they begin a frame.
     pub fn finish(self) -> Result<(), Error> {
-        self.end?;
-        self.held.finish()
+        Stream::finish(&self)
     }
 }
 
@@ -72,7 +77,12 @@ impl Stream for Canonicalizer {
         Canonicalizer::feed(self, piece, out)
     }
 
-    fn finish(self) -> Result<(), Error> {
-        Canonicalizer::finish(self)
+    fn position(&self) -> u64 {
+        Canonicalizer::position(self)
+    }
+
+    fn finish(&self) -> Result<(), Error> {
+        self.end?;
+        self.held.finish()
     }
 }

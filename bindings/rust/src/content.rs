@@ -1,10 +1,12 @@
 //! Contents of messages: a content header and bodies.
 
-use crate::encode::{Encode, EncodeError};
+use crate::encode::Encode;
 use crate::library;
-use crate::payload::{ContentHeader, Payload};
+use crate::payload::ContentHeader;
 use crate::properties::Properties;
-use crate::MAX_PAYLOAD;
+use crate::put::{Put, To};
+use crate::sys::Made;
+use std::mem::MaybeUninit;
 
 /// The byte after the payload of each frame but a protocol header.
 pub const FRAME_END: u8 = 206;
@@ -14,18 +16,18 @@ pub const FRAME_END: u8 = 206;
 ///
 /// ```
 /// use feksroum::method::BasicPublish;
-/// use feksroum::{max_payload, Content, Encode, Frames, FrameType, Properties};
+/// use feksroum::{Content, Encoder, Frames, FrameType, Properties};
 ///
-/// let (channel, limit) = (1, max_payload(4096));
+/// let encoder = Encoder::new(1).with_frame_max(4096);
 /// let content = Content { properties: Properties::default().with_content_type("text/plain"), body: &[b'-'; 5000] };
 /// let mut wire = Vec::new();
-/// BasicPublish { routing_key: "orders", ..BasicPublish::default() }.encode_within(limit, channel, &mut wire)?;
-/// content.encode_within(limit, channel, &mut wire)?;
+/// encoder.encode(&BasicPublish { routing_key: "orders", ..BasicPublish::default() }, &mut wire)?;
+/// encoder.encode(&content, &mut wire)?;
 ///
-/// let frames: Vec<_> = Frames::new(&wire, limit).collect::<Result<_, _>>()?;
-/// let types: Vec<_> = frames.iter().map(|frame| frame.frame_type).collect();
+/// let frames: Vec<_> = Frames::new(&wire, encoder.max_payload()).collect::<Result<_, _>>()?;
+/// let types: Vec<_> = frames.iter().map(|frame| frame.frame_type()).collect();
 /// assert_eq!(types, [FrameType::Method, FrameType::Header, FrameType::Body, FrameType::Body]);
-/// assert_eq!((frames[1].summary.body_size, frames[2].payload.len()), (5000, 4088));
+/// assert_eq!((frames[1].summary().body_size, frames[2].payload().len()), (5000, 4088));
 /// # Ok::<(), Box<dyn std::error::Error>>(())
 /// ```
 #[derive(Clone, Copy, Debug, Default, PartialEq, Eq)]
@@ -36,42 +38,41 @@ pub struct Content<'a> {
     pub body: &'a [u8],
 }
 
-impl Content<'_> {
-    /// Appends all frames of the content on this channel to `out`, with payloads of at most [`MAX_PAYLOAD`] bytes, and returns
-    /// how many bytes they have. Where one is refused, `out` is as it was.
-    ///
-    /// # Errors
-    ///
-    /// Why it is refused.
-    pub fn encode(&self, channel: u16, out: &mut Vec<u8>) -> Result<usize, EncodeError> {
-        self.encode_within(MAX_PAYLOAD, channel, out)
-    }
+/// The status of a call whose buffer was too short.
+pub const BUFFER_TOO_SMALL: u32 = 40;
 
-    /// Appends all frames with payloads of at most so many bytes, as [`max_payload`](crate::max_payload) has it for the
-    /// frame-max that was agreed on. Each body but the last has just as many.
-    ///
-    /// # Errors
-    ///
-    /// Why one is refused: [`EncodeError::TooLarge`] where the limit leaves no room for the content header.
-    pub fn encode_within(&self, max_payload: u32, channel: u16, out: &mut Vec<u8>) -> Result<usize, EncodeError> {
-        let start = out.len();
-        match self.append(max_payload, channel, out) {
-            Ok(()) => Ok(out.len() - start),
-            Err(error) => {
-                out.truncate(start);
-                Err(error)
-            }
+/// How many bytes the frames have of a body of so many bytes, each with at most so many of them.
+fn bodies_length(length: usize, most: usize) -> usize {
+    const AROUND: usize = 8;
+    length.saturating_add(length.div_ceil(most).saturating_mul(AROUND))
+}
+
+/// Each body but the last has just as many bytes as the limit allows. It is refused as too large where that leaves no room for the
+/// content header.
+impl Encode for Content<'_> {}
+
+impl Put for Content<'_> {
+    fn put(&self, to: To, out: &mut [MaybeUninit<u8>]) -> Made {
+        let most = usize::try_from(to.max_payload).unwrap_or(usize::MAX).max(1);
+        let (header, bodies) = (ContentHeader::new(self.body.len() as u64, self.properties), bodies_length(self.body.len(), most));
+        let room = out.len().saturating_sub(bodies);
+        let mut made = header.put(to, out.get_mut(..room).unwrap_or_default());
+        if made.status == BUFFER_TOO_SMALL {
+            made.length = made.length.saturating_add(bodies as u64);
         }
-    }
-
-    fn append(&self, max_payload: u32, channel: u16, out: &mut Vec<u8>) -> Result<(), EncodeError> {
-        let size = u64::try_from(self.body.len()).map_err(|_| EncodeError::TooLarge)?;
-        ContentHeader::new(size, self.properties).encode_within(max_payload, channel, out)?;
-        let most = usize::try_from(max_payload).unwrap_or(usize::MAX).max(1);
         for part in self.body.chunks(most) {
-            Payload::Body(part).encode_within(max_payload, channel, out)?;
+            if made.status != 0 {
+                break;
+            }
+            let rest = usize::try_from(made.length).ok().and_then(|start| out.get_mut(start..));
+            let body = library::put_body(part, to, rest.unwrap_or_default());
+            made = Made { length: made.length.saturating_add(body.length), ..body };
         }
-        Ok(())
+        made
+    }
+
+    fn too_long(&self) -> Option<&'static str> {
+        ContentHeader::new(0, self.properties).too_long()
     }
 }
 

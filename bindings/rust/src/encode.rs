@@ -1,8 +1,10 @@
 //! Frames written out of what stands in them.
 
-use crate::draft::Draft;
 use crate::error::Error;
-use crate::MAX_PAYLOAD;
+use crate::library;
+use crate::put::{Put, To};
+use crate::sys::Made;
+use crate::{max_payload, SENT_PAYLOAD};
 use std::error;
 use std::fmt;
 
@@ -41,6 +43,19 @@ impl EncodeError {
             (_, Ok(())) => EncodeError::Incompatible(status),
         }
     }
+
+    /// What a call that puts has answered: how many bytes, or why none.
+    fn of_made(made: Made, what: &(impl Put + ?Sized)) -> Result<usize, EncodeError> {
+        const BUFFER_TOO_SMALL: u32 = 40;
+        const TOO_LONG: u32 = 42;
+        let length = usize::try_from(made.length).map_err(|_| EncodeError::TooLarge)?;
+        match made.status {
+            0 => Ok(length),
+            BUFFER_TOO_SMALL => Err(EncodeError::BufferTooSmall { needed: length }),
+            TOO_LONG => Err(what.too_long().map_or(EncodeError::TooLarge, |field| EncodeError::TooLong { field })),
+            status => Err(EncodeError::of_status(status, None)),
+        }
+    }
 }
 
 impl From<Error> for EncodeError {
@@ -60,7 +75,7 @@ impl fmt::Display for EncodeError {
     fn fmt(&self, f: &mut fmt::Formatter<'_>) -> fmt::Result {
         match self {
             EncodeError::TooLong { field } => write!(f, "{field} has more than 255 bytes"),
-            EncodeError::BufferTooSmall { needed } => write!(f, "the slice is too short: the frame has {needed} bytes"),
+            EncodeError::BufferTooSmall { needed } => write!(f, "the slice is too short: {needed} bytes are to be written"),
             EncodeError::TooLarge => Error::TooLarge.fmt(f),
             EncodeError::TooDeep => Error::TooDeep.fmt(f),
             EncodeError::NoMemory => Error::NoMemory.fmt(f),
@@ -71,12 +86,14 @@ impl fmt::Display for EncodeError {
 
 impl error::Error for EncodeError {}
 
-/// What can be written as a frame: a [`Payload`](crate::Payload), a [`Method`](crate::Method) and each of the structs of
-/// [`method`](crate::method), a [`ContentHeader`](crate::ContentHeader), a [`ProtocolHeader`](crate::ProtocolHeader).
+/// What can be written as frames: a [`Payload`](crate::Payload), a [`Method`](crate::Method) and each of the structs of
+/// [`method`](crate::method), a [`ContentHeader`](crate::ContentHeader), a [`ProtocolHeader`](crate::ProtocolHeader); a
+/// [`Content`](crate::Content) and a [`Message`](crate::Message), which are more than one frame.
 ///
-/// Reserved fields are written as their constants. What is written is canonical where the tables in it are: those of a
-/// [`TableBuf::from_entries`](crate::TableBuf::from_entries) are, and those that were read stay as they were sent. A protocol
-/// header has no channel, and the one that is given is not looked at.
+/// What is written is canonical: tables in ascending order of their keys, of duplicate keys the last, reserved fields as their
+/// constants. A protocol header has no channel, and the one that is given is not looked at.
+///
+/// Payloads have at most [`SENT_PAYLOAD`] bytes; after another frame-max was agreed on, an [`Encoder`] has that limit.
 ///
 /// ```
 /// use feksroum::{method::BasicAck, Encode};
@@ -86,49 +103,19 @@ impl error::Error for EncodeError {}
 /// assert_eq!(out, [1, 0, 1, 0, 0, 0, 13, 0, 60, 0, 80, 0, 0, 0, 0, 0, 0, 0, 7, 1, 206]);
 /// # Ok::<(), feksroum::EncodeError>(())
 /// ```
-pub trait Encode: private::Drafts {
-    /// Appends the frame on this channel to `out`, with a payload of at most [`MAX_PAYLOAD`] bytes, and returns how many bytes
-    /// it has. Where it is refused, `out` is as it was.
+pub trait Encode: Put {
+    /// Appends the frames on this channel to `out`, and returns how many bytes they have. Where one is refused, `out` is as it
+    /// was.
     ///
     /// # Errors
     ///
     /// Why it is refused.
+    #[inline]
     fn encode(&self, channel: u16, out: &mut Vec<u8>) -> Result<usize, EncodeError> {
-        self.encode_within(MAX_PAYLOAD, channel, out)
+        Encoder::new(channel).encode(self, out)
     }
 
-    /// Appends the frame with a payload of at most so many bytes, as [`max_payload`](crate::max_payload) has it for the
-    /// frame-max that was agreed on.
-    ///
-    /// ```
-    /// use feksroum::{Encode, EncodeError, Payload};
-    ///
-    /// let mut out = Vec::new();
-    /// assert_eq!(Payload::Body(b"hello").encode_within(4, 1, &mut out), Err(EncodeError::TooLarge));
-    /// assert_eq!(Payload::Body(b"hello").encode_within(5, 1, &mut out), Ok(13));
-    /// ```
-    ///
-    /// # Errors
-    ///
-    /// Why it is refused.
-    fn encode_within(&self, max_payload: u32, channel: u16, out: &mut Vec<u8>) -> Result<usize, EncodeError> {
-        let draft = self.draft()?;
-        let start = out.len();
-        let mut room = draft.room();
-        loop {
-            out.try_reserve(room).map_err(|_| EncodeError::NoMemory)?;
-            out.resize(start + room, 0);
-            match draft.write(max_payload, channel, &mut out[start..], self.names()) {
-                Err(EncodeError::BufferTooSmall { needed }) if needed > room => room = needed,
-                written => {
-                    out.truncate(start + written.unwrap_or(0));
-                    return written;
-                }
-            }
-        }
-    }
-
-    /// Writes the frame at the front of a slice, and returns how many bytes it has. Where it is refused, the slice is as it
+    /// Writes the frames at the front of a slice, and returns how many bytes they have. Where one is refused, the slice is as it
     /// was.
     ///
     /// ```
@@ -142,20 +129,91 @@ pub trait Encode: private::Drafts {
     /// # Errors
     ///
     /// Why it is refused: [`EncodeError::BufferTooSmall`] last.
+    #[inline]
     fn encode_to_slice(&self, channel: u16, out: &mut [u8]) -> Result<usize, EncodeError> {
-        self.draft()?.write(MAX_PAYLOAD, channel, out, self.names())
+        Encoder::new(channel).encode_to_slice(self, out)
     }
 }
 
-pub(crate) mod private {
-    use super::{Draft, EncodeError};
+/// Writes frames on one channel, within the limit of a connection.
+///
+/// ```
+/// use feksroum::method::BasicPublish;
+/// use feksroum::{Content, EncodeError, Encoder, Payload};
+///
+/// let encoder = Encoder::new(1).with_frame_max(4096);
+/// let mut out = Vec::new();
+/// encoder.encode(&BasicPublish { routing_key: "orders", ..BasicPublish::default() }, &mut out)?;
+/// encoder.encode(&Content { body: &[b'-'; 20_000], ..Content::default() }, &mut out)?;
+/// assert_eq!(encoder.encode(&Payload::Body(&[0; 4089]), &mut out), Err(EncodeError::TooLarge));
+/// # Ok::<(), EncodeError>(())
+/// ```
+#[derive(Clone, Copy, Debug, PartialEq, Eq, Hash)]
+pub struct Encoder {
+    channel: u16,
+    max_payload: u32,
+}
 
-    /// What is handed to the library. Nothing outside of the crate has it.
-    pub trait Drafts {
-        /// The frame's head and fields.
-        fn draft(&self) -> Result<Draft<'_>, EncodeError>;
+impl Encoder {
+    /// An encoder for this channel, whose payloads have at most [`SENT_PAYLOAD`] bytes.
+    #[must_use]
+    pub const fn new(channel: u16) -> Encoder {
+        Encoder { channel, max_payload: SENT_PAYLOAD }
+    }
 
-        /// The names of its fields, as the standard has them.
-        fn names(&self) -> &'static [&'static str];
+    /// The same within the frame-max that was agreed on: of frames with at most so many bytes, 0 for no limit.
+    #[must_use]
+    pub fn with_frame_max(self, frame_max: u32) -> Encoder {
+        self.with_max_payload(max_payload(frame_max))
+    }
+
+    /// The same with payloads of at most so many bytes.
+    #[must_use]
+    pub const fn with_max_payload(self, max_payload: u32) -> Encoder {
+        Encoder { max_payload, ..self }
+    }
+
+    /// The same on another channel.
+    #[must_use]
+    pub const fn on_channel(self, channel: u16) -> Encoder {
+        Encoder { channel, ..self }
+    }
+
+    /// Its channel.
+    #[must_use]
+    pub const fn channel(&self) -> u16 {
+        self.channel
+    }
+
+    /// The longest payload that it writes.
+    #[must_use]
+    pub const fn max_payload(&self) -> u32 {
+        self.max_payload
+    }
+
+    /// Appends frames to `out`, and returns how many bytes they have. Where one is refused, `out` is as it was.
+    ///
+    /// # Errors
+    ///
+    /// Why it is refused.
+    #[inline]
+    pub fn encode<E: Encode + ?Sized>(&self, what: &E, out: &mut Vec<u8>) -> Result<usize, EncodeError> {
+        let to = self.to();
+        EncodeError::of_made(library::append(out, |room| what.put(to, room)), what)
+    }
+
+    /// Writes frames at the front of a slice, and returns how many bytes they have. Where one is refused, the slice is as it
+    /// was.
+    ///
+    /// # Errors
+    ///
+    /// Why it is refused: [`EncodeError::BufferTooSmall`] last.
+    #[inline]
+    pub fn encode_to_slice<E: Encode + ?Sized>(&self, what: &E, out: &mut [u8]) -> Result<usize, EncodeError> {
+        EncodeError::of_made(what.put(self.to(), library::room(out)), what)
+    }
+
+    fn to(self) -> To {
+        To { channel: self.channel, max_payload: self.max_payload }
     }
 }

@@ -1,8 +1,5 @@
 //! Fields of methods and properties, of whichever kind.
 
-use crate::draft::Draft;
-use crate::encode::private::Drafts;
-use crate::encode::EncodeError;
 use crate::table::Table;
 
 /// The kinds as nodes have them.
@@ -79,40 +76,21 @@ impl<'a> List<'a> {
         list
     }
 
-    /// The fields that are there, with their places.
-    pub fn iter(&self) -> impl Iterator<Item = (u8, Field<'a>)> + '_ {
-        (0..).zip(self.fields.iter()).filter_map(|(place, field)| Some((place, (*field)?)))
-    }
-
     /// The fields that are there, with their names.
     pub fn named(self, names: &'static [&'static str]) -> impl Iterator<Item = (&'static str, Field<'a>)> {
         names.iter().copied().zip(self.fields).filter_map(|(name, field)| Some((name, field?)))
     }
+
+    /// The name of the first short string that is too long to be written.
+    #[cold]
+    pub fn too_long(self, names: &'static [&'static str]) -> Option<&'static str> {
+        const MOST: usize = 255;
+        self.named(names).find(|(_, field)| matches!(field, Field::ShortString(text) if text.len() > MOST)).map(|(name, _)| name)
+    }
 }
 
-/// A method with its fields.
-pub trait Fielded {
-    /// The ids of its class and of itself.
-    const ID: (u16, u16);
-
-    /// Its name as the standard has it, with that of its class.
-    const NAME: &'static str;
-
-    /// The names of its fields as the standard has them.
-    const NAMES: &'static [&'static str];
-
+/// What has fields.
+pub trait Listed {
     /// Its fields.
     fn list(&self) -> List<'_>;
-}
-
-impl<T: Fielded> Drafts for T {
-    fn draft(&self) -> Result<Draft<'_>, EncodeError> {
-        let mut draft = Draft::method(T::ID);
-        draft.put(&self.list())?;
-        Ok(draft)
-    }
-
-    fn names(&self) -> &'static [&'static str] {
-        T::NAMES
-    }
 }

@@ -2,8 +2,11 @@
 
 use crate::error::Error;
 use crate::library;
+use crate::library::fields::{self, Fields, Found};
 use crate::owned::OwnedFrame;
 use crate::payload::Payload;
+use std::fmt;
+use std::hash::{Hash, Hasher};
 
 /// What the first byte of a frame names.
 #[derive(Clone, Copy, Debug, PartialEq, Eq, Hash)]
@@ -26,6 +29,7 @@ impl FrameType {
     /// # Errors
     ///
     /// [`Error::UnknownFrameType`] where it names none.
+    #[inline]
     pub fn from_byte(byte: u8) -> Result<FrameType, Error> {
         match byte {
             1 => Ok(FrameType::Method),
@@ -38,7 +42,8 @@ impl FrameType {
     }
 
     /// How many bytes of a frame come before its payload.
-    pub(crate) fn payload_start(self) -> usize {
+    #[inline]
+    fn payload_start(self) -> usize {
         match self {
             FrameType::ProtocolHeader => 5,
             _ => 7,
@@ -48,6 +53,7 @@ impl FrameType {
 
 /// What stands in a whole payload, without its fields.
 #[derive(Clone, Copy, Debug, PartialEq, Eq, Hash)]
+#[non_exhaustive]
 pub struct Summary {
     /// The class of a method or content header, else 0.
     pub class_id: u16,
@@ -80,7 +86,9 @@ pub struct Summary {
 /// The payload's fault, where it is no frame.
 pub fn check(frame_type: FrameType, payload: &[u8]) -> Result<Summary, Error> {
     let found = library::check(frame_type as u8, payload);
-    Error::of_status(found.status)?;
+    if found.status != 0 {
+        return Err(Error::of_payload(found.status, payload));
+    }
     Ok(Summary {
         class_id: found.class_id,
         method_id: found.method_id,
@@ -91,20 +99,14 @@ pub fn check(frame_type: FrameType, payload: &[u8]) -> Result<Summary, Error> {
     })
 }
 
-/// A whole frame, borrowed from the bytes that it was found in.
-#[derive(Clone, Copy, Debug, PartialEq, Eq, Hash)]
-#[non_exhaustive]
+/// A whole frame, borrowed from the bytes that it was found in. It is read once: [`decode`](Frame::decode) does not look at its
+/// bytes again.
+#[derive(Clone, Copy)]
 pub struct Frame<'a> {
-    /// What it is.
-    pub frame_type: FrameType,
-    /// Its channel, 0 for a protocol header.
-    pub channel: u16,
-    /// Its payload, of a protocol header the three version bytes.
-    pub payload: &'a [u8],
-    /// All of its bytes.
-    pub bytes: &'a [u8],
-    /// What stands in the payload.
-    pub summary: Summary,
+    frame_type: FrameType,
+    channel: u16,
+    found: Found,
+    fields: Fields<'a>,
 }
 
 impl<'a> Frame<'a> {
@@ -114,12 +116,57 @@ impl<'a> Frame<'a> {
     ///
     /// [`Error::CutShort`] where the bytes end inside it, or there are none; else its fault. These stay the same, whatever
     /// bytes follow.
+    #[inline]
     pub fn first(bytes: &'a [u8], max_payload: u32) -> Result<Frame<'a>, Error> {
-        let found = library::next(bytes, max_payload);
-        Error::of_status(found.status)?;
-        let frame_type = FrameType::from_byte(found.frame_type)?;
-        let (bytes, payload) = parts(bytes, frame_type, found.used, found.payload_length).ok_or(Error::Incompatible(0))?;
-        Ok(Frame { frame_type, channel: found.channel, payload, bytes, summary: check(frame_type, payload)? })
+        let outer = library::next(bytes, max_payload);
+        Error::of_status(outer.status)?;
+        let frame_type = FrameType::from_byte(outer.frame_type)?;
+        let used = usize::try_from(outer.used).map_err(|_| Error::Incompatible(0))?;
+        let length = usize::try_from(outer.payload_length).map_err(|_| Error::Incompatible(0))?;
+        let bytes = bytes.get(..used).ok_or(Error::Incompatible(0))?;
+        let (found, fields) = fields::read(outer.frame_type, bytes, frame_type.payload_start(), length)?;
+        Ok(Frame { frame_type, channel: outer.channel, found, fields })
+    }
+
+    /// The frame that is kept.
+    pub(crate) fn kept(frame_type: FrameType, channel: u16, found: Found, fields: Fields<'a>) -> Frame<'a> {
+        Frame { frame_type, channel, found, fields }
+    }
+
+    /// What was found in its payload, and its fields.
+    pub(crate) fn parts(&self) -> (&Found, &Fields<'a>) {
+        (&self.found, &self.fields)
+    }
+
+    /// What it is.
+    #[must_use]
+    pub fn frame_type(&self) -> FrameType {
+        self.frame_type
+    }
+
+    /// Its channel, 0 for a protocol header.
+    #[must_use]
+    pub fn channel(&self) -> u16 {
+        self.channel
+    }
+
+    /// Its payload, of a protocol header the three version bytes.
+    #[must_use]
+    pub fn payload(&self) -> &'a [u8] {
+        self.fields.payload()
+    }
+
+    /// All of its bytes.
+    #[must_use]
+    pub fn bytes(&self) -> &'a [u8] {
+        self.fields.bytes()
+    }
+
+    /// What stands in the payload, without its fields.
+    #[must_use]
+    pub fn summary(&self) -> Summary {
+        let Found { body_size, nodes, class_id, method_id, canonical, tidy, .. } = self.found;
+        Summary { class_id, method_id, body_size, fields: u8::try_from(nodes).unwrap_or(u8::MAX), canonical, tidy }
     }
 
     /// What stands in the payload, with all fields, borrowed.
@@ -138,9 +185,10 @@ impl<'a> Frame<'a> {
     ///
     /// # Errors
     ///
-    /// The payload's fault. A frame that [`Frames`] or [`first`](Frame::first) gave has none.
+    /// [`Error::Incompatible`] alone, where another version of the library is linked.
+    #[inline]
     pub fn decode(&self) -> Result<Payload<'a>, Error> {
-        Payload::read(self.frame_type, self.payload)
+        Payload::of(self.frame_type, &self.found, &self.fields)
     }
 
     /// The frame with bytes of its own.
@@ -150,11 +198,47 @@ impl<'a> Frame<'a> {
     }
 }
 
-/// A frame in front that uses so many bytes, and its payload, where they are there.
-fn parts(bytes: &[u8], frame_type: FrameType, used: u64, payload_length: u64) -> Option<(&[u8], &[u8])> {
-    let frame = bytes.get(..usize::try_from(used).ok()?)?;
-    let payload = frame.get(frame_type.payload_start()..)?.get(..usize::try_from(payload_length).ok()?)?;
-    Some((frame, payload))
+impl PartialEq for Frame<'_> {
+    /// By their bytes, which say all.
+    fn eq(&self, other: &Self) -> bool {
+        self.bytes() == other.bytes()
+    }
+}
+
+impl Eq for Frame<'_> {}
+
+impl Hash for Frame<'_> {
+    fn hash<H: Hasher>(&self, state: &mut H) {
+        self.bytes().hash(state);
+    }
+}
+
+impl fmt::Debug for Frame<'_> {
+    /// Its type, its channel, the ids of a method or a content header, and how many bytes its payload has.
+    fn fmt(&self, f: &mut fmt::Formatter<'_>) -> fmt::Result {
+        write!(f, "{:?} on {}", self.frame_type, self.channel)?;
+        match self.frame_type {
+            FrameType::Method => write!(f, ", {}.{}", self.found.class_id, self.found.method_id)?,
+            FrameType::Header => write!(f, ", of {} bytes", self.found.body_size)?,
+            _ => {}
+        }
+        write!(f, ", payload {}", self.payload().len())
+    }
+}
+
+/// How many bytes the frame in front has at least, as far as these bytes say; 8 where they do not have its length. It is no more
+/// than there are where a whole frame or a fault is in front.
+///
+/// ```
+/// use feksroum::{needed, MAX_PAYLOAD};
+///
+/// assert_eq!(needed(&[3, 0, 1], MAX_PAYLOAD), 8);
+/// assert_eq!(needed(&[3, 0, 1, 0, 0, 0, 2, b'h'], MAX_PAYLOAD), 10);
+/// ```
+#[must_use]
+pub fn needed(bytes: &[u8], max_payload: u32) -> usize {
+    let outer = library::next(bytes, max_payload);
+    usize::try_from(outer.needed.max(outer.used)).unwrap_or(usize::MAX)
 }
 
 /// The frames in front of some bytes, one after another. The last item is the error, where they do not all belong to whole
@@ -190,8 +274,16 @@ impl<'a> Frames<'a> {
         self.used
     }
 
+    /// How many bytes the frame after those that were given has at least, as [`needed`] has it: after [`Error::CutShort`] so many
+    /// have to be there.
+    #[must_use]
+    pub fn needed(&self) -> usize {
+        needed(self.rest(), self.max_payload)
+    }
+
     /// The bytes after the frames that were given. After an error they begin with what it is about.
     #[must_use]
+    #[inline]
     pub fn rest(&self) -> &'a [u8] {
         self.bytes.get(self.used..).unwrap_or_default()
     }
@@ -200,13 +292,14 @@ impl<'a> Frames<'a> {
 impl<'a> Iterator for Frames<'a> {
     type Item = Result<Frame<'a>, Error>;
 
+    #[inline]
     fn next(&mut self) -> Option<Self::Item> {
         if self.ended || self.rest().is_empty() {
             return None;
         }
         let frame = Frame::first(self.rest(), self.max_payload);
         match &frame {
-            Ok(frame) => self.used += frame.bytes.len(),
+            Ok(frame) => self.used += frame.bytes().len(),
             Err(_) => self.ended = true,
         }
         Some(frame)
@@ -214,17 +307,3 @@ impl<'a> Iterator for Frames<'a> {
 }
 
 impl std::iter::FusedIterator for Frames<'_> {}
-
-#[cfg(test)]
-mod tests {
-    use super::*;
-
-    #[test]
-    fn spans_beyond_the_bytes_are_none() {
-        let bytes = [3, 0, 1, 0, 0, 0, 2, 104, 105, 206];
-        assert_eq!(parts(&bytes, FrameType::Body, 10, 2), Some((&bytes[..], &bytes[7..9])));
-        for (used, length) in [(11, 2), (10, 4), (6, 0), (u64::MAX, 2), (10, u64::MAX), (u64::MAX - 6, u64::MAX - 6)] {
-            assert_eq!(parts(&bytes, FrameType::Body, used, length), None, "{used}, {length}");
-        }
-    }
-}

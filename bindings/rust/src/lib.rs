@@ -15,7 +15,7 @@
 //!         Payload::Method(Method::BasicPublish(publish)) => assert_eq!(publish.routing_key, "orders"),
 //!         Payload::Header(header) => assert_eq!(header.properties.delivery_mode, Some(2)),
 //!         Payload::Body(body) => assert_eq!(body, b"one espresso"),
-//!         other => println!("{other:?} on {}", frame.channel),
+//!         other => println!("{other:?} on {}", frame.channel()),
 //!     }
 //! }
 //! # Ok::<(), Box<dyn std::error::Error>>(())
@@ -24,11 +24,14 @@
 //! | For | Take |
 //! |---|---|
 //! | frames in a slice | [`Frames`], and [`Frame::decode`] for their fields |
-//! | keeping a frame | [`OwnedFrame`] |
+//! | frames of a connection, read or pushed | [`FrameReader`] |
+//! | keeping a frame, or a method | [`OwnedFrame`], [`OwnedMethod`] |
+//! | code for any method, waiting for one | [`method::MethodInfo`], [`TryFrom`] |
+//! | a close as an error | [`Closed`] |
 //! | whole messages | [`Assembler`] for frames, [`messages`] from a reader, [`MessageReader`] for pieces |
 //! | keeping or dropping messages by rules | [`Rules`]; [`filter`] from a reader to a writer, [`Filter`] for pieces |
 //! | bodies cut anew | [`recut`] from a reader to a writer, [`Recutter`] for pieces |
-//! | frames to be sent | [`Encode`]; [`Content`] for what follows a method that carries content |
+//! | frames to be sent | [`Encode`]; [`Content`] for what follows a method that carries content; [`Encoder`] for a connection's limit |
 //! | tables | [`Table`], [`TableBuf`], [`Value`] |
 //! | canonical bytes | [`canonicalize`] from a reader to a writer, [`Canonicalizer`] for pieces, [`canonicalize_slice`] |
 //! | lines of text | [`dump`] and [`undump`] |
@@ -38,33 +41,41 @@
 //! of it may be used by any number of threads. Connections, channels and logins are the caller's.
 
 #![deny(unsafe_code)]
+#![warn(clippy::pedantic)]
+// The flags of methods are those of the standard; kinds stand in a number by four bits each; structs of C have its names.
+#![allow(clippy::struct_excessive_bools, clippy::unreadable_literal, clippy::struct_field_names)]
 #![forbid(unsafe_op_in_unsafe_fn)]
 
 mod array;
 mod assembler;
 mod canonicalize;
 mod canonicalizer;
+mod closed;
 mod content;
-mod draft;
 mod encode;
 mod error;
 mod field;
 mod filter;
 mod frame;
+mod frame_reader;
 mod held;
+mod items;
+#[allow(unsafe_code)]
 mod library;
 mod message;
 mod message_stream;
 mod messages;
 pub mod method;
+mod method_info;
 mod owned;
 mod payload;
 mod properties;
-mod reader;
+mod put;
 mod recut;
 mod reply_code;
 mod rules;
 mod scratch;
+mod settle;
 mod stream;
 #[allow(unsafe_code)]
 mod sys;
@@ -76,19 +87,21 @@ mod walk;
 mod writer;
 
 pub use array::{Array, ArrayBuf, Values};
-pub use assembler::{Assembler, Messages, Pushed};
+pub use assembler::{Assembler, Messages, Pushed, Received};
 pub use canonicalize::{canonicalize, canonicalize_slice, Level, Progress};
 pub use canonicalizer::Canonicalizer;
+pub use closed::Closed;
 pub use content::{body_head, Content, FRAME_END};
-pub use encode::{Encode, EncodeError};
+pub use encode::{Encode, EncodeError, Encoder};
 pub use error::{Error, StreamError};
 pub use field::Field;
 pub use filter::{filter, Filter};
-pub use frame::{check, Frame, FrameType, Frames, Summary};
+pub use frame::{check, needed, Frame, FrameType, Frames, Summary};
+pub use frame_reader::FrameReader;
 pub use message::{Message, Opening};
 pub use messages::{messages, MessageReader, ReadMessages};
 pub use method::Method;
-pub use owned::OwnedFrame;
+pub use owned::{OwnedFrame, OwnedMethod};
 pub use payload::{ContentHeader, Payload, ProtocolHeader};
 pub use properties::Properties;
 pub use recut::{recut, Recutter};
@@ -100,10 +113,15 @@ pub use text::{dump, undump, Converted};
 pub use turns::ContentFault;
 pub use value::{Decimal, Value};
 
-/// The longest payload that the program accepts, in bytes.
+/// The longest payload that is read where no other limit is agreed on, in bytes, as the program has it: some more than
+/// [`SENT_PAYLOAD`], since some peers count without the 8 bytes around a payload.
 pub const MAX_PAYLOAD: u32 = 131_072;
 
-/// How many bytes the body of a message may have, where nothing else is agreed on: RabbitMQ's own bound.
+/// The longest payload that is written where no other limit is given, in bytes: that of frames of at most 131,072 bytes, which
+/// brokers mostly agree on.
+pub const SENT_PAYLOAD: u32 = 131_064;
+
+/// How many bytes the body of a message may have, where nothing else is agreed on: `RabbitMQ`'s own bound.
 pub const MAX_BODY: u64 = 134_217_728;
 
 /// The longest payload, in bytes, of frames of at most so many: those of a connection on which this `frame_max` was agreed. 0

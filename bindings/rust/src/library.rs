@@ -1,15 +1,21 @@
 //! The C functions over slices. All unsafe code of the crate stands here: each call passes pointers and lengths of slices that
 //! live for the call, and those that are written are borrowed mutably, so that they overlap nothing else. The library keeps no
-//! pointer, and tests everything else that it is given.
+//! pointer, tests everything else that it is given, and has written what it says that it has.
 
-#![allow(unsafe_code)]
+pub mod fields;
+mod headers;
+mod puts;
 
 use crate::error::Error;
-use crate::sys::{self, Channel, Convert, Cut, Fields, Frame, FrameRule, Head, Line, Mark, Node, Payload, Piece, Progress, Turn, Written};
+use crate::put::To;
+use crate::sys::{self, Channel, Convert, Cut, Fields, Frame, FrameRule, Line, Made, Mark, Node, Payload, Piece, Progress, Turn, Written};
 use std::alloc::{alloc_zeroed, Layout};
+use std::mem::MaybeUninit;
+use std::ops::Range;
 use std::ptr::slice_from_raw_parts_mut;
 
 /// The header scan of the frame in front.
+#[inline]
 pub fn next(bytes: &[u8], max_payload: u32) -> Frame {
     // SAFETY: pointer and length are those of `bytes`.
     unsafe { sys::feksroum_next(bytes.as_ptr(), bytes.len(), max_payload) }
@@ -21,35 +27,72 @@ pub fn check(frame_type: u8, payload: &[u8]) -> Payload {
     unsafe { sys::feksroum_check(frame_type, payload.as_ptr(), payload.len()) }
 }
 
-/// The fields of a whole payload, without what lies inside their tables.
-pub fn read(frame_type: u8, payload: &[u8], nodes: &mut [Node]) -> Fields {
-    const SHALLOW: u8 = 0;
-    // SAFETY: pointers and lengths are those of the slices, which do not overlap. A node is numbers, of any bits.
-    unsafe { sys::feksroum_read(frame_type, payload.as_ptr(), payload.len(), SHALLOW, nodes.as_mut_ptr(), nodes.len()) }
-}
-
 /// What fills a table (`F`) or an array (`A`), with all that lies inside.
 pub fn open(kind: u8, content: &[u8], nodes: &mut [Node]) -> Fields {
     // SAFETY: pointers and lengths are those of the slices, which do not overlap. A node is numbers, of any bits.
     unsafe { sys::feksroum_open(kind, content.as_ptr(), content.len(), nodes.as_mut_ptr(), nodes.len()) }
 }
 
-/// The bytes of frames, out of heads and nodes whose spans lie in the pool.
-pub fn write(heads: &[Head], nodes: &[Node], pool: &[u8], max_payload: u32, out: &mut [u8]) -> Written {
-    // SAFETY: pointers and lengths are those of the slices, of which none overlaps `out`.
-    unsafe {
-        sys::feksroum_write(
-            heads.as_ptr(),
-            heads.len(),
-            nodes.as_ptr(),
-            nodes.len(),
-            pool.as_ptr(),
-            pool.len(),
-            max_payload,
-            out.as_mut_ptr(),
-            out.len(),
-        )
+/// Appends what a call puts into the room behind a vector: first into that which is there, and where it is too short, into as much
+/// as the call says. Where it is refused, the vector is as it was.
+#[inline]
+pub fn append(out: &mut Vec<u8>, put: impl Fn(&mut [MaybeUninit<u8>]) -> Made) -> Made {
+    const NO_MEMORY: u32 = 3;
+    const BUFFER_TOO_SMALL: u32 = 40;
+    let mut made = put(out.spare_capacity_mut());
+    if made.status == BUFFER_TOO_SMALL {
+        let Some(()) = usize::try_from(made.length).ok().and_then(|length| out.try_reserve(length).ok()) else {
+            return Made::refused(NO_MEMORY);
+        };
+        made = put(out.spare_capacity_mut());
     }
+    if made.status == 0 {
+        let length = usize::try_from(made.length).unwrap_or(usize::MAX);
+        if length > out.spare_capacity_mut().len() {
+            return Made::refused(u32::MAX);
+        }
+        // SAFETY: so many bytes after the vector's were put, within its capacity.
+        unsafe { out.set_len(out.len() + length) };
+    }
+    made
+}
+
+/// A slice as room, in which nothing but bytes is put.
+pub fn room(out: &mut [u8]) -> &mut [MaybeUninit<u8>] {
+    let (pointer, length) = (out.as_mut_ptr().cast(), out.len());
+    // SAFETY: it is the same memory, borrowed for as long, and all calls that put write bytes.
+    unsafe { std::slice::from_raw_parts_mut(pointer, length) }
+}
+
+/// Puts the frame of a body.
+pub fn put_body(body: &[u8], to: To, out: &mut [MaybeUninit<u8>]) -> Made {
+    // SAFETY: pointers and lengths are those of the slices, which do not overlap.
+    unsafe { sys::feksroum_put_body(to.channel, body.as_ptr(), body.len(), to.max_payload, out.as_mut_ptr().cast(), out.len()) }
+}
+
+/// Puts a heartbeat. The call has no channel, which is written over the one that it puts.
+pub fn put_heartbeat(channel: u16, out: &mut [MaybeUninit<u8>]) -> Made {
+    const CHANNEL: Range<usize> = 1..3;
+    // SAFETY: pointer and length are those of `out`.
+    let made = unsafe { sys::feksroum_put_heartbeat(out.as_mut_ptr().cast(), out.len()) };
+    if made.status == 0 {
+        overwrite(out, CHANNEL, channel);
+    }
+    made
+}
+
+/// Writes a number over what was put there.
+fn overwrite(out: &mut [MaybeUninit<u8>], place: Range<usize>, number: u16) {
+    for (byte, new) in out.get_mut(place).unwrap_or_default().iter_mut().zip(number.to_be_bytes()) {
+        byte.write(new);
+    }
+}
+
+/// Puts a protocol header of this version.
+pub fn put_protocol_header(version: [u8; 3], out: &mut [MaybeUninit<u8>]) -> Made {
+    let [major, minor, revision] = version;
+    // SAFETY: pointer and length are those of `out`.
+    unsafe { sys::feksroum_put_protocol_header(major, minor, revision, out.as_mut_ptr().cast(), out.len()) }
 }
 
 /// What fills a table (`F`) or an array (`A`), out of nodes whose spans lie in the pool.
@@ -150,6 +193,8 @@ pub fn name(status: u8) -> Vec<u8> {
 /// # Errors
 ///
 /// [`Error::NoMemory`] where so much is not to be had.
+// The layout is that of marks, and so is the alignment.
+#[allow(clippy::cast_ptr_alignment)]
 pub fn zeroed_marks(length: usize) -> Result<Box<[Mark]>, Error> {
     let layout = Layout::array::<Mark>(length).map_err(|_| Error::NoMemory)?;
     if layout.size() == 0 {

@@ -3,7 +3,7 @@
 use crate::canonicalize::Level;
 use crate::error::Error;
 use crate::frame::{Frame, Frames};
-use crate::held::Held;
+use crate::held::{Held, Passed};
 use crate::stream::Stream;
 use crate::turns::{Part, Turns};
 use crate::writer::Writer;
@@ -31,32 +31,45 @@ struct TurningFrames<T> {
 }
 
 impl<T: Take> TurningFrames<T> {
-    /// Takes the whole frames in front, and returns how many bytes they have.
-    fn pass(&mut self, bytes: &[u8], out: &mut Vec<u8>) -> Result<usize, Error> {
-        let mut frames = Frames::new(bytes, self.max_payload);
-        for frame in frames.by_ref() {
-            match frame {
-                Err(Error::CutShort) => break,
-                Err(error) => return Err(error),
-                Ok(frame) => {
-                    let (part, ends) = self.turns.step(&frame)?;
-                    self.take.take(&frame, part, ends, &mut self.writer, out)?;
-                }
-            }
-        }
-        Ok(frames.used())
+    fn take(&mut self, frame: &Frame<'_>, out: &mut Vec<u8>) -> Result<(), Error> {
+        let (part, ends) = self.turns.step(frame)?;
+        self.take.take(frame, part, ends, &mut self.writer, out)
+    }
+
+    /// Takes the whole frames in front.
+    fn pass(&mut self, bytes: &[u8], out: &mut Vec<u8>) -> Passed {
+        pass_frames(bytes, self.max_payload, |frame| self.take(&frame, out))
     }
 }
 
+/// Takes the whole frames in front, up to the first that is refused.
+pub fn pass_frames<'a>(bytes: &'a [u8], max_payload: u32, mut take: impl FnMut(Frame<'a>) -> Result<(), Error>) -> Passed {
+    let mut used = 0;
+    for frame in Frames::new(bytes, max_payload) {
+        let taken = frame.and_then(|frame| take(frame).map(|()| frame.bytes().len()));
+        match taken {
+            Ok(length) => used += length,
+            Err(Error::CutShort) => break,
+            Err(error) => return Passed { used, end: Err(error) },
+        }
+    }
+    Passed { used, end: Ok(()) }
+}
+
 impl<T: Take> MessageStream<T> {
+    /// Where in the stream what follows the frames begins that were taken.
+    pub fn position(&self) -> u64 {
+        self.held.taken()
+    }
+
     pub fn new(max_payload: u32, take: T) -> MessageStream<T> {
         let (turns, writer) = (Turns::new(u64::MAX), Writer::new(max_payload, Level::Plain));
         MessageStream { held: Held::new(max_payload), frames: TurningFrames { turns, writer, max_payload, take }, end: Ok(()) }
     }
 
     /// How many messages are open.
-    pub fn open(&self) -> usize {
-        self.frames.turns.open()
+    pub fn open_messages(&self) -> usize {
+        self.frames.turns.open_messages()
     }
 }
 
@@ -68,7 +81,11 @@ impl<T: Take> Stream for MessageStream<T> {
         self.end
     }
 
-    fn finish(self) -> Result<(), Error> {
+    fn position(&self) -> u64 {
+        MessageStream::position(self)
+    }
+
+    fn finish(&self) -> Result<(), Error> {
         self.end?;
         self.held.finish()?;
         self.frames.turns.finish()

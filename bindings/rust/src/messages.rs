@@ -1,32 +1,32 @@
 //! Whole messages out of bytes that come in pieces.
 
-use crate::assembler::{Assembler, Pushed};
+use crate::assembler::{Assembler, Received};
 use crate::error::{Error, StreamError};
-use crate::frame::Frames;
 use crate::held::Held;
-use crate::message::Message;
+use crate::message_stream::pass_frames;
 use crate::stream::{self, PIECE};
 use std::collections::VecDeque;
 use std::io::Read;
 use std::iter::FusedIterator;
 
-/// Reads the messages of a stream that is pushed to it in pieces of any size; frames that are part of none are passed over.
+/// Reads the messages of a stream that is pushed to it in pieces of any size, and the frames that are part of none.
 ///
 /// ```
 /// use feksroum::method::BasicPublish;
-/// use feksroum::{Assembler, Content, Encode, MessageReader, MAX_BODY, MAX_PAYLOAD};
+/// use feksroum::{Assembler, Content, Encode, MessageReader, Payload, Received, MAX_BODY, MAX_PAYLOAD};
 ///
 /// let mut wire = Vec::new();
 /// BasicPublish::default().encode(1, &mut wire)?;
 /// Content { body: b"hello", ..Content::default() }.encode(1, &mut wire)?;
+/// Payload::Heartbeat.encode(0, &mut wire)?;
 ///
 /// let mut reader = MessageReader::new(MAX_PAYLOAD, Assembler::new(MAX_BODY, u64::MAX));
-/// let mut messages = Vec::new();
+/// let mut received = Vec::new();
 /// for piece in wire.chunks(7) {
-///     reader.feed(piece, &mut messages)?;
+///     reader.feed(piece, &mut received)?;
 /// }
 /// reader.finish()?;
-/// assert_eq!(messages[0].body(), b"hello");
+/// assert!(matches!(&received[..], [Received::Message(message), Received::Frame(_)] if message.body() == b"hello"));
 /// # Ok::<(), Box<dyn std::error::Error>>(())
 /// ```
 #[derive(Debug)]
@@ -44,29 +44,20 @@ impl MessageReader {
         MessageReader { held: Held::new(max_payload), assembler, max_payload, end: Ok(()) }
     }
 
-    /// Appends to `messages` those that this piece completes.
+    /// Appends to `received` the messages and the other frames that this piece completes.
     ///
     /// # Errors
     ///
-    /// The fault of what follows the frames that were taken, as [`Frames`] or [`Assembler::push`] has it. Nothing is read after it, and
+    /// The fault of what follows the frames that were taken, as [`Frames`](crate::Frames) or [`Assembler::push`] has it. Nothing is read after it, and
     /// each further call returns it again.
-    pub fn feed(&mut self, piece: &[u8], messages: &mut Vec<Message>) -> Result<(), Error> {
+    pub fn feed(&mut self, piece: &[u8], received: &mut Vec<Received>) -> Result<(), Error> {
         self.end?;
         let MessageReader { held, assembler, max_payload, .. } = self;
         self.end = held.feed(piece, |bytes| {
-            let mut frames = Frames::new(bytes, *max_payload);
-            for frame in frames.by_ref() {
-                match frame {
-                    Err(Error::CutShort) => break,
-                    Err(error) => return Err(error),
-                    Ok(frame) => {
-                        if let Pushed::Complete(message) = assembler.push(frame)? {
-                            messages.push(message);
-                        }
-                    }
-                }
-            }
-            Ok(frames.used())
+            pass_frames(bytes, *max_payload, |frame| {
+                received.extend(assembler.push(frame)?.received());
+                Ok(())
+            })
         });
         self.end
     }
@@ -75,6 +66,12 @@ impl MessageReader {
     #[must_use]
     pub fn assembler(&self) -> &Assembler {
         &self.assembler
+    }
+
+    /// Where in the stream what follows the frames begins that were taken: after an error, the offset of what it is about.
+    #[must_use]
+    pub fn position(&self) -> u64 {
+        self.held.taken()
     }
 
     /// Ends the stream.
@@ -90,18 +87,21 @@ impl MessageReader {
     }
 }
 
-/// The messages of all frames that a reader gives, with payloads of at most so many bytes, as they are complete. The last item is the
-/// error, where there is one.
+/// The messages of all frames that a reader gives, with payloads of at most so many bytes, as they are complete, and the other frames as
+/// they come. The last item is the error, where there is one.
 ///
 /// ```
 /// use feksroum::method::BasicPublish;
-/// use feksroum::{messages, Assembler, Content, Encode, MAX_BODY, MAX_PAYLOAD};
+/// use feksroum::{messages, Assembler, Content, Encode, Received, MAX_BODY, MAX_PAYLOAD};
 ///
 /// let mut wire = Vec::new();
 /// BasicPublish::default().encode(1, &mut wire)?;
 /// Content { body: b"hello", ..Content::default() }.encode(1, &mut wire)?;
-/// for message in messages(&wire[..], MAX_PAYLOAD, Assembler::new(MAX_BODY, u64::MAX)) {
-///     assert_eq!(message?.body(), b"hello");
+/// for received in messages(&wire[..], MAX_PAYLOAD, Assembler::new(MAX_BODY, u64::MAX)) {
+///     match received? {
+///         Received::Message(message) => assert_eq!(message.body(), b"hello"),
+///         Received::Frame(frame) => println!("{frame:?}"),
+///     }
 /// }
 /// # Ok::<(), Box<dyn std::error::Error>>(())
 /// ```
@@ -116,8 +116,8 @@ pub struct ReadMessages<R> {
     reader: R,
     /// None at the end of the input, or after a fault.
     stream: Option<MessageReader>,
-    ready: VecDeque<Message>,
-    /// What comes after the messages that are ready.
+    ready: VecDeque<Received>,
+    /// What comes after those that are ready.
     end: Option<StreamError>,
     piece: Vec<u8>,
 }
@@ -127,19 +127,20 @@ impl<R: Read> ReadMessages<R> {
     fn advance(&mut self, mut stream: MessageReader) -> Result<(), StreamError> {
         let piece = stream::read(&mut self.reader, &mut self.piece).map_err(StreamError::Read)?;
         if piece.is_empty() {
-            return Ok(stream.finish()?);
+            let offset = stream.position();
+            return stream.finish().map_err(|error| StreamError::Frame { error, offset });
         }
         let mut found = Vec::new();
         let fed = stream.feed(piece, &mut found);
         self.ready.extend(found);
-        fed?;
+        fed.map_err(|error| StreamError::Frame { error, offset: stream.position() })?;
         self.stream = Some(stream);
         Ok(())
     }
 }
 
 impl<R: Read> Iterator for ReadMessages<R> {
-    type Item = Result<Message, StreamError>;
+    type Item = Result<Received, StreamError>;
 
     fn next(&mut self) -> Option<Self::Item> {
         while self.ready.is_empty() {

@@ -47,12 +47,15 @@ pub use queue::{
 };
 pub use tx::{TxCommit, TxCommitOk, TxRollback, TxRollbackOk, TxSelect, TxSelectOk};
 
-use crate::draft::Draft;
-use crate::encode::private::Drafts;
-use crate::encode::{Encode, EncodeError};
+pub use crate::method_info::{MethodInfo, OtherMethod};
+
+use crate::encode::Encode;
 use crate::error::Error;
-use crate::field::{Field, Fielded, List};
-use crate::reader::Reader;
+use crate::field::{Field, List, Listed};
+use crate::library::fields::Fields;
+use crate::put::{Put, To};
+use crate::sys::Made;
+use std::mem::MaybeUninit;
 
 /// Any method.
 #[derive(Clone, Copy, Debug, PartialEq, Eq)]
@@ -266,82 +269,83 @@ macro_rules! each {
 }
 
 impl<'a> Method<'a> {
-    /// The method with these ids and fields.
-    pub(crate) fn read(class_id: u16, method_id: u16, fields: &mut Reader<'a, '_>) -> Result<Method<'a>, Error> {
+    /// The method with these ids and fields, whose kinds have to be its own: four bits each, the first one lowest.
+    pub(crate) fn read(class_id: u16, method_id: u16, fields: &Fields<'a>) -> Result<Method<'a>, Error> {
+        let kinds = fields.kinds();
         Ok(match (class_id, method_id) {
-            ConnectionStart::ID => Method::ConnectionStart(ConnectionStart::read(fields)?),
-            ConnectionStartOk::ID => Method::ConnectionStartOk(ConnectionStartOk::read(fields)?),
-            ConnectionSecure::ID => Method::ConnectionSecure(ConnectionSecure::read(fields)?),
-            ConnectionSecureOk::ID => Method::ConnectionSecureOk(ConnectionSecureOk::read(fields)?),
-            ConnectionTune::ID => Method::ConnectionTune(ConnectionTune::read(fields)?),
-            ConnectionTuneOk::ID => Method::ConnectionTuneOk(ConnectionTuneOk::read(fields)?),
-            ConnectionOpen::ID => Method::ConnectionOpen(ConnectionOpen::read(fields)?),
-            ConnectionOpenOk::ID => Method::ConnectionOpenOk(ConnectionOpenOk),
-            ConnectionClose::ID => Method::ConnectionClose(ConnectionClose::read(fields)?),
-            ConnectionCloseOk::ID => Method::ConnectionCloseOk(ConnectionCloseOk),
-            ConnectionBlocked::ID => Method::ConnectionBlocked(ConnectionBlocked::read(fields)?),
-            ConnectionUnblocked::ID => Method::ConnectionUnblocked(ConnectionUnblocked),
-            ConnectionUpdateSecret::ID => Method::ConnectionUpdateSecret(ConnectionUpdateSecret::read(fields)?),
-            ConnectionUpdateSecretOk::ID => Method::ConnectionUpdateSecretOk(ConnectionUpdateSecretOk),
-            ChannelOpen::ID => Method::ChannelOpen(ChannelOpen),
-            ChannelOpenOk::ID => Method::ChannelOpenOk(ChannelOpenOk),
-            ChannelFlow::ID => Method::ChannelFlow(ChannelFlow::read(fields)?),
-            ChannelFlowOk::ID => Method::ChannelFlowOk(ChannelFlowOk::read(fields)?),
-            ChannelClose::ID => Method::ChannelClose(ChannelClose::read(fields)?),
-            ChannelCloseOk::ID => Method::ChannelCloseOk(ChannelCloseOk),
-            AccessRequest::ID => Method::AccessRequest(AccessRequest::read(fields)?),
-            AccessRequestOk::ID => Method::AccessRequestOk(AccessRequestOk),
-            ExchangeDeclare::ID => Method::ExchangeDeclare(ExchangeDeclare::read(fields)?),
-            ExchangeDeclareOk::ID => Method::ExchangeDeclareOk(ExchangeDeclareOk),
-            ExchangeDelete::ID => Method::ExchangeDelete(ExchangeDelete::read(fields)?),
-            ExchangeDeleteOk::ID => Method::ExchangeDeleteOk(ExchangeDeleteOk),
-            ExchangeBind::ID => Method::ExchangeBind(ExchangeBind::read(fields)?),
-            ExchangeBindOk::ID => Method::ExchangeBindOk(ExchangeBindOk),
-            ExchangeUnbind::ID => Method::ExchangeUnbind(ExchangeUnbind::read(fields)?),
-            ExchangeUnbindOk::ID => Method::ExchangeUnbindOk(ExchangeUnbindOk),
-            QueueDeclare::ID => Method::QueueDeclare(QueueDeclare::read(fields)?),
-            QueueDeclareOk::ID => Method::QueueDeclareOk(QueueDeclareOk::read(fields)?),
-            QueueBind::ID => Method::QueueBind(QueueBind::read(fields)?),
-            QueueBindOk::ID => Method::QueueBindOk(QueueBindOk),
-            QueuePurge::ID => Method::QueuePurge(QueuePurge::read(fields)?),
-            QueuePurgeOk::ID => Method::QueuePurgeOk(QueuePurgeOk::read(fields)?),
-            QueueDelete::ID => Method::QueueDelete(QueueDelete::read(fields)?),
-            QueueDeleteOk::ID => Method::QueueDeleteOk(QueueDeleteOk::read(fields)?),
-            QueueUnbind::ID => Method::QueueUnbind(QueueUnbind::read(fields)?),
-            QueueUnbindOk::ID => Method::QueueUnbindOk(QueueUnbindOk),
-            BasicQos::ID => Method::BasicQos(BasicQos::read(fields)?),
-            BasicQosOk::ID => Method::BasicQosOk(BasicQosOk),
-            BasicConsume::ID => Method::BasicConsume(BasicConsume::read(fields)?),
-            BasicConsumeOk::ID => Method::BasicConsumeOk(BasicConsumeOk::read(fields)?),
-            BasicCancel::ID => Method::BasicCancel(BasicCancel::read(fields)?),
-            BasicCancelOk::ID => Method::BasicCancelOk(BasicCancelOk::read(fields)?),
-            BasicPublish::ID => Method::BasicPublish(BasicPublish::read(fields)?),
-            BasicReturn::ID => Method::BasicReturn(BasicReturn::read(fields)?),
-            BasicDeliver::ID => Method::BasicDeliver(BasicDeliver::read(fields)?),
-            BasicGet::ID => Method::BasicGet(BasicGet::read(fields)?),
-            BasicGetOk::ID => Method::BasicGetOk(BasicGetOk::read(fields)?),
-            BasicGetEmpty::ID => Method::BasicGetEmpty(BasicGetEmpty),
-            BasicAck::ID => Method::BasicAck(BasicAck::read(fields)?),
-            BasicReject::ID => Method::BasicReject(BasicReject::read(fields)?),
-            BasicRecoverAsync::ID => Method::BasicRecoverAsync(BasicRecoverAsync::read(fields)?),
-            BasicRecover::ID => Method::BasicRecover(BasicRecover::read(fields)?),
-            BasicRecoverOk::ID => Method::BasicRecoverOk(BasicRecoverOk),
-            BasicNack::ID => Method::BasicNack(BasicNack::read(fields)?),
-            ConfirmSelect::ID => Method::ConfirmSelect(ConfirmSelect::read(fields)?),
-            ConfirmSelectOk::ID => Method::ConfirmSelectOk(ConfirmSelectOk),
-            TxSelect::ID => Method::TxSelect(TxSelect),
-            TxSelectOk::ID => Method::TxSelectOk(TxSelectOk),
-            TxCommit::ID => Method::TxCommit(TxCommit),
-            TxCommitOk::ID => Method::TxCommitOk(TxCommitOk),
-            TxRollback::ID => Method::TxRollback(TxRollback),
-            TxRollbackOk::ID => Method::TxRollbackOk(TxRollbackOk),
+            (10, 10) if kinds == 0x77811 => Method::ConnectionStart(ConnectionStart::read(fields)),
+            (10, 11) if kinds == 0x6768 => Method::ConnectionStartOk(ConnectionStartOk::read(fields)),
+            (10, 20) if kinds == 0x7 => Method::ConnectionSecure(ConnectionSecure::read(fields)),
+            (10, 21) if kinds == 0x7 => Method::ConnectionSecureOk(ConnectionSecureOk::read(fields)),
+            (10, 30) if kinds == 0x232 => Method::ConnectionTune(ConnectionTune::read(fields)),
+            (10, 31) if kinds == 0x232 => Method::ConnectionTuneOk(ConnectionTuneOk::read(fields)),
+            (10, 40) if kinds == 0x6 => Method::ConnectionOpen(ConnectionOpen::read(fields)),
+            (10, 41) if kinds == 0x0 => Method::ConnectionOpenOk(ConnectionOpenOk),
+            (10, 50) if kinds == 0x2262 => Method::ConnectionClose(ConnectionClose::read(fields)),
+            (10, 51) if kinds == 0x0 => Method::ConnectionCloseOk(ConnectionCloseOk),
+            (10, 60) if kinds == 0x6 => Method::ConnectionBlocked(ConnectionBlocked::read(fields)),
+            (10, 61) if kinds == 0x0 => Method::ConnectionUnblocked(ConnectionUnblocked),
+            (10, 70) if kinds == 0x67 => Method::ConnectionUpdateSecret(ConnectionUpdateSecret::read(fields)),
+            (10, 71) if kinds == 0x0 => Method::ConnectionUpdateSecretOk(ConnectionUpdateSecretOk),
+            (20, 10) if kinds == 0x0 => Method::ChannelOpen(ChannelOpen),
+            (20, 11) if kinds == 0x0 => Method::ChannelOpenOk(ChannelOpenOk),
+            (20, 20) if kinds == 0x5 => Method::ChannelFlow(ChannelFlow::read(fields)),
+            (20, 21) if kinds == 0x5 => Method::ChannelFlowOk(ChannelFlowOk::read(fields)),
+            (20, 40) if kinds == 0x2262 => Method::ChannelClose(ChannelClose::read(fields)),
+            (20, 41) if kinds == 0x0 => Method::ChannelCloseOk(ChannelCloseOk),
+            (30, 10) if kinds == 0x555556 => Method::AccessRequest(AccessRequest::read(fields)),
+            (30, 11) if kinds == 0x0 => Method::AccessRequestOk(AccessRequestOk),
+            (40, 10) if kinds == 0x85555566 => Method::ExchangeDeclare(ExchangeDeclare::read(fields)),
+            (40, 11) if kinds == 0x0 => Method::ExchangeDeclareOk(ExchangeDeclareOk),
+            (40, 20) if kinds == 0x556 => Method::ExchangeDelete(ExchangeDelete::read(fields)),
+            (40, 21) if kinds == 0x0 => Method::ExchangeDeleteOk(ExchangeDeleteOk),
+            (40, 30) if kinds == 0x85666 => Method::ExchangeBind(ExchangeBind::read(fields)),
+            (40, 31) if kinds == 0x0 => Method::ExchangeBindOk(ExchangeBindOk),
+            (40, 40) if kinds == 0x85666 => Method::ExchangeUnbind(ExchangeUnbind::read(fields)),
+            (40, 51) if kinds == 0x0 => Method::ExchangeUnbindOk(ExchangeUnbindOk),
+            (50, 10) if kinds == 0x8555556 => Method::QueueDeclare(QueueDeclare::read(fields)),
+            (50, 11) if kinds == 0x336 => Method::QueueDeclareOk(QueueDeclareOk::read(fields)),
+            (50, 20) if kinds == 0x85666 => Method::QueueBind(QueueBind::read(fields)),
+            (50, 21) if kinds == 0x0 => Method::QueueBindOk(QueueBindOk),
+            (50, 30) if kinds == 0x56 => Method::QueuePurge(QueuePurge::read(fields)),
+            (50, 31) if kinds == 0x3 => Method::QueuePurgeOk(QueuePurgeOk::read(fields)),
+            (50, 40) if kinds == 0x5556 => Method::QueueDelete(QueueDelete::read(fields)),
+            (50, 41) if kinds == 0x3 => Method::QueueDeleteOk(QueueDeleteOk::read(fields)),
+            (50, 50) if kinds == 0x8666 => Method::QueueUnbind(QueueUnbind::read(fields)),
+            (50, 51) if kinds == 0x0 => Method::QueueUnbindOk(QueueUnbindOk),
+            (60, 10) if kinds == 0x52 => Method::BasicQos(BasicQos::read(fields)),
+            (60, 11) if kinds == 0x0 => Method::BasicQosOk(BasicQosOk),
+            (60, 20) if kinds == 0x8555566 => Method::BasicConsume(BasicConsume::read(fields)),
+            (60, 21) if kinds == 0x6 => Method::BasicConsumeOk(BasicConsumeOk::read(fields)),
+            (60, 30) if kinds == 0x56 => Method::BasicCancel(BasicCancel::read(fields)),
+            (60, 31) if kinds == 0x6 => Method::BasicCancelOk(BasicCancelOk::read(fields)),
+            (60, 40) if kinds == 0x5566 => Method::BasicPublish(BasicPublish::read(fields)),
+            (60, 50) if kinds == 0x6662 => Method::BasicReturn(BasicReturn::read(fields)),
+            (60, 60) if kinds == 0x66546 => Method::BasicDeliver(BasicDeliver::read(fields)),
+            (60, 70) if kinds == 0x56 => Method::BasicGet(BasicGet::read(fields)),
+            (60, 71) if kinds == 0x36654 => Method::BasicGetOk(BasicGetOk::read(fields)),
+            (60, 72) if kinds == 0x0 => Method::BasicGetEmpty(BasicGetEmpty),
+            (60, 80) if kinds == 0x54 => Method::BasicAck(BasicAck::read(fields)),
+            (60, 90) if kinds == 0x54 => Method::BasicReject(BasicReject::read(fields)),
+            (60, 100) if kinds == 0x5 => Method::BasicRecoverAsync(BasicRecoverAsync::read(fields)),
+            (60, 110) if kinds == 0x5 => Method::BasicRecover(BasicRecover::read(fields)),
+            (60, 111) if kinds == 0x0 => Method::BasicRecoverOk(BasicRecoverOk),
+            (60, 120) if kinds == 0x554 => Method::BasicNack(BasicNack::read(fields)),
+            (85, 10) if kinds == 0x5 => Method::ConfirmSelect(ConfirmSelect::read(fields)),
+            (85, 11) if kinds == 0x0 => Method::ConfirmSelectOk(ConfirmSelectOk),
+            (90, 10) if kinds == 0x0 => Method::TxSelect(TxSelect),
+            (90, 11) if kinds == 0x0 => Method::TxSelectOk(TxSelectOk),
+            (90, 20) if kinds == 0x0 => Method::TxCommit(TxCommit),
+            (90, 21) if kinds == 0x0 => Method::TxCommitOk(TxCommitOk),
+            (90, 30) if kinds == 0x0 => Method::TxRollback(TxRollback),
+            (90, 31) if kinds == 0x0 => Method::TxRollbackOk(TxRollbackOk),
 
             _ => return Err(Error::Incompatible(0)),
         })
     }
 
     fn id(&self) -> (u16, u16) {
-        fn of<T: Fielded>(_: &T) -> (u16, u16) {
+        fn of<T: MethodInfo>(_: &T) -> (u16, u16) {
             T::ID
         }
         each!(self, method => of(method))
@@ -369,7 +373,7 @@ impl<'a> Method<'a> {
     /// Its class and name as the standard has them, as `basic.get-ok`.
     #[must_use]
     pub fn name(&self) -> &'static str {
-        fn of<T: Fielded>(_: &T) -> &'static str {
+        fn of<T: MethodInfo>(_: &T) -> &'static str {
             T::NAME
         }
         each!(self, method => of(method))
@@ -386,11 +390,10 @@ impl<'a> Method<'a> {
     /// assert_eq!(fields, [("delivery-tag", Field::LongLong(7)), ("multiple", Field::Flag(false))]);
     /// ```
     pub fn fields(&self) -> impl Iterator<Item = (&'static str, Field<'_>)> {
-        self.list().named(self.names())
-    }
-
-    fn list(&self) -> List<'_> {
-        each!(self, method => method.list())
+        fn of<T: MethodInfo>(_: &T) -> &'static [&'static str] {
+            T::FIELD_NAMES
+        }
+        self.list().named(each!(self, method => of(method)))
     }
 
     /// Whether a content header and a body follow it.
@@ -436,13 +439,19 @@ impl<'a> Method<'a> {
     }
 }
 
-impl Drafts for Method<'_> {
-    fn draft(&self) -> Result<Draft<'_>, EncodeError> {
-        each!(self, method => method.draft())
+impl Listed for Method<'_> {
+    fn list(&self) -> List<'_> {
+        each!(self, method => method.list())
+    }
+}
+
+impl Put for Method<'_> {
+    fn put(&self, to: To, out: &mut [MaybeUninit<u8>]) -> Made {
+        each!(self, method => method.put(to, out))
     }
 
-    fn names(&self) -> &'static [&'static str] {
-        each!(self, method => method.names())
+    fn too_long(&self) -> Option<&'static str> {
+        each!(self, method => method.too_long())
     }
 }
 
@@ -454,6 +463,17 @@ $(
 impl<'a> From<$method> for Method<'a> {
 fn from(method: $method) -> Method<'a> {
 Method::$name(method)
+}
+}
+
+impl<'a> TryFrom<Method<'a>> for $method {
+type Error = OtherMethod;
+
+fn try_from(method: Method<'a>) -> Result<Self, OtherMethod> {
+match method {
+Method::$name(method) => Ok(method),
+other => Err(OtherMethod::new(<$method>::NAME, other.name())),
+}
 }
 }
 )*

@@ -5,11 +5,15 @@
 //! frame that is kept or sent to another thread takes one allocation, however many strings it has.
 //! [`TableBuf`](crate::TableBuf) and [`ArrayBuf`](crate::ArrayBuf) are this for tables and arrays.
 
-use crate::encode::{Encode, EncodeError};
+use crate::encode::{Encode, EncodeError, Encoder};
 use crate::error::Error;
-use crate::frame::{Frame, FrameType, Summary};
+use crate::frame::{Frame, FrameType};
+use crate::library::fields::{Found, OwnedFields};
+use crate::method_info::MethodInfo;
 use crate::payload::Payload;
-use std::ops::Range;
+use std::fmt;
+use std::hash::{Hash, Hasher};
+use std::marker::PhantomData;
 
 /// A frame that owns its bytes.
 ///
@@ -25,13 +29,12 @@ use std::ops::Range;
 /// assert_eq!(ack.delivery_tag, 7);
 /// # Ok::<(), feksroum::Error>(())
 /// ```
-#[derive(Clone, Debug, PartialEq, Eq, Hash)]
+#[derive(Clone)]
 pub struct OwnedFrame {
     frame_type: FrameType,
     channel: u16,
-    payload: Range<usize>,
-    bytes: Box<[u8]>,
-    summary: Summary,
+    found: Found,
+    fields: OwnedFields,
 }
 
 impl OwnedFrame {
@@ -47,30 +50,24 @@ impl OwnedFrame {
     ///
     /// # Errors
     ///
-    /// As [`Encode::encode_within`] with no limit.
+    /// As [`Encoder::encode`] with no limit; of more than one frame the first is taken.
     pub fn new(channel: u16, what: &impl Encode) -> Result<OwnedFrame, EncodeError> {
         let mut bytes = Vec::new();
-        what.encode_within(u32::MAX, channel, &mut bytes)?;
+        Encoder::new(channel).with_max_payload(u32::MAX).encode(what, &mut bytes)?;
         Ok(Frame::first(&bytes, u32::MAX)?.into_owned())
     }
 
     /// The frame, borrowed.
     #[must_use]
     pub fn as_frame(&self) -> Frame<'_> {
-        Frame {
-            frame_type: self.frame_type,
-            channel: self.channel,
-            payload: &self.bytes[self.payload.clone()],
-            bytes: &self.bytes,
-            summary: self.summary,
-        }
+        Frame::kept(self.frame_type, self.channel, self.found, self.fields.fields())
     }
 
     /// What stands in the payload, as [`Frame::decode`] gives it.
     ///
     /// # Errors
     ///
-    /// As [`Frame::decode`]: none of a frame that was read or made.
+    /// As [`Frame::decode`].
     pub fn decode(&self) -> Result<Payload<'_>, Error> {
         self.as_frame().decode()
     }
@@ -79,13 +76,59 @@ impl OwnedFrame {
 impl From<Frame<'_>> for OwnedFrame {
     /// Copies the frame's bytes.
     fn from(frame: Frame<'_>) -> OwnedFrame {
-        let start = frame.frame_type.payload_start();
-        OwnedFrame {
-            frame_type: frame.frame_type,
-            channel: frame.channel,
-            payload: start..start + frame.payload.len(),
-            bytes: frame.bytes.into(),
-            summary: frame.summary,
+        let (found, fields) = frame.parts();
+        OwnedFrame { frame_type: frame.frame_type(), channel: frame.channel(), found: *found, fields: fields.into_owned() }
+    }
+}
+
+impl PartialEq for OwnedFrame {
+    fn eq(&self, other: &Self) -> bool {
+        self.as_frame() == other.as_frame()
+    }
+}
+
+impl Eq for OwnedFrame {}
+
+impl Hash for OwnedFrame {
+    fn hash<H: Hasher>(&self, state: &mut H) {
+        self.as_frame().hash(state);
+    }
+}
+
+impl fmt::Debug for OwnedFrame {
+    fn fmt(&self, f: &mut fmt::Formatter<'_>) -> fmt::Result {
+        self.as_frame().fmt(f)
+    }
+}
+
+/// A method that owns its memory, as a client keeps one answer: [`MethodInfo::keep`] makes it.
+#[derive(Clone)]
+pub struct OwnedMethod<M> {
+    frame: OwnedFrame,
+    method: PhantomData<fn() -> M>,
+}
+
+impl<M: MethodInfo> OwnedMethod<M> {
+    /// The same method.
+    pub(crate) fn of(method: &impl MethodInfo) -> Result<OwnedMethod<M>, EncodeError> {
+        let frame = OwnedFrame::new(0, method)?;
+        match frame.decode()? {
+            Payload::Method(found) if found.name() == M::NAME => Ok(OwnedMethod { frame, method: PhantomData }),
+            _ => Err(EncodeError::Incompatible(0)),
         }
+    }
+
+    /// The method, borrowed.
+    #[must_use]
+    pub fn get(&self) -> M::Of<'_> {
+        let frame = self.frame.as_frame();
+        let (_, fields) = frame.parts();
+        M::built(fields)
+    }
+}
+
+impl<M> fmt::Debug for OwnedMethod<M> {
+    fn fmt(&self, f: &mut fmt::Formatter<'_>) -> fmt::Result {
+        self.frame.fmt(f)
     }
 }

@@ -1,16 +1,15 @@
 //! What stands in a frame.
 
-use crate::draft::Draft;
-use crate::encode::private::Drafts;
-use crate::encode::{Encode, EncodeError};
+use crate::encode::Encode;
 use crate::error::Error;
-use crate::field::{Field, List, MOST_FIELDS};
 use crate::frame::FrameType;
 use crate::library;
+use crate::library::fields::{self, Fields, Found};
 use crate::method::Method;
 use crate::properties::Properties;
-use crate::reader::Reader;
-use crate::sys::Node;
+use crate::put::{Put, To};
+use crate::sys::Made;
+use std::mem::MaybeUninit;
 
 /// What stands in a frame, borrowed from its bytes.
 #[derive(Clone, Copy, Debug, PartialEq, Eq)]
@@ -34,43 +33,39 @@ impl<'a> Payload<'a> {
     ///
     /// The payload's fault, where it is no frame.
     pub fn read(frame_type: FrameType, payload: &'a [u8]) -> Result<Payload<'a>, Error> {
-        let mut nodes = [Node::default(); MOST_FIELDS];
-        let found = library::read(frame_type as u8, payload, &mut nodes);
-        Error::of_status(found.status)?;
-        let count = usize::try_from(found.nodes).unwrap_or(usize::MAX);
-        let nodes = nodes.get(..count).ok_or(Error::Incompatible(0))?;
-        let mut fields = Reader::new(payload, nodes);
-        let built = match frame_type {
-            FrameType::Method => Payload::Method(Method::read(found.class_id, found.method_id, &mut fields)?),
-            FrameType::Header => {
-                let properties = Properties::read(&mut fields)?;
-                Payload::Header(ContentHeader { class_id: found.class_id, body_size: found.body_size, properties })
-            }
-            FrameType::Body => Payload::Body(payload),
+        let (found, fields) = fields::read(frame_type as u8, payload, 0, payload.len())?;
+        Payload::of(frame_type, &found, &fields)
+    }
+
+    /// What stands in a payload that was read.
+    #[inline]
+    pub(crate) fn of(frame_type: FrameType, found: &Found, fields: &Fields<'a>) -> Result<Payload<'a>, Error> {
+        Ok(match frame_type {
+            FrameType::Method => Payload::Method(Method::read(found.class_id, found.method_id, fields)?),
+            FrameType::Header => Payload::Header(ContentHeader::read(found.class_id, found.body_size, fields)),
+            FrameType::Body => Payload::Body(fields.payload()),
             FrameType::Heartbeat => Payload::Heartbeat,
-            FrameType::ProtocolHeader => Payload::ProtocolHeader(ProtocolHeader::read(&mut fields)?),
-        };
-        fields.end(built)
+            FrameType::ProtocolHeader => Payload::ProtocolHeader(ProtocolHeader::read(fields)?),
+        })
     }
 }
 
-impl Drafts for Payload<'_> {
-    fn draft(&self) -> Result<Draft<'_>, EncodeError> {
+impl Put for Payload<'_> {
+    fn put(&self, to: To, out: &mut [MaybeUninit<u8>]) -> Made {
         match self {
-            Payload::Method(method) => method.draft(),
-            Payload::Header(header) => header.draft(),
-            Payload::Body(body) => Draft::body(body),
-            Payload::Heartbeat => Ok(Draft::heartbeat()),
-            Payload::ProtocolHeader(header) => header.draft(),
+            Payload::Method(method) => method.put(to, out),
+            Payload::Header(header) => header.put(to, out),
+            Payload::Body(body) => library::put_body(body, to, out),
+            Payload::Heartbeat => library::put_heartbeat(to.channel, out),
+            Payload::ProtocolHeader(header) => header.put(to, out),
         }
     }
 
-    fn names(&self) -> &'static [&'static str] {
+    fn too_long(&self) -> Option<&'static str> {
         match self {
-            Payload::Method(method) => method.names(),
-            Payload::Header(header) => header.names(),
-            Payload::Body(_) | Payload::Heartbeat => &[],
-            Payload::ProtocolHeader(header) => header.names(),
+            Payload::Method(method) => method.too_long(),
+            Payload::Header(header) => header.too_long(),
+            _ => None,
         }
     }
 }
@@ -114,17 +109,10 @@ impl<'a> ContentHeader<'a> {
         const BASIC: u16 = 60;
         ContentHeader { class_id: BASIC, body_size, properties }
     }
-}
 
-impl Drafts for ContentHeader<'_> {
-    fn draft(&self) -> Result<Draft<'_>, EncodeError> {
-        let mut draft = Draft::header(self.class_id, self.body_size);
-        draft.put(&self.properties.list())?;
-        Ok(draft)
-    }
-
-    fn names(&self) -> &'static [&'static str] {
-        Properties::NAMES
+    #[inline]
+    fn read(class_id: u16, body_size: u64, fields: &Fields<'a>) -> ContentHeader<'a> {
+        ContentHeader { class_id, body_size, properties: Properties::read(fields) }
     }
 }
 
@@ -158,21 +146,22 @@ impl Default for ProtocolHeader {
 }
 
 impl ProtocolHeader {
-    fn read(fields: &mut Reader<'_, '_>) -> Result<ProtocolHeader, Error> {
-        Ok(ProtocolHeader { major: fields.octet()?, minor: fields.octet()?, revision: fields.octet()? })
+    fn read(fields: &Fields<'_>) -> Result<ProtocolHeader, Error> {
+        const THREE_OCTETS: u64 = 0x111;
+        if fields.kinds() != THREE_OCTETS {
+            return Err(Error::Incompatible(0));
+        }
+        Ok(ProtocolHeader { major: fields.octet(0), minor: fields.octet(1), revision: fields.octet(2) })
     }
 }
 
-impl Drafts for ProtocolHeader {
-    fn draft(&self) -> Result<Draft<'_>, EncodeError> {
-        let numbers = [self.major, self.minor, self.revision];
-        let mut draft = Draft::protocol_header();
-        draft.put(&List::of(numbers.map(Field::Octet).map(Some)))?;
-        Ok(draft)
+impl Put for ProtocolHeader {
+    fn put(&self, _: To, out: &mut [MaybeUninit<u8>]) -> Made {
+        library::put_protocol_header([self.major, self.minor, self.revision], out)
     }
 
-    fn names(&self) -> &'static [&'static str] {
-        &["major", "minor", "revision"]
+    fn too_long(&self) -> Option<&'static str> {
+        None
     }
 }
 

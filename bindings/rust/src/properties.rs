@@ -2,9 +2,8 @@
 
 // Made by `generate` out of the library's table. Change that, and not this file.
 
-use crate::error::Error;
 use crate::field::{Field, List};
-use crate::reader::Reader;
+use crate::library::fields::Fields;
 use crate::table::Table;
 
 /// What is said of a message beside its body. Those that are not set are not sent.
@@ -68,23 +67,26 @@ impl<'a> Properties<'a> {
         "cluster-id",
     ];
 
-    pub(crate) fn read(fields: &mut Reader<'a, '_>) -> Result<Properties<'a>, Error> {
-        Ok(Properties {
-            content_type: fields.property(0, Reader::short_string)?,
-            content_encoding: fields.property(1, Reader::short_string)?,
-            headers: fields.property(2, Reader::table)?,
-            delivery_mode: fields.property(3, Reader::octet)?,
-            priority: fields.property(4, Reader::octet)?,
-            correlation_id: fields.property(5, Reader::short_string)?,
-            reply_to: fields.property(6, Reader::short_string)?,
-            expiration: fields.property(7, Reader::short_string)?,
-            message_id: fields.property(8, Reader::short_string)?,
-            timestamp: fields.property(9, Reader::long_long)?,
-            kind: fields.property(10, Reader::short_string)?,
-            user_id: fields.property(11, Reader::short_string)?,
-            app_id: fields.property(12, Reader::short_string)?,
-            cluster_id: fields.property(13, Reader::short_string)?,
-        })
+    /// Their kinds, by their places.
+    pub(crate) const KINDS: [u8; 14] = [6, 6, 8, 1, 1, 6, 6, 6, 6, 4, 6, 6, 6, 6];
+
+    pub(crate) fn read(fields: &Fields<'a>) -> Properties<'a> {
+        Properties {
+            content_type: fields.has(0).then(|| fields.short_string(0)),
+            content_encoding: fields.has(1).then(|| fields.short_string(1)),
+            headers: fields.has(2).then(|| fields.table(2)),
+            delivery_mode: fields.has(3).then(|| fields.octet(3)),
+            priority: fields.has(4).then(|| fields.octet(4)),
+            correlation_id: fields.has(5).then(|| fields.short_string(5)),
+            reply_to: fields.has(6).then(|| fields.short_string(6)),
+            expiration: fields.has(7).then(|| fields.short_string(7)),
+            message_id: fields.has(8).then(|| fields.short_string(8)),
+            timestamp: fields.has(9).then(|| fields.long_long(9)),
+            kind: fields.has(10).then(|| fields.short_string(10)),
+            user_id: fields.has(11).then(|| fields.short_string(11)),
+            app_id: fields.has(12).then(|| fields.short_string(12)),
+            cluster_id: fields.has(13).then(|| fields.short_string(13)),
+        }
     }
 
     pub(crate) fn list(&self) -> List<'a> {

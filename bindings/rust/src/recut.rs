@@ -30,7 +30,7 @@ use std::num::NonZeroU32;
 /// let mut out = Vec::new();
 /// stream.feed(&wire, &mut out)?;
 /// stream.finish()?;
-/// let payloads: Vec<_> = Frames::new(&out, MAX_PAYLOAD).map(|frame| Ok(frame?.payload)).collect::<Result<_, feksroum::Error>>()?;
+/// let payloads: Vec<_> = Frames::new(&out, MAX_PAYLOAD).map(|frame| Ok(frame?.payload())).collect::<Result<_, feksroum::Error>>()?;
 /// assert_eq!(payloads[2..], [&b"he"[..], b"ll", b"o"]);
 /// # Ok::<(), Box<dyn std::error::Error>>(())
 /// ```
@@ -58,8 +58,14 @@ impl Recutter {
 
     /// How many messages are open.
     #[must_use]
-    pub fn open(&self) -> usize {
-        self.stream.open()
+    pub fn open_messages(&self) -> usize {
+        self.stream.open_messages()
+    }
+
+    /// Where in the stream what follows the frames begins that were taken: after an error, the offset of what it is about.
+    #[must_use]
+    pub fn position(&self) -> u64 {
+        self.stream.position()
     }
 
     /// Ends the stream.
@@ -95,12 +101,12 @@ impl Take for Cutter {
         if part != Part::Body {
             return writer.frame(frame, out);
         }
-        let mut held = self.bodies.remove(&frame.channel).unwrap_or_default();
+        let mut held = self.bodies.remove(&frame.channel()).unwrap_or_default();
         let left = self.cut(&held, frame, ends, out)?;
         if left > 0 {
-            hold(&mut held, frame.payload, left)?;
+            hold(&mut held, frame.payload(), left)?;
             self.bodies.try_reserve(1).map_err(|_| Error::NoMemory)?;
-            self.bodies.insert(frame.channel, held);
+            self.bodies.insert(frame.channel(), held);
         }
         Ok(())
     }
@@ -110,14 +116,14 @@ impl Cutter {
     /// Writes the pieces of what is held and of a body, and returns how many bytes are to be held after them.
     fn cut(&self, held: &[u8], frame: &Frame<'_>, ends: bool, out: &mut Vec<u8>) -> Result<usize, Error> {
         let length = |bytes: &[u8]| u32::try_from(bytes.len()).map_err(|_| Error::NoMemory);
-        let (held_length, new_length) = (length(held)?, length(frame.payload)?);
+        let (held_length, new_length) = (length(held)?, length(frame.payload())?);
         let cut = library::recut(self.size, held_length, new_length, ends);
         Error::of_status(cut.status)?;
         for k in 0..cut.pieces {
             let piece = library::piece_at(self.size, held_length, new_length, ends, k);
-            let (front, back) = parts(&piece, held, frame.payload).ok_or(Error::Incompatible(0))?;
-            let head = body_head(frame.channel, piece.held_length + piece.length);
-            put(out, &[&head, front, back, &[FRAME_END]])?;
+            let (front, back) = parts(&piece, held, frame.payload()).ok_or(Error::Incompatible(0))?;
+            let before = body_head(frame.channel(), piece.held_length + piece.length);
+            put(out, &[&before, front, back, &[FRAME_END]])?;
         }
         usize::try_from(cut.left).map_err(|_| Error::NoMemory)
     }

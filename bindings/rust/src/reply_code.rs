@@ -2,6 +2,8 @@
 
 // Made by `generate` out of the library's table. Change that, and not this file.
 
+use std::fmt;
+
 /// An error that closes a channel, or the connection where it is a hard one.
 ///
 /// ```
@@ -10,9 +12,10 @@
 ///
 /// let close = ChannelClose { reply_code: ReplyCode::NotFound.code(), reply_text: "no queue 'orders'", ..ChannelClose::default() };
 /// assert_eq!(ReplyCode::from_code(close.reply_code), Some(ReplyCode::NotFound));
-/// assert_eq!(ReplyCode::NotFound.name(), "not-found");
+/// assert_eq!(ReplyCode::NotFound.to_string(), "404 not-found");
 /// ```
 #[derive(Clone, Copy, Debug, PartialEq, Eq, Hash)]
+#[non_exhaustive]
 pub enum ReplyCode {
     /// The content is larger than the other side takes.
     ContentTooLarge = 311,
@@ -129,5 +132,12 @@ impl ReplyCode {
                 | ReplyCode::NotImplemented
                 | ReplyCode::InternalError
         )
+    }
+}
+
+impl fmt::Display for ReplyCode {
+    /// Its code and its name, as `404 not-found`.
+    fn fmt(&self, f: &mut fmt::Formatter<'_>) -> fmt::Result {
+        write!(f, "{} {}", self.code(), self.name())
     }
 }

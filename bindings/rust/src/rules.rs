@@ -28,7 +28,7 @@ pub struct Rules {
 
 impl Rules {
     /// As many rules as the program takes.
-    pub const MOST: usize = 64;
+    pub const MAX_COUNT: usize = 64;
 
     /// The rules that some words are.
     ///
@@ -41,7 +41,7 @@ impl Rules {
         I::Item: Into<String>,
     {
         let words: Vec<String> = words.into_iter().map(Into::into).collect();
-        if !(1..=Rules::MOST).contains(&words.len()) {
+        if !(1..=Rules::MAX_COUNT).contains(&words.len()) {
             return Err(RulesError::Count(words.len()));
         }
         let numbers = words.iter().map(|word| numbers(word)).collect::<Result<_, _>>()?;
@@ -60,8 +60,8 @@ impl Rules {
     ///
     /// [`Error::Incompatible`] alone, where another version of the library is linked.
     pub fn decide(&self, frame: &Frame<'_>) -> Result<bool, Error> {
-        let (class_id, method_id) = (frame.summary.class_id, frame.summary.method_id);
-        match library::decide(&self.numbers, frame.frame_type as u8, frame.channel, class_id, method_id) {
+        let (found, _) = frame.parts();
+        match library::decide(&self.numbers, frame.frame_type() as u8, frame.channel(), found.class_id, found.method_id) {
             0 => Ok(false),
             1 => Ok(true),
             status => Err(Error::Incompatible(status.into())),
@@ -109,7 +109,7 @@ impl fmt::Display for RulesError {
     fn fmt(&self, f: &mut fmt::Formatter<'_>) -> fmt::Result {
         match self {
             RulesError::NoRule(word) => write!(f, "{word:?} is no rule"),
-            RulesError::Count(count) => write!(f, "1 to {} rules are wanted, and {count} were given", Rules::MOST),
+            RulesError::Count(count) => write!(f, "1 to {} rules are wanted, and {count} were given", Rules::MAX_COUNT),
             RulesError::Incompatible(status) => Error::Incompatible(*status).fmt(f),
         }
     }

@@ -28,7 +28,7 @@ pub struct Scratch {
 impl Scratch {
     /// No scratch, which takes no memory: small tables are sorted on the stack.
     #[must_use]
-    pub fn none() -> Scratch {
+    pub fn new() -> Scratch {
         Scratch::default()
     }
 
@@ -65,7 +65,7 @@ mod tests {
 
     #[test]
     fn grows_by_what_is_needed_and_never_shrinks() {
-        let mut scratch = Scratch::none();
+        let mut scratch = Scratch::new();
         for (length, marks) in [(0, 0), (512, 0), (600, 300), (90, 300), (602, 600), (9000, 4500)] {
             scratch.grow(length).unwrap();
             assert_eq!(scratch.marks().len(), marks);

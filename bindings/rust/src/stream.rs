@@ -11,8 +11,11 @@ pub trait Stream {
     /// Appends what is written for one more piece.
     fn feed(&mut self, piece: &[u8], out: &mut Vec<u8>) -> Result<(), Error>;
 
+    /// Where in the stream what follows the frames begins that were taken.
+    fn position(&self) -> u64;
+
     /// Ends the stream.
-    fn finish(self) -> Result<(), Error>;
+    fn finish(&self) -> Result<(), Error>;
 }
 
 /// Feeds a stream with all that a reader gives, and writes before each further read what it gives for that.
@@ -22,12 +25,12 @@ pub fn run<R: Read, W: Write>(mut stream: impl Stream, mut reader: R, mut writer
     loop {
         let read = read(&mut reader, &mut piece).map_err(StreamError::Read)?;
         if read.is_empty() {
-            return Ok(stream.finish()?);
+            return stream.finish().map_err(|error| StreamError::Frame { error, offset: stream.position() });
         }
         let fed = stream.feed(read, &mut out);
         writer.write_all(&out).map_err(StreamError::Write)?;
         out.clear();
-        fed?;
+        fed.map_err(|error| StreamError::Frame { error, offset: stream.position() })?;
     }
 }
 

@@ -1,4 +1,6 @@
-//! The C functions and structs, as `feksroum.h` declares them. `library` calls them, and nothing else does.
+//! The C functions and structs, as `feksroum.h` and `feksroum_methods.h` declare them. `library` calls them, and nothing else does.
+
+pub mod puts;
 
 #[repr(C)]
 #[derive(Clone, Copy, Debug, Default)]
@@ -55,27 +57,58 @@ pub struct Fields {
 
 #[repr(C)]
 #[derive(Clone, Copy, Debug, Default)]
-pub struct Head {
-    pub body_size: u64,
-    pub start: u32,
-    pub length: u32,
-    pub first: u32,
-    pub nodes: u32,
-    pub channel: u16,
-    pub class_id: u16,
-    pub method_id: u16,
-    pub frame_type: u8,
-    pub form: u8,
-}
-
-#[repr(C)]
-#[derive(Clone, Copy, Debug, Default)]
 pub struct Written {
     pub length: u64,
     pub head: u32,
     pub node: u32,
     pub status: u32,
     pub unused: u32,
+}
+
+/// How many bytes were put, or why none.
+#[repr(C)]
+#[derive(Clone, Copy, Debug, Default)]
+pub struct Made {
+    pub length: u64,
+    pub status: u32,
+    pub unused: u32,
+}
+
+impl Made {
+    /// Nothing was put.
+    pub fn refused(status: u32) -> Made {
+        Made { status, ..Made::default() }
+    }
+}
+
+/// Bytes of a caller, none where the pointer is null.
+#[repr(C)]
+#[derive(Clone, Copy, Debug)]
+pub struct Bytes {
+    pub bytes: *const u8,
+    pub length: usize,
+}
+
+/// The properties that `set` names.
+#[repr(C)]
+#[derive(Clone, Copy, Debug)]
+pub struct BasicProperties {
+    pub set: u16,
+    pub delivery_mode: u8,
+    pub priority: u8,
+    pub unused: u32,
+    pub timestamp: u64,
+    pub content_type: Bytes,
+    pub content_encoding: Bytes,
+    pub headers: Bytes,
+    pub correlation_id: Bytes,
+    pub reply_to: Bytes,
+    pub expiration: Bytes,
+    pub message_id: Bytes,
+    pub kind: Bytes,
+    pub user_id: Bytes,
+    pub app_id: Bytes,
+    pub cluster_id: Bytes,
 }
 
 #[repr(C)]
@@ -170,17 +203,17 @@ extern "C" {
     pub fn feksroum_check(frame_type: u8, payload: *const u8, length: usize) -> Payload;
     pub fn feksroum_read(frame_type: u8, payload: *const u8, length: usize, detail: u8, nodes: *mut Node, room: usize) -> Fields;
     pub fn feksroum_open(kind: u8, content: *const u8, length: usize, nodes: *mut Node, room: usize) -> Fields;
-    pub fn feksroum_write(
-        heads: *const Head,
-        head_count: usize,
-        nodes: *const Node,
-        node_count: usize,
-        pool: *const u8,
-        pool_length: usize,
+    pub fn feksroum_put_content_header(
+        channel: u16,
+        body_size: u64,
+        properties: *const BasicProperties,
         max_payload: u32,
         out: *mut u8,
         out_length: usize,
-    ) -> Written;
+    ) -> Made;
+    pub fn feksroum_put_body(channel: u16, body: *const u8, body_length: usize, max_payload: u32, out: *mut u8, out_length: usize) -> Made;
+    pub fn feksroum_put_heartbeat(out: *mut u8, out_length: usize) -> Made;
+    pub fn feksroum_put_protocol_header(major: u8, minor: u8, revision: u8, out: *mut u8, out_length: usize) -> Made;
     pub fn feksroum_write_content(
         kind: u8,
         nodes: *const Node,
@@ -221,7 +254,7 @@ const _: () = {
     assert!(std::mem::size_of::<Payload>() == 16);
     assert!(std::mem::size_of::<Node>() == 32);
     assert!(std::mem::size_of::<Fields>() == 24);
-    assert!(std::mem::size_of::<Head>() == 32);
+    assert!(std::mem::size_of::<Made>() == 16);
     assert!(std::mem::size_of::<Written>() == 24);
     assert!(std::mem::size_of::<Progress>() == 24);
     assert!(std::mem::size_of::<Mark>() == 16);

@@ -1,10 +1,12 @@
 //! Tables: keys with values.
 
-use crate::draft::Items;
 use crate::encode::EncodeError;
 use crate::error::Error;
+use crate::items::Items;
+use crate::settle;
 use crate::value::Value;
 use crate::walk::{self, Walk};
+use std::borrow::Cow;
 use std::collections::BTreeMap;
 use std::fmt;
 use std::iter::FusedIterator;
@@ -64,6 +66,12 @@ impl<'a> Table<'a> {
     #[must_use]
     pub fn content(self) -> &'a [u8] {
         self.content
+    }
+
+    /// What fills it, as it is handed to the library to be written.
+    #[inline]
+    pub(crate) fn settled(self) -> Result<Cow<'a, [u8]>, Error> {
+        settle::settled(self)
     }
 
     /// Whether the table has no entries.
@@ -194,6 +202,111 @@ impl TableBuf {
     #[must_use]
     pub fn as_table(&self) -> Table<'_> {
         Table::accepted(&self.content)
+    }
+
+    /// Sets the value of a key, in place of each that it has. It takes time that is linear in the table.
+    ///
+    /// ```
+    /// use feksroum::TableBuf;
+    ///
+    /// let mut headers = TableBuf::new();
+    /// headers.insert("who", "me")?;
+    /// headers.insert("attempt", 1)?;
+    /// headers.insert("attempt", 2)?;
+    /// assert_eq!(headers.get("attempt").and_then(|value| value.as_i64()), Some(2));
+    /// assert_eq!(headers.iter().map(|(key, _)| key).collect::<Vec<_>>(), ["attempt", "who"]);
+    /// # Ok::<(), feksroum::EncodeError>(())
+    /// ```
+    ///
+    /// # Errors
+    ///
+    /// As [`from_entries`](TableBuf::from_entries); the table is as it was then.
+    pub fn insert<'v>(&mut self, key: &str, value: impl Into<Value<'v>>) -> Result<(), EncodeError> {
+        let mut items = Items::default();
+        items.entry(key, value.into())?;
+        let entry = items.write(b'F')?;
+        let (before, after) = self.without(key);
+        let length = before.len() + entry.len() + after.len();
+        u32::try_from(length).map_err(|_| EncodeError::TooLarge)?;
+        let mut content = Vec::new();
+        content.try_reserve_exact(length).map_err(|_| EncodeError::NoMemory)?;
+        for part in [before, entry, after] {
+            content.extend(part);
+        }
+        self.content = content;
+        Ok(())
+    }
+
+    /// Takes a key out, and says whether it was there.
+    pub fn remove(&mut self, key: &str) -> bool {
+        let (mut content, after) = self.without(key);
+        content.extend_from_slice(&after);
+        let was_there = content.len() < self.content.len();
+        self.content = content;
+        was_there
+    }
+
+    /// The entries of other keys that stand before the first greater key, and those from it on.
+    fn without(&self, key: &str) -> (Vec<u8>, Vec<u8>) {
+        let (mut before, mut after) = (Vec::new(), Vec::new());
+        let mut walk = Walk::new(&self.content);
+        loop {
+            let from = walk.rest();
+            let Some((other, _)) = walk.entry() else {
+                return (before, after);
+            };
+            let entry = from.get(..from.len() - walk.rest().len()).unwrap_or_default();
+            if other > key || !after.is_empty() && other != key {
+                after.extend_from_slice(entry);
+            } else if other < key {
+                before.extend_from_slice(entry);
+            }
+        }
+    }
+
+    /// The value of a key: of duplicate keys the last.
+    #[must_use]
+    pub fn get(&self, key: &str) -> Option<Value<'_>> {
+        self.as_table().get(key)
+    }
+
+    /// The entries: in ascending order of their keys, or as they were sent, where the table was read.
+    #[must_use]
+    pub fn iter(&self) -> Entries<'_> {
+        self.as_table().iter()
+    }
+
+    /// Whether the table has no entries.
+    #[must_use]
+    pub fn is_empty(&self) -> bool {
+        self.content.is_empty()
+    }
+}
+
+impl<'a> IntoIterator for &'a TableBuf {
+    type Item = (&'a str, Value<'a>);
+    type IntoIter = Entries<'a>;
+
+    fn into_iter(self) -> Entries<'a> {
+        self.iter()
+    }
+}
+
+impl<'k, 'v, V: Into<Value<'v>>> FromIterator<(&'k str, V)> for TableBuf {
+    /// As [`from_entries`](TableBuf::from_entries), for keys that are known to be short.
+    ///
+    /// ```
+    /// use feksroum::TableBuf;
+    ///
+    /// let arguments: TableBuf = [("x-queue-type", "quorum")].into_iter().collect();
+    /// assert_eq!(arguments.get("x-queue-type"), Some("quorum".into()));
+    /// ```
+    ///
+    /// # Panics
+    ///
+    /// Where `from_entries` returns an error.
+    fn from_iter<I: IntoIterator<Item = (&'k str, V)>>(entries: I) -> TableBuf {
+        TableBuf::from_entries(entries).unwrap_or_else(|error| panic!("these entries are no table: {error}"))
     }
 }
 

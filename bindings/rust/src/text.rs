@@ -36,7 +36,7 @@ pub fn dump(bytes: &[u8], max_payload: u32) -> Converted<String> {
 }
 
 /// The canonical bytes of the frames whose lines are in front. The end is [`Error::CutShort`] where the last line has no
-/// newline, and [`Error::BadText`] where a line is that of no frame with a payload of at most so many bytes.
+/// newline, and [`Error::BadText`] where a line is not the exact text form of any frame with a payload of at most so many bytes.
 ///
 /// ```
 /// use feksroum::{undump, MAX_PAYLOAD};
@@ -69,7 +69,7 @@ fn convert_all(convert: Convert, room: Room, bytes: &[u8], max_payload: u32) -> 
         match buffer.append(convert, room(rest, max_payload), rest, max_payload) {
             Ok(more) => used += more,
             Err(error) => {
-                end = Err(error);
+                end = Err(error.in_frame(rest));
                 break;
             }
         }

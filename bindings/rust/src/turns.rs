@@ -118,13 +118,13 @@ impl Turns {
 
     /// What a frame is to its channel.
     pub fn look(&self, frame: &Frame<'_>) -> Result<Turn, Error> {
-        let size = match frame.frame_type {
-            FrameType::Header => frame.summary.body_size,
-            _ => frame.payload.len() as u64,
+        let (found, fields) = frame.parts();
+        let size = match frame.frame_type() {
+            FrameType::Header => found.body_size,
+            _ => fields.payload().len() as u64,
         };
-        let channel = self.channels.get(&frame.channel).copied().unwrap_or_default();
-        let (class_id, method_id) = (frame.summary.class_id, frame.summary.method_id);
-        let found = library::step(channel, frame.frame_type as u8, class_id, method_id, size, self.max_body);
+        let channel = self.channels.get(&frame.channel()).copied().unwrap_or_default();
+        let found = library::step(channel, frame.frame_type() as u8, found.class_id, found.method_id, size, self.max_body);
         let part = match (found.status, found.part, ContentFault::of_number(found.fault)) {
             (0, 0, None) => Ok(Part::None),
             (0, 1, None) => Ok(Part::Opening),
@@ -150,8 +150,8 @@ impl Turns {
     /// Both at once: its part of a message, and whether that is complete with it.
     pub fn step(&mut self, frame: &Frame<'_>) -> Result<(Part, bool), Error> {
         let turn = self.look(frame)?;
-        self.keep(frame.channel, &turn)?;
-        let part = turn.part.map_err(|fault| Error::BadContent { channel: frame.channel, fault })?;
+        self.keep(frame.channel(), &turn)?;
+        let part = turn.part.map_err(|fault| Error::BadContent { channel: frame.channel(), fault })?;
         Ok((part, turn.finished))
     }
 
@@ -160,13 +160,13 @@ impl Turns {
     }
 
     /// How many messages are open.
-    pub fn open(&self) -> usize {
+    pub fn open_messages(&self) -> usize {
         self.channels.values().filter(|channel| channel.state != FAULTED).count()
     }
 
     /// At the end, no message may be open.
     pub fn finish(&self) -> Result<(), Error> {
-        match self.open() {
+        match self.open_messages() {
             0 => Ok(()),
             messages => Err(Error::OpenContent { messages }),
         }

@@ -105,6 +105,41 @@ impl<'a> Value<'a> {
         }
     }
 
+    /// The bytes of a long string or a byte array.
+    #[must_use]
+    pub fn as_bytes(self) -> Option<&'a [u8]> {
+        match self {
+            Value::LongString(bytes) | Value::ByteArray(bytes) => Some(bytes),
+            _ => None,
+        }
+    }
+
+    /// The fraction, of either size.
+    #[must_use]
+    pub fn as_f64(self) -> Option<f64> {
+        match self {
+            Value::Float(fraction) => Some(fraction.into()),
+            Value::Double(fraction) => Some(fraction),
+            _ => None,
+        }
+    }
+
+    /// The seconds since 1970 began in UTC, of a timestamp.
+    ///
+    /// ```
+    /// use feksroum::Value;
+    ///
+    /// assert_eq!(Value::Timestamp(1_700_000_000).as_timestamp(), Some(1_700_000_000));
+    /// assert_eq!(Value::LongLongInt(1_700_000_000).as_timestamp(), None);
+    /// ```
+    #[must_use]
+    pub fn as_timestamp(self) -> Option<u64> {
+        match self {
+            Value::Timestamp(seconds) => Some(seconds),
+            _ => None,
+        }
+    }
+
     /// The table, of one.
     #[must_use]
     pub fn as_table(self) -> Option<Table<'a>> {
@@ -212,6 +247,13 @@ from! {
 impl<'a> From<&'a str> for Value<'a> {
     /// A long string.
     fn from(text: &'a str) -> Value<'a> {
+        Value::LongString(text.as_bytes())
+    }
+}
+
+impl<'a> From<&'a String> for Value<'a> {
+    /// A long string.
+    fn from(text: &'a String) -> Value<'a> {
         Value::LongString(text.as_bytes())
     }
 }

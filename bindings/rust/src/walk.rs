@@ -32,6 +32,11 @@ impl<'a> Walk<'a> {
         Walk { rest: content }
     }
 
+    /// The bytes that are left.
+    pub fn rest(&self) -> &'a [u8] {
+        self.rest
+    }
+
     /// The next entry of a table.
     pub fn entry(&mut self) -> Option<(&'a str, Value<'a>)> {
         let [length] = self.take()?;

@@ -10,6 +10,7 @@ typedef struct { uint64_t used, needed, payload_length; uint32_t payload_start; 
 typedef struct { uint64_t body_size; uint16_t class_id, method_id; bool canonical, tidy; uint8_t status, fields; } payload;
 typedef struct { uint64_t body_size, nodes; uint16_t class_id, method_id; bool canonical, tidy; uint8_t status, unused; } fields;
 typedef struct { uint64_t length; uint32_t head, node, status, unused; } written;
+typedef struct { uint64_t length; uint32_t status, unused; } made;
 typedef struct { uint64_t used, written; uint32_t status, unused; } progress;
 typedef struct { uint64_t used, length; uint32_t status, unused; } line;
 typedef struct { uint64_t size, seen; uint32_t state, unused; } channel;
@@ -38,12 +39,9 @@ fields feksroum_open(uint8_t kind, const uint8_t *bytes, size_t length, void *no
     return (fields){.status = STATUS};
 }
 
-written feksroum_write(const void *heads, size_t head_count, const void *nodes, size_t node_count, const uint8_t *pool,
-                       size_t pool_length, uint32_t max_payload, uint8_t *out, size_t out_length) {
-    (void)heads, (void)head_count, (void)nodes, (void)node_count, (void)pool, (void)pool_length, (void)max_payload, (void)out;
-    (void)out_length;
-    return (written){.status = STATUS};
-}
+/* The calls that put frames, which .ci/rust lists out of feksroum.map: none of them looks at its arguments. */
+#define PUT(name) made name(void) { return (made){.status = STATUS}; }
+#include "puts.h"
 
 written feksroum_write_content(uint8_t kind, const void *nodes, size_t node_count, const uint8_t *pool, size_t pool_length,
                                uint8_t *out, size_t out_length) {

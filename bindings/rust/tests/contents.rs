@@ -6,6 +6,7 @@ use common::examples;
 use feksroum::method::BasicPublish;
 use feksroum::{filter, recut, Content, ContentFault, Encode, Error, Filter, Frames, Recutter, Rules, RulesError};
 use feksroum::{StreamError, MAX_PAYLOAD};
+use std::error::Error as _;
 use std::io::{self, Read, Write};
 use std::num::NonZeroU32;
 
@@ -70,12 +71,13 @@ fn a_fault_stays() {
     let fault = Error::BadContent { channel: 1, fault: ContentFault::UnexpectedBody };
     let (mut filter, mut recutter) = (Filter::new(MAX_PAYLOAD, keep()), Recutter::new(MAX_PAYLOAD, size(2)));
     let mut out = Vec::new();
-    assert_eq!((filter.feed(&wire, &mut out), filter.open()), (Ok(()), 0));
+    assert_eq!((filter.feed(&wire, &mut out), filter.open_messages()), (Ok(()), 0));
     assert_eq!((filter.feed(body, &mut out), filter.feed(&BEAT, &mut out)), (Err(fault), Err(fault)));
+    assert_eq!(filter.position(), wire.len() as u64);
     assert_eq!((out, filter.finish()), (wire.clone(), Err(fault)));
     let mut out = Vec::new();
     assert_eq!(recutter.feed(&[&BEAT, body, &BEAT].concat(), &mut out), Err(fault));
-    assert_eq!((out, recutter.finish()), (BEAT.to_vec(), Err(fault)));
+    assert_eq!((recutter.position(), out, recutter.finish()), (8, BEAT.to_vec(), Err(fault)));
     let text = "a body outside of a message, or before the content header (UnexpectedBody), on channel 1";
     assert_eq!((fault.to_string(), fault.status(), fault.name()), (text.into(), 24, "BadContent"));
 }
@@ -85,12 +87,12 @@ fn an_open_message_is_a_fault_of_the_end() {
     let wire = message(b"hello");
     let (mut out, open) = (Vec::new(), wire.len() - 13);
     let error = filter(&wire[..open], &mut out, MAX_PAYLOAD, keep()).unwrap_err();
-    assert!(matches!(error, StreamError::Frame(Error::OpenContent { messages: 1 })));
-    assert_eq!((error.status(), error.to_string()), (25, "the end came inside a message".into()));
-    assert_eq!(Error::OpenContent { messages: 3 }.to_string(), "the end came inside a message: 3 are open");
+    assert!(matches!(error, StreamError::Frame { error: Error::OpenContent { messages: 1 }, offset } if offset == open as u64));
+    assert_eq!((error.status(), error.to_string()), (25, format!("the input ends inside a message, at byte {open}")));
+    assert_eq!(Error::OpenContent { messages: 3 }.to_string(), "the input ends inside a message: 3 are open");
     assert_eq!(out, wire[..open]);
     let error = recut(&wire[..open + 3], &mut out, MAX_PAYLOAD, size(2)).unwrap_err();
-    assert!(matches!(error, StreamError::Frame(Error::CutShort)));
+    assert!(matches!(error, StreamError::Frame { error: Error::CutShort, offset } if offset == open as u64));
 }
 
 /// Fails.
@@ -114,7 +116,9 @@ impl Write for Broken {
 
 #[test]
 fn failed_reads_and_writes_are_reported() {
-    assert_eq!(filter(Broken, io::sink(), MAX_PAYLOAD, keep()).unwrap_err().status(), 4);
+    let error = filter(Broken, io::sink(), MAX_PAYLOAD, keep()).unwrap_err();
+    assert_eq!((error.status(), error.to_string()), (4, "a read failed".into()));
+    assert_eq!(error.source().map(ToString::to_string), Some("broken".into()));
     assert_eq!(recut(&BEAT[..], Broken, MAX_PAYLOAD, size(2)).unwrap_err().status(), 5);
 }
 
@@ -125,7 +129,7 @@ fn bodies_are_cut_and_joined_again() {
     for pieces in [1, 7, 1000, 99_999, 100_000, 131_072] {
         let (mut out, mut joined) = (Vec::new(), Vec::new());
         recut(&wire[..], &mut out, MAX_PAYLOAD, size(pieces)).unwrap();
-        let lengths: Vec<_> = Frames::new(&out, MAX_PAYLOAD).skip(2).map(|frame| frame.unwrap().payload.len()).collect();
+        let lengths: Vec<_> = Frames::new(&out, MAX_PAYLOAD).skip(2).map(|frame| frame.unwrap().payload().len()).collect();
         assert_eq!(lengths.len(), 100_000_usize.div_ceil(pieces as usize));
         assert!(lengths[..lengths.len() - 1].iter().all(|length| *length == pieces as usize));
         recut(&out[..], &mut joined, MAX_PAYLOAD, size(MAX_PAYLOAD)).unwrap();

@@ -3,12 +3,12 @@
 mod common;
 
 use common::{examples, lines::line, Example, OF_BYTES};
-use feksroum::{canonicalize, dump, undump, Encode, Error, Frames, Level, StreamError, MAX_PAYLOAD};
+use feksroum::{canonicalize, dump, undump, Encoder, Error, Frames, Level, StreamError, MAX_PAYLOAD};
 
 /// What `hex` and `tidy` print.
 fn report(out: &[u8], end: &Result<(), StreamError>) -> Vec<u8> {
     let fault = match end {
-        Err(StreamError::Frame(error)) => format!("{}\n", error.name()),
+        Err(StreamError::Frame { error, .. }) => format!("{}\n", error.name()),
         Err(error) => panic!("{error}"),
         Ok(()) => String::new(),
     };
@@ -65,7 +65,7 @@ fn typed_frames_have_the_lines_of_their_bytes() {
     let mut done = 0;
     for example in examples(OF_BYTES) {
         for frame in Frames::new(&example.bytes(), MAX_PAYLOAD).map_while(Result::ok) {
-            assert_eq!(line(&frame), dump(frame.bytes, MAX_PAYLOAD).written, "{}", example.name);
+            assert_eq!(line(&frame), dump(frame.bytes(), MAX_PAYLOAD).written, "{}", example.name);
             done += 1;
         }
     }
@@ -73,15 +73,14 @@ fn typed_frames_have_the_lines_of_their_bytes() {
 }
 
 #[test]
-fn typed_frames_are_written_as_they_were() {
+fn typed_frames_are_written_canonically() {
     for example in examples(OF_BYTES) {
         for frame in Frames::new(&example.bytes(), MAX_PAYLOAD).map_while(Result::ok) {
             let mut written = Vec::new();
-            frame.decode().unwrap().encode(frame.channel, &mut written).unwrap();
-            assert_eq!(canonical(&written), canonical(frame.bytes), "{}", example.name);
-            if frame.summary.canonical {
-                assert_eq!(written, frame.bytes, "{}", example.name);
-            }
+            let encoder = Encoder::new(frame.channel()).with_max_payload(MAX_PAYLOAD);
+            encoder.encode(&frame.decode().unwrap(), &mut written).unwrap();
+            assert_eq!(written, canonical(frame.bytes()), "{}", example.name);
+            assert_eq!(frame.summary().canonical, written == frame.bytes(), "{}", example.name);
         }
     }
 }

@@ -4,7 +4,7 @@
 mod common;
 
 use common::lines::line;
-use feksroum::{canonicalize, dump, Encode, Frame, Frames, Level, MAX_PAYLOAD};
+use feksroum::{canonicalize, dump, Encoder, Frame, Frames, Level, MAX_PAYLOAD};
 
 /// The bytes of each case: a level, a length in four bytes with the lowest first, as many bytes, a count in two, and as many
 /// sizes of two.
@@ -27,11 +27,12 @@ fn canonical(bytes: &[u8]) -> Vec<u8> {
 }
 
 fn is_written_back(frame: &Frame<'_>) {
-    assert_eq!(line(frame), dump(frame.bytes, MAX_PAYLOAD).written);
+    assert_eq!(line(frame), dump(frame.bytes(), MAX_PAYLOAD).written);
     let mut written = Vec::new();
-    frame.decode().unwrap().encode(frame.channel, &mut written).unwrap();
-    assert_eq!(canonical(&written), canonical(frame.bytes));
-    assert!(!frame.summary.canonical || written == frame.bytes);
+    let encoder = Encoder::new(frame.channel()).with_max_payload(MAX_PAYLOAD);
+    encoder.encode(&frame.decode().unwrap(), &mut written).unwrap();
+    assert_eq!(written, canonical(frame.bytes()));
+    assert_eq!(frame.summary().canonical, written == frame.bytes());
     assert_eq!(frame.into_owned().as_frame(), *frame);
 }
 

@@ -4,8 +4,10 @@ mod common;
 
 use common::random::Random;
 use feksroum::method::{BasicAck, BasicDeliver, BasicGetOk, BasicPublish, BasicReturn};
-use feksroum::{messages, Assembler, Content, ContentFault, ContentHeader, Encode, Error, Frame, Frames, Message, MessageReader, Method};
-use feksroum::{Opening, OwnedFrame, Payload, Properties, Pushed, StreamError, MAX_PAYLOAD};
+use feksroum::{
+    messages, Assembler, Content, ContentFault, ContentHeader, Encode, Encoder, Error, Frame, Frames, Message, MessageReader, Method,
+};
+use feksroum::{Opening, OwnedFrame, Payload, Properties, Pushed, Received, StreamError, MAX_PAYLOAD};
 use std::collections::{BTreeMap, VecDeque};
 
 fn opening(channel: u16) -> OwnedFrame {
@@ -51,15 +53,17 @@ fn each_opening_is_read() {
     for method in openings {
         let (mut wire, mut again) = (Vec::new(), Vec::new());
         method.encode(3, &mut wire).unwrap();
-        Content { properties: Properties::default().with_priority(1), body: b"hello" }.encode_within(20, 3, &mut wire).unwrap();
-        let found: Vec<Message> = any().messages(Frames::new(&wire, MAX_PAYLOAD)).collect::<Result<_, _>>().unwrap();
+        let content = Content { properties: Properties::default().with_priority(1), body: b"hello" };
+        let encoder = Encoder::new(3).with_max_payload(20);
+        encoder.encode(&content, &mut wire).unwrap();
+        let found: Vec<Message> = any().messages(Frames::new(&wire, MAX_PAYLOAD)).filter_map(|found| found.unwrap().message()).collect();
         assert_eq!((found.len(), found[0].channel(), found[0].body()), (1, 3, &b"hello"[..]));
-        assert_eq!(found[0].opening().ok(), Opening::of(method));
-        assert_eq!(found[0].properties().unwrap().priority, Some(1));
-        assert_eq!(found[0].encode_within(20, &mut again), Ok(wire.len()));
+        assert_eq!(Some(found[0].opening()), Opening::from_method(method));
+        assert_eq!(found[0].properties().priority, Some(1));
+        assert_eq!(encoder.encode(&found[0], &mut again), Ok(wire.len()));
         assert_eq!((again, found[0].clone().into_body()), (wire, b"hello".to_vec()));
     }
-    assert_eq!(Opening::of(Method::BasicAck(BasicAck::default())), None);
+    assert_eq!(Opening::from_method(Method::BasicAck(BasicAck::default())), None);
 }
 
 /// The frames of a message, whose body is cut at random.
@@ -71,7 +75,7 @@ fn frames(random: &mut Random, channel: u16, body: &[u8]) -> VecDeque<Vec<u8>> {
         frames.push_back(self::body(channel, piece));
         rest = after;
     }
-    frames.iter().map(|frame| frame.as_frame().bytes.to_vec()).collect()
+    frames.iter().map(|frame| frame.as_frame().bytes().to_vec()).collect()
 }
 
 #[test]
@@ -98,11 +102,11 @@ fn many_channels_come_back_whole_and_in_order() {
         reader.feed(piece, &mut fed).unwrap();
         rest = after;
     }
-    assert_eq!((reader.assembler().open(), reader.assembler().held(), reader.finish()), (0, 0, Ok(())));
+    assert_eq!((reader.assembler().open_messages(), reader.assembler().held(), reader.finish()), (0, 0, Ok(())));
     let read: Vec<_> = messages(&wire[..], MAX_PAYLOAD, any()).collect::<Result<_, _>>().unwrap();
     assert_eq!(fed, read);
     let mut found: BTreeMap<u16, Vec<Vec<u8>>> = BTreeMap::new();
-    fed.into_iter().for_each(|message| found.entry(message.channel()).or_default().push(message.into_body()));
+    fed.into_iter().filter_map(Received::message).for_each(|message| found.entry(message.channel()).or_default().push(message.into_body()));
     assert_eq!(found, sent);
 }
 
@@ -114,7 +118,7 @@ fn refused(fault: ContentFault, frames: &[OwnedFrame]) {
     for fault in [fault, ContentFault::Faulted] {
         assert_eq!(push(&mut assembler, std::slice::from_ref(last)), Err(Error::BadContent { channel: 1, fault }));
     }
-    assert_eq!((assembler.open(), assembler.held()), (0, 0));
+    assert_eq!((assembler.open_messages(), assembler.held()), (0, 0));
     assert_eq!(push(&mut assembler, &[opening(9), header(9, 0)]), Ok("complete"));
     assembler.forget(1);
     assert_eq!(push(&mut assembler, &[opening(1), header(1, 2), body(1, b"hi")]), Ok("complete"));
@@ -136,17 +140,17 @@ fn each_fault_is_named_and_stays() {
 
 #[test]
 fn a_frame_that_passes_the_bound_changes_nothing() {
-    let length = opening(1).as_frame().payload.len() as u64;
+    let length = opening(1).as_frame().payload().len() as u64;
     let mut assembler = Assembler::new(u64::MAX, length + 20);
     assert_eq!(push(&mut assembler, &[opening(1), header(1, 6)]), Ok("taken"));
     let held = assembler.held();
     for _ in 0..2 {
         assert_eq!(push(&mut assembler, &[opening(2)]), Err(Error::AssemblerFull));
-        assert_eq!((assembler.open(), assembler.held()), (1, held));
+        assert_eq!((assembler.open_messages(), assembler.held()), (1, held));
     }
     assert_eq!(push(&mut assembler, &[OwnedFrame::new(2, &BasicAck::default()).unwrap()]), Ok("passed"));
     assert_eq!(push(&mut assembler, &[body(1, b"123456")]), Ok("complete"));
-    assert_eq!((assembler.open(), assembler.held()), (0, 0));
+    assert_eq!((assembler.open_messages(), assembler.held()), (0, 0));
     assert_eq!(push(&mut assembler, &[opening(2)]), Ok("taken"));
     assembler.forget(2);
     assert_eq!(assembler.held(), 0);
@@ -154,16 +158,16 @@ fn a_frame_that_passes_the_bound_changes_nothing() {
 
 #[test]
 fn the_end_is_tested() {
-    let wire = [opening(1).as_frame().bytes, header(1, 2).as_frame().bytes].concat();
+    let wire = [opening(1).as_frame().bytes(), header(1, 2).as_frame().bytes()].concat();
     let frames = || Frames::new(&wire, MAX_PAYLOAD);
     let open = Error::OpenContent { messages: 1 };
     let mut found = any().messages(frames());
     assert_eq!((found.next(), found.next()), (Some(Err(open)), None));
     let mut found = messages(&wire[..], MAX_PAYLOAD, any());
-    assert!(matches!(found.next(), Some(Err(StreamError::Frame(error))) if error == open));
+    assert!(matches!(found.next(), Some(Err(StreamError::Frame { error, offset })) if error == open && offset == wire.len() as u64));
     assert!(found.next().is_none());
     let cut = [&wire[..], &[3]].concat();
-    assert!(matches!(messages(&cut[..], MAX_PAYLOAD, any()).next(), Some(Err(StreamError::Frame(Error::CutShort)))));
+    assert!(matches!(messages(&cut[..], MAX_PAYLOAD, any()).next(), Some(Err(StreamError::Frame { error: Error::CutShort, .. }))));
     let full = Assembler::new(u64::MAX, 3).messages(frames()).next();
     assert_eq!(full, Some(Err(Error::AssemblerFull)));
     assert_eq!(Error::AssemblerFull.status(), 255);

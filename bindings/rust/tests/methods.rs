@@ -20,16 +20,16 @@ fn frame_of(line: &str) -> OwnedFrame {
 fn is_written_back(frame: Frame<'_>) {
     let payload = frame.decode().unwrap();
     let mut out = b"in front".to_vec();
-    assert_eq!(payload.encode(frame.channel, &mut out), Ok(frame.bytes.len()));
-    assert_eq!(out, [b"in front", frame.bytes].concat());
-    let mut slice = vec![0; frame.bytes.len()];
-    assert_eq!(payload.encode_to_slice(frame.channel, &mut slice), Ok(slice.len()));
-    assert_eq!(slice, frame.bytes);
-    assert_eq!(OwnedFrame::new(frame.channel, &payload).unwrap().as_frame(), frame);
-    assert_eq!(line(&frame), dump(frame.bytes, MAX_PAYLOAD).written);
+    assert_eq!(payload.encode(frame.channel(), &mut out), Ok(frame.bytes().len()));
+    assert_eq!(out, [b"in front", frame.bytes()].concat());
+    let mut slice = vec![0; frame.bytes().len()];
+    assert_eq!(payload.encode_to_slice(frame.channel(), &mut slice), Ok(slice.len()));
+    assert_eq!(slice, frame.bytes());
+    assert_eq!(OwnedFrame::new(frame.channel(), &payload).unwrap().as_frame(), frame);
+    assert_eq!(line(&frame), dump(frame.bytes(), MAX_PAYLOAD).written);
     let mut canonical = Vec::new();
-    canonicalize(frame.bytes, &mut canonical, MAX_PAYLOAD, Level::Plain).unwrap();
-    assert_eq!(canonical, frame.bytes);
+    canonicalize(frame.bytes(), &mut canonical, MAX_PAYLOAD, Level::Plain).unwrap();
+    assert_eq!(canonical, frame.bytes());
 }
 
 /// Each field is shown by its name.
@@ -66,7 +66,7 @@ fn each_method_is_read_and_written() {
             let (names, read): (Vec<_>, Vec<_>) = method.fields().unzip();
             assert_eq!((names, &read), (shape.names.iter().map(String::as_str).collect(), &fields), "{}", shape.name);
             shows_fields(&format!("{method:?}"), &shape.names, &fields);
-            assert_eq!(usize::from(frame.as_frame().summary.fields), fields.len());
+            assert_eq!(usize::from(frame.as_frame().summary().fields), fields.len());
             is_written_back(frame.as_frame());
         }
     }
@@ -127,7 +127,7 @@ fn content_headers_have_any_class() {
         let header = ContentHeader { class_id, body_size: 5, properties: Properties::default().with_user_id("guest") };
         let frame = OwnedFrame::new(9, &header).unwrap();
         assert_eq!(frame.decode(), Ok(Payload::Header(header)));
-        assert_eq!(dump(frame.as_frame().bytes, MAX_PAYLOAD).written, format!("header 9 {class_id} 5 user_id=\"guest\"\n"));
+        assert_eq!(dump(frame.as_frame().bytes(), MAX_PAYLOAD).written, format!("header 9 {class_id} 5 user_id=\"guest\"\n"));
     }
 }
 
@@ -158,9 +158,9 @@ fn structs_are_written_by_their_names() {
     ];
     for (method, words) in cases {
         let frame = OwnedFrame::new(2, &method).unwrap();
-        assert_eq!(dump(frame.as_frame().bytes, MAX_PAYLOAD).written, format!("method 2 {words}\n"));
+        assert_eq!(dump(frame.as_frame().bytes(), MAX_PAYLOAD).written, format!("method 2 {words}\n"));
         assert_eq!(frame.decode(), Ok(Payload::Method(method)));
-        assert_eq!(frame.as_frame().frame_type, FrameType::Method);
+        assert_eq!(frame.as_frame().frame_type(), FrameType::Method);
     }
 }
 

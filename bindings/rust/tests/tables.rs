@@ -186,3 +186,44 @@ fn what_cannot_be_written_is_refused() {
     assert_eq!(ArrayBuf::from_values([&deep]), Err(EncodeError::TooDeep));
     assert_eq!(TableBuf::from_entries([("deep", &deep)]), Err(EncodeError::TooDeep));
 }
+
+#[test]
+fn entries_are_inserted_and_removed_as_in_a_map() {
+    let mut random = Random::new(9);
+    for _ in 0..300 {
+        let read = loose_content(&mut random, 2);
+        let mut table = if random.is_true() { TableBuf::new() } else { Table::from_content(&read).unwrap().into_owned() };
+        let mut map: BTreeMap<String, Value<'_>> =
+            Table::from_content(&read).unwrap().iter().map(|(key, value)| (key.into(), value)).collect();
+        if table.is_empty() {
+            map.clear();
+        }
+        for _ in 0..20 {
+            let (key, number) = (random.text(1), random.number() as i32);
+            if random.is_true() {
+                assert_eq!(table.remove(&key), map.remove(&key).is_some());
+            } else {
+                table.insert(&key, number).unwrap();
+                map.insert(key.clone(), number.into());
+            }
+            assert_eq!(table.get(&key), map.get(key.as_str()).copied());
+            let wanted: TableBuf = map.iter().map(|(key, value)| (key.as_str(), *value)).collect();
+            assert_eq!(table, wanted);
+        }
+        if read.is_empty() {
+            assert!(table.iter().zip(table.iter().skip(1)).all(|((one, _), (two, _))| one < two));
+        }
+    }
+    let mut table = TableBuf::new();
+    assert_eq!(table.insert(&"k".repeat(256), 1), Err(EncodeError::TooLong { field: "key" }));
+    assert_eq!((table.is_empty(), (&table).into_iter().count()), (true, 0));
+}
+
+#[test]
+fn values_are_taken_by_what_they_are() {
+    let text = String::from("quorum");
+    assert_eq!((Value::from(&text), Value::from(&text).as_bytes()), (Value::LongString(b"quorum"), Some(&b"quorum"[..])));
+    assert_eq!((Value::ByteArray(b"\xff").as_bytes(), Value::Void.as_bytes()), (Some(&b"\xff"[..]), None));
+    assert_eq!((Value::Float(1.5).as_f64(), Value::Double(-2.5).as_f64(), Value::LongInt(1).as_f64()), (Some(1.5), Some(-2.5), None));
+    assert_eq!((Value::Timestamp(7).as_timestamp(), Value::LongUint(7).as_timestamp()), (Some(7), None));
+}

@@ -19,10 +19,10 @@ fn each_call_ends_with_an_error() {
     assert_eq!((dump(&BEAT, MAX_PAYLOAD).end, undump(b"beat\n", MAX_PAYLOAD).end), (Err(UNKNOWN), Err(UNKNOWN)));
     let mut out = Vec::new();
     let read = canonicalize(&BEAT[..], &mut out, MAX_PAYLOAD, Level::Plain);
-    assert!(matches!(read, Err(StreamError::Frame(UNKNOWN))), "{read:?}");
+    assert!(matches!(read, Err(StreamError::Frame { error: UNKNOWN, .. })), "{read:?}");
     let mut stream = Canonicalizer::new(MAX_PAYLOAD, Level::Plain);
     assert_eq!((stream.feed(&BEAT, &mut out), stream.finish()), (Err(UNKNOWN), Err(UNKNOWN)));
-    assert_eq!(canonicalize_slice(&BEAT, &mut [0; 8], &mut Scratch::none(), MAX_PAYLOAD, Level::Plain).end, Err(UNKNOWN));
+    assert_eq!(canonicalize_slice(&BEAT, &mut [0; 8], &mut Scratch::new(), MAX_PAYLOAD, Level::Plain).end, Err(UNKNOWN));
     assert_eq!(Frames::new(&BEAT, MAX_PAYLOAD).collect::<Vec<_>>(), [Err(UNKNOWN)]);
     assert_eq!(check(FrameType::Heartbeat, b""), Err(UNKNOWN));
     assert_eq!(Payload::read(FrameType::Heartbeat, b""), Err(UNKNOWN));
@@ -36,7 +36,7 @@ fn each_call_ends_with_an_error() {
     let mut stream = Recutter::new(MAX_PAYLOAD, NonZeroU32::MIN);
     assert_eq!((stream.feed(&BEAT, &mut out), stream.finish()), (Err(UNKNOWN), Err(UNKNOWN)));
     let found: Vec<_> = messages(&BEAT[..], MAX_PAYLOAD, Assembler::new(9, 9)).collect();
-    assert!(matches!(found[..], [Err(StreamError::Frame(UNKNOWN))]), "{found:?}");
+    assert!(matches!(found[..], [Err(StreamError::Frame { error: UNKNOWN, .. })]), "{found:?}");
     assert!(out.is_empty());
 }
 

@@ -1,7 +1,7 @@
 -- Keys whose first bytes differ stand as the numbers of those bytes do.
 use Rattle.std.proofs.Common.{◌≡◌, ◌<◌, ◌≤◌, inl, inr, ℕ, zero, suc, ◌+◌, ◌*◌, ◌^◌, Bool, true, false, List, [], ◌∷◌, ◌++◌, length, get_or, drop, nat_eq, nat_lt, refl, sym, ap, ap₂, subst, ◌∙◌, arith}
 use Rattle.std.proofs.lemmas.Cmp.{nat_list_cmp_total, tied_itself}
-use Rattle.std.proofs.lemmas.List.{get_or-drop, drop-drop}
+use Rattle.std.proofs.lemmas.List.{get_or-drop, drop-drop, length-take}
 use Rattle.std.proofs.lemmas.List.Elements.{All-nil, All-cons, All-append}
 use Rattle.std.proofs.lemmas.Map.Lookups.{exact_bytes}
 use Rattle.std.proofs.lemmas.Map.Views.{tells_apart}
@@ -94,6 +94,60 @@ later-tells (suc n) m (x ∷ xs) (y ∷ ys) fa fb same less =
     let first = same_first x y (256 ^ n) (leading n xs) (leading n ys) one two same in
     below_rest x y xs ys first.0 (later-tells n m xs ys (λ k. fa (suc k)) (λ k. fb (suc k)) first.1 less)
 
+-- ---- keys of no more bytes than the numbers have
+
+-- of two keys whose first n bytes are the same, one of no more bytes than these comes before a longer one
+shorter_first : (n : ℕ) (a b : List ℕ) → IsBytes a → IsBytes b → leading n a ≡ leading n b → length a ≤ n → length a < length b → IsBelow a b
+unfolding leading
+shorter_first n [] [] fa fb same short less = absurd (omega (arith, less))
+shorter_first n [] (y ∷ ys) fa fb same short less = refl
+shorter_first zero (x ∷ xs) b fa fb same short less = absurd (omega (arith, short))
+shorter_first (suc n) (x ∷ xs) [] fa fb same short less = absurd (omega (arith, less))
+shorter_first (suc n) (x ∷ xs) (y ∷ ys) fa fb same short less =
+    let one = leading-below n xs (λ k. fa (suc k)) in
+    let two = leading-below n ys (λ k. fb (suc k)) in
+    let first = same_first x y (256 ^ n) (leading n xs) (leading n ys) one two same in
+    below_rest x y xs ys first.0 (shorter_first n xs ys (λ k. fa (suc k)) (λ k. fb (suc k)) first.1 (omega (arith, short)) (omega (arith, less)))
+
+-- and so where m more are the same
+later_shorter : (n m : ℕ) (a b : List ℕ) → IsBytes a → IsBytes b → leading n a ≡ leading n b → leading m (drop n a) ≡ leading m (drop n b) → length a ≤ n + m → length a < length b → IsBelow a b
+unfolding leading
+later_shorter zero m a b fa fb same next short less = shorter_first m a b fa fb next (omega (arith, short)) less
+later_shorter (suc n) m [] [] fa fb same next short less = absurd (omega (arith, less))
+later_shorter (suc n) m [] (y ∷ ys) fa fb same next short less = refl
+later_shorter (suc n) m (x ∷ xs) [] fa fb same next short less = absurd (omega (arith, less))
+later_shorter (suc n) m (x ∷ xs) (y ∷ ys) fa fb same next short less =
+    let one = leading-below n xs (λ k. fa (suc k)) in
+    let two = leading-below n ys (λ k. fb (suc k)) in
+    let first = same_first x y (256 ^ n) (leading n xs) (leading n ys) one two same in
+    below_rest x y xs ys first.0 (later_shorter n m xs ys (λ k. fa (suc k)) (λ k. fb (suc k)) first.1 next (omega (arith, short)) (omega (arith, less)))
+
+-- two of one length, of no more bytes than these, are the same
+same_short : (n : ℕ) (a b : List ℕ) → IsBytes a → IsBytes b → leading n a ≡ leading n b → length a ≤ n → length a ≡ length b → a ≡ b
+unfolding leading
+same_short n [] [] fa fb same short long = refl
+same_short n [] (y ∷ ys) fa fb same short long = absurd (omega (arith, long))
+same_short n (x ∷ xs) [] fa fb same short long = absurd (omega (arith, long))
+same_short zero (x ∷ xs) (y ∷ ys) fa fb same short long = absurd (omega (arith, short))
+same_short (suc n) (x ∷ xs) (y ∷ ys) fa fb same short long =
+    let one = leading-below n xs (λ k. fa (suc k)) in
+    let two = leading-below n ys (λ k. fb (suc k)) in
+    let first = same_first x y (256 ^ n) (leading n xs) (leading n ys) one two same in
+    ap₂ (λ z zs. z ∷ zs) first.0 (same_short n xs ys (λ k. fa (suc k)) (λ k. fb (suc k)) first.1 (omega (arith, short)) (omega (arith, long)))
+
+-- and so where m more are the same
+later_same : (n m : ℕ) (a b : List ℕ) → IsBytes a → IsBytes b → leading n a ≡ leading n b → leading m (drop n a) ≡ leading m (drop n b) → length a ≤ n + m → length a ≡ length b → a ≡ b
+unfolding leading
+later_same zero m a b fa fb same next short long = same_short m a b fa fb next (omega (arith, short)) long
+later_same (suc n) m [] [] fa fb same next short long = refl
+later_same (suc n) m [] (y ∷ ys) fa fb same next short long = absurd (omega (arith, long))
+later_same (suc n) m (x ∷ xs) [] fa fb same next short long = absurd (omega (arith, long))
+later_same (suc n) m (x ∷ xs) (y ∷ ys) fa fb same next short long =
+    let one = leading-below n xs (λ k. fa (suc k)) in
+    let two = leading-below n ys (λ k. fb (suc k)) in
+    let first = same_first x y (256 ^ n) (leading n xs) (leading n ys) one two same in
+    ap₂ (λ z zs. z ∷ zs) first.0 (later_same n m xs ys (λ k. fa (suc k)) (λ k. fb (suc k)) first.1 next (omega (arith, short)) (omega (arith, long)))
+
 -- ---- the numbers of the bytes
 
 pub beyond : (key : List ℕ) (k : ℕ) → length key ≤ k → get_or key k 0 ≡ 0
@@ -134,13 +188,36 @@ pub more_tells : (content : List ℕ) (previous mark : EntryMark) → IsBytes co
 more_tells content previous mark fits p m same less =
     inl (later-tells 8 2 (key_at content previous) (key_at content mark) (key_fits (drop previous.place content) (IsBytes-drop previous.place content fits)) (key_fits (drop mark.place content) (IsBytes-drop mark.place content fits)) (sym p.first ∙ same ∙ m.first) (omega (arith, p.next, m.next, less)))
 
+-- a key has at most 255 bytes
+pub key_is_short : (bytes : List ℕ) → IsBytes bytes → length (key_in bytes) < 256
+key_is_short [] fits = omega arith
+key_is_short (n ∷ bytes) fits = let few : n < 256 = fits 0 in omega (arith, few, length-take n bytes)
+
+key_at_fits : (content : List ℕ) (mark : EntryMark) → IsBytes content → IsBytes (key_at content mark)
+key_at_fits content mark fits = key_fits (drop mark.place content) (IsBytes-drop mark.place content fits)
+
+-- where the numbers are the same, a key of no more bytes than these comes before a longer one
+pub size_tells : (content : List ℕ) (previous mark : EntryMark) → IsBytes content → IsMarkOf content previous → IsMarkOf content mark → previous.lead ≡ mark.lead → previous.more ≡ mark.more → previous.key_size ≤ 10 → previous.key_size < mark.key_size
+    → Follows content previous mark
+size_tells content previous mark fits p m same next short less =
+    inl (later_shorter 8 2 (key_at content previous) (key_at content mark) (key_at_fits content previous fits) (key_at_fits content mark fits) (sym p.first ∙ same ∙ m.first) (sym p.next ∙ next ∙ m.next) (omega (arith, p.key_length, short)) (omega (arith, p.key_length, m.key_length, less)))
+
+-- and two of one length are the same
+pub size_ties : (content : List ℕ) (a b : EntryMark) → IsBytes content → IsMarkOf content a → IsMarkOf content b → a.lead ≡ b.lead → a.more ≡ b.more → a.key_size ≡ b.key_size → a.key_size ≤ 10 → key_at content a ≡ key_at content b
+size_ties content a b fits p q same next long short =
+    later_same 8 2 (key_at content a) (key_at content b) (key_at_fits content a fits) (key_at_fits content b fits) (sym p.first ∙ same ∙ q.first) (sym p.next ∙ next ∙ q.next) (omega (arith, p.key_length, short)) (sym p.key_length ∙ long ∙ q.key_length)
+
 -- marks of one key have the same numbers
-pub same_lead : (content : List ℕ) (a b : EntryMark) → IsMarkOf content a → IsMarkOf content b → key_at content a ≡ key_at content b → (a.lead ≡ b.lead) × (a.more ≡ b.more)
-same_lead content a b p q same = (p.first ∙ ap (leading 8) same ∙ sym q.first, p.next ∙ ap (λ k. leading 2 (drop 8 k)) same ∙ sym q.next)
+pub same_lead : (content : List ℕ) (a b : EntryMark) → IsMarkOf content a → IsMarkOf content b → key_at content a ≡ key_at content b → (a.lead ≡ b.lead) × (a.more ≡ b.more) × (a.key_size ≡ b.key_size)
+same_lead content a b p q same = (p.first ∙ ap (leading 8) same ∙ sym q.first, p.next ∙ ap (λ k. leading 2 (drop 8 k)) same ∙ sym q.next, p.key_length ∙ ap length same ∙ sym q.key_length)
 
 -- keys that differ
 pub never : (a b : List ℕ) → (a ≡ b → ⊥) → IsTrue false ↔ (a ≡ b)
 never a b differ = (λ t. absurd cc, λ same. absurd (differ same))
+
+-- keys that are the same
+pub always : (a b : List ℕ) → a ≡ b → IsTrue true ↔ (a ≡ b)
+always a b same = (λ t. same, λ e. refl)
 
 -- a test that holds exactly where two keys are the same
 pub same_test : (a b : List ℕ) (r : Bool) → IsTrue r ↔ (a ≡ b) → r ≡ is_eq (slice_cmp nat_cmp a b)

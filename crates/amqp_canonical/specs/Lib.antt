@@ -7,5 +7,6 @@ pub mod Writes
 pub mod Leads
 pub mod Marks
 pub mod Payloads
+pub mod CanonicalValues
 pub mod Places
 pub mod WritingLaws

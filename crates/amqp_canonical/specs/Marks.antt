@@ -38,11 +38,12 @@ AreEntries depth_left content = IsFilled (filled (judge_entry (judge_value depth
 
 -- ---- marks
 
--- The mark's numbers are the first bytes of the key at its place, and a size that is not 0 is that of the entry there, which
--- is copied.
+-- The mark's numbers are the first bytes and the length of the key at its place, and a size that is not 0 is that of the
+-- entry there, which is copied.
 pub record IsMarkOf (content : List ℕ) (mark : EntryMark) : Type 0 where
   pub first : mark.lead ≡ leading 8 (key_at content mark)
   pub next : mark.more ≡ leading 2 (drop 8 (key_at content mark))
+  pub key_length : mark.key_size ≡ length (key_at content mark)
   pub copied : mark.size ≢ 0 → (depth_left : ℕ) → IsRead (entry_at depth_left content mark.place) → IsCopied entry_bytes (drop mark.place content) mark.size (entry_at depth_left content mark.place)
 
 -- an entry was decoded at each mark's place
@@ -63,7 +64,7 @@ Follows content previous mark = IsBelow (key_at content previous) (key_at conten
 
 -- what is found where there is no mark
 abbrev pub blank : EntryMark
-blank = record { lead = 0; place = 0; more = 0; size = 0 }
+blank = record { lead = 0; place = 0; more = 0; key_size = 0; size = 0 }
 
 -- each follows the one before it
 abbrev pub AreInOrder : List ℕ → List EntryMark → Type 0

@@ -30,6 +30,10 @@ pub record HasRoom (sure : Bool) (end length : ℕ) : Type 0 where
   pub few : end < 2 ^ 64
   pub room : sure ≡ true → end ≤ length
 
+-- there is room for bytes at a place, where that is sure
+abbrev pub HasRoomFor : Bool → List ℕ → ℕ → List ℕ → Type 0
+HasRoomFor sure buf at bytes = HasRoom sure (at + length bytes) (length buf)
+
 -- A put call puts the bytes at a place where there is room for them, and returns the place after them in any case.
 pub record PutsIfRoom (old new : List ℕ) (at : ℕ) (bytes : List ℕ) (result : ℕ) : Type 0 where
   pub put : at + length bytes ≤ length old → new ≡ written old at bytes

@@ -43,3 +43,28 @@ pub(crate) fn next_two(key: &[u8]) -> u16
         _ => 0,
     }
 }
+
+/// The first eight bytes and the next two of a key of any length, as numbers.
+#[inline(never)]
+fn any_ten(key: &[u8]) -> (u64, u16)
+    ensures first { result.0 ≡ leading 8 key.now }
+    ensures next { result.1 ≡ leading 2 (drop 8 key.now) }
+{
+    (first_eight(key), next_two(key))
+}
+
+/// The first eight bytes of a key as a number, and the two after them, with zeros after a shorter key. Most keys have as
+/// many, and take one test.
+#[inline(always)]
+pub(crate) fn first_ten(key: &[u8]) -> (u64, u16)
+    ensures first { result.0 ≡ leading 8 key.now }
+    ensures next { result.1 ≡ leading 2 (drop 8 key.now) }
+{
+    match key {
+        [a, b, c, d, e, f, g, h, i, j, ..] => (
+            u64::from_be_bytes([*a, *b, *c, *d, *e, *f, *g, *h]),
+            u16::from_be_bytes([*i, *j]),
+        ),
+        short => any_ten(short),
+    }
+}

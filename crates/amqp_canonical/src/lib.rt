@@ -39,6 +39,9 @@ pub use shapes::{Form, Slot, header_shapes, property_shapes, shapes_of};
 pub use slot_writing::{form_size, put_slots, slot_size};
 pub use slots::{Judgement, judge_slots};
 pub use spans::{bytes_from, content_of, entry_size, split_key, value_size};
-pub use values::{ValueJudgement, judge_array, judge_table, judge_value};
-pub use writing::{put_array, put_table, put_value};
+pub use texts::is_text;
+pub use values::{
+    ValueJudgement, judge_array, judge_entries, judge_table, judge_value, judge_values,
+};
+pub use writing::{put_array, put_entries, put_table, put_value, put_values};
 pub use writing_laws::written_is_no_longer;

@@ -5,7 +5,7 @@ ghost use Rattle.std.specs.List.Sorted.{IsPermutation};
 ghost use Rattle.amqp_canonical.specs.Leads.{key_at};
 ghost use Rattle.amqp_canonical.specs.Marks.{AreEntries, AreInOrder, AreMarks, AreOfTable, AreRead, Follows, IsMarkOf, blank, marked_entry, ties};
 
-use crate::leads::{first_eight, next_two};
+use crate::leads::first_ten;
 use crate::spans::{Span, bytes_from, entry_span, split_key};
 use std::cmp::Ordering;
 
@@ -24,10 +24,16 @@ pub struct EntryMark {
     /// The two bytes of the key after its first eight.
     more: u16,
 
+    /// How many bytes the key has.
+    key_size: u8,
+
     /// How many bytes the entry takes, where they are its canonical bytes by its tag alone. Else 0, and where they are
-    /// more than 65,535.
-    pub(crate) size: u16,
+    /// more than 255.
+    pub(crate) size: u8,
 }
+
+/// How many bytes of a key its mark has.
+const MARKED: u8 = 10;
 
 impl Default for EntryMark {
     /// A mark of zeros, as a scratch is filled before it is passed.
@@ -38,6 +44,7 @@ impl Default for EntryMark {
             lead: 0,
             place: 0,
             more: 0,
+            key_size: 0,
             size: 0,
         }
     }
@@ -52,11 +59,11 @@ pub(crate) fn marked(content: &[u8], mark: EntryMark) -> &[u8]
 
 /// How many bytes are copied. 0 where none are, and where they are more than a mark has room for.
 #[inline(always)]
-fn size_copied(span: Span) -> u16
+fn size_copied(span: Span) -> u8
     ensures { result ≢ 0 → IsTrue span.copied × (result ≡ span.size) }
 {
-    if span.copied && span.size <= u16::MAX as usize {
-        span.size as u16
+    if span.copied && span.size <= u8::MAX as usize {
+        span.size as u8
     } else {
         0
     }
@@ -68,7 +75,8 @@ fn mark_entries(marks: &mut [EntryMark], content: &[u8]) -> Option<usize>
     ensures len { length marks.new ≡ length marks.old }
     ensures within { IfSome result (λ count. count ≤ length marks.new) }
     ensures each { IfSome result (λ count. All (IsMarkOf content.now) (take count marks.new)) }
-    ensures marked { IfSome result (λ count. (depth_left : ℕ) → AreEntries depth_left content.now → AreMarks depth_left content.now (take count marks.new)) }
+    ensures marked { IfSome result (λ count. (depth_left : ℕ)
+        → AreEntries depth_left content.now → AreMarks depth_left content.now (take count marks.new)) }
 {
     if content.len() > u32::MAX as usize {
         return None;
@@ -82,10 +90,12 @@ fn mark_entries(marks: &mut [EntryMark], content: &[u8]) -> Option<usize>
         let entry = &content[at..];
         let (key, _) = split_key(entry);
         let span = entry_span(entry);
+        let (lead, more) = first_ten(key);
         marks[count] = EntryMark {
-            lead: first_eight(key),
+            lead,
             place: at as u32,
-            more: next_two(key),
+            more,
+            key_size: key.len() as u8,
             size: size_copied(span),
         };
         count += 1;
@@ -105,7 +115,8 @@ fn order_keys(content: &[u8], a: EntryMark, b: EntryMark) -> Ordering {
     }
 }
 
-/// How two marks stand, by the first bytes of their keys where these differ.
+/// How two marks stand, by the first bytes of their keys where these differ, and by the lengths of the keys and then
+/// their places where one has no other bytes.
 #[inline(always)]
 fn order(content: &[u8], a: &EntryMark, b: &EntryMark) -> Ordering {
     if a.lead != b.lead {
@@ -114,7 +125,13 @@ fn order(content: &[u8], a: &EntryMark, b: &EntryMark) -> Ordering {
     if a.more != b.more {
         return a.more.cmp(&b.more);
     }
-    order_keys(content, *a, *b)
+    if b.key_size > MARKED && a.key_size > MARKED {
+        return order_keys(content, *a, *b);
+    }
+    if a.key_size != b.key_size {
+        return a.key_size.cmp(&b.key_size);
+    }
+    a.place.cmp(&b.place)
 }
 
 /// Sorts marks. Split for the proof: nothing rests on which order that is, since it is tested after.
@@ -138,7 +155,8 @@ fn key_follows(content: &[u8], previous: EntryMark, mark: EntryMark) -> bool
     }
 }
 
-/// Whether an entry comes after the previous one, by the first bytes of their keys where these differ.
+/// Whether an entry comes after the previous one, by the first bytes of their keys where these differ, and by the
+/// lengths of the keys and then their places where one has no other bytes.
 #[inline(always)]
 fn follows(content: &[u8], previous: &EntryMark, mark: &EntryMark) -> bool
     requires { IsMarkOf content.now previous.now × IsMarkOf content.now mark.now }
@@ -150,7 +168,13 @@ fn follows(content: &[u8], previous: &EntryMark, mark: &EntryMark) -> bool
     if previous.more != mark.more {
         return previous.more < mark.more;
     }
-    key_follows(content, *previous, *mark)
+    if previous.key_size > MARKED && mark.key_size > MARKED {
+        return key_follows(content, *previous, *mark);
+    }
+    if previous.key_size != mark.key_size {
+        return previous.key_size < mark.key_size;
+    }
+    previous.place < mark.place
 }
 
 /// Whether each mark follows the one before it.
@@ -183,7 +207,8 @@ fn put_in_order(marks: &mut [EntryMark], content: &[u8]) -> bool
 pub(crate) fn mark_in_order(marks: &mut [EntryMark], content: &[u8]) -> Option<usize>
     ensures within { IfSome result (λ count. count ≤ length marks.new) }
     ensures each { IfSome result (λ count. All (IsMarkOf content.now) (take count marks.new)) }
-    ensures table { IfSome result (λ count. (depth_left : ℕ) → AreEntries depth_left content.now → AreOfTable depth_left content.now (take count marks.new)) }
+    ensures table { IfSome result (λ count. (depth_left : ℕ)
+        → AreEntries depth_left content.now → AreOfTable depth_left content.now (take count marks.new)) }
 {
     let count = mark_entries(marks, content)?;
     if put_in_order(&mut marks[..count], content) {
@@ -209,7 +234,8 @@ pub(crate) fn is_tied(marks: &[EntryMark], content: &[u8], k: usize) -> bool
     requires here { k < length marks.now }
     requires each { All (IsMarkOf content.now) marks.now }
     ensures { (depth_left : ℕ) → AreRead depth_left content.now marks.now
-        → result ≡ ties (marked_entry depth_left content.now (slice_index_or marks.now k blank)) (map (marked_entry depth_left content.now) (drop (k + 1) marks.now)) }
+        → result ≡ ties (marked_entry depth_left content.now (slice_index_or marks.now k blank))
+        (map (marked_entry depth_left content.now) (drop (k + 1) marks.now)) }
 {
     if k + 1 == marks.len() {
         return false;
@@ -220,6 +246,12 @@ pub(crate) fn is_tied(marks: &[EntryMark], content: &[u8], k: usize) -> bool
     }
     if mark.more != next.more {
         return false;
+    }
+    if mark.key_size != next.key_size {
+        return false;
+    }
+    if mark.key_size <= MARKED {
+        return true;
     }
     is_same_key(content, *mark, *next)
 }

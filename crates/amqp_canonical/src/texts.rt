@@ -21,7 +21,7 @@ fn is_utf8_text(bytes: &[u8]) -> bool
 
 /// Whether bytes are UTF-8, which ASCII is.
 #[inline(always)]
-fn is_text(bytes: &[u8]) -> bool
+pub fn is_text(bytes: &[u8]) -> bool
     ensures { result ≡ is_utf8 bytes.now }
 {
     if bytes.is_ascii() {

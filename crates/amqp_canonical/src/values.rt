@@ -203,7 +203,8 @@ fn judge_after_tag(
     i: &[u8],
     depth_left: usize,
 ) -> Result<ValueJudgement, ParserError>
-    ensures judged { (tag : FieldTag) → layout_at tag ≡ layout → Judges IsCanonicalAfterTag i.now result (judge_behind (nested depth_left) tag i.now) }
+    ensures judged { (tag : FieldTag) → layout_at tag ≡ layout
+        → Judges IsCanonicalAfterTag i.now result (judge_behind (nested depth_left) tag i.now) }
     ensures used { IfOk result (λ w. w.used ≤ length i.now) }
 {
     match layout {
@@ -243,7 +244,8 @@ fn judge_after_tag(
 #[inline(always)]
 #[cycle(judge)]
 pub fn judge_array(i: &[u8], depth_left: usize) -> Result<ValueJudgement, ParserError>
-    ensures judged { Judges IsCanonicalArray i.now result (judge_array (judge_value depth_left) i.now) }
+    ensures judged { Judges IsCanonicalArray i.now result
+        (judge_array (judge_value depth_left) i.now) }
     ensures used { IfOk result (λ w. w.used ≤ length i.now) }
 {
     let (n, content) = parse_long_bytes(i)?;
@@ -255,7 +257,8 @@ pub fn judge_array(i: &[u8], depth_left: usize) -> Result<ValueJudgement, Parser
 #[inline(always)]
 #[cycle(judge)]
 pub fn judge_table(i: &[u8], depth_left: usize) -> Result<ValueJudgement, ParserError>
-    ensures judged { Judges IsCanonicalTable i.now result (judge_table (judge_value depth_left) i.now) }
+    ensures judged { Judges IsCanonicalTable i.now result
+        (judge_table (judge_value depth_left) i.now) }
     ensures used { IfOk result (λ w. w.used ≤ length i.now) }
 {
     let (n, content) = parse_long_bytes(i)?;
@@ -263,11 +266,13 @@ pub fn judge_table(i: &[u8], depth_left: usize) -> Result<ValueJudgement, Parser
     Ok(ValueJudgement { used: n, canonical })
 }
 
-/// Decodes the values that fill an array, and returns whether these are their canonical bytes.
+/// Decodes the values that fill an array, and returns whether these are their canonical bytes. Tables and arrays may nest
+/// `depth_left` deep in them.
 #[inline(never)]
 #[cycle(judge)]
-fn judge_values(content: &[u8], depth_left: usize) -> Result<bool, ParserError>
-    ensures { JudgesWhole AreCanonicalValues content.now result (filled (judge_value depth_left) 0 content.now) }
+pub fn judge_values(content: &[u8], depth_left: usize) -> Result<bool, ParserError>
+    ensures { JudgesWhole AreCanonicalValues content.now result
+        (filled (judge_value depth_left) 0 content.now) }
 {
     let mut canonical = true;
     let mut at = 0;
@@ -286,8 +291,9 @@ fn judge_values(content: &[u8], depth_left: usize) -> Result<bool, ParserError>
 /// order.
 #[inline(never)]
 #[cycle(judge)]
-fn judge_entries(content: &[u8], depth_left: usize) -> Result<bool, ParserError>
-    ensures { JudgesWhole AreCanonicalEntries content.now result (filled (judge_entry (judge_value depth_left)) 0 content.now) }
+pub fn judge_entries(content: &[u8], depth_left: usize) -> Result<bool, ParserError>
+    ensures { JudgesWhole AreCanonicalEntries content.now result
+        (filled (judge_entry (judge_value depth_left)) 0 content.now) }
 {
     let mut previous: &[u8] = &[];
     let mut previous_lead = 0;
@@ -318,7 +324,8 @@ fn judge_entries(content: &[u8], depth_left: usize) -> Result<bool, ParserError>
 #[inline(always)]
 #[cycle(judge)]
 fn judge_entry(i: &[u8], depth_left: usize) -> Result<(ValueJudgement, &[u8]), ParserError>
-    ensures judged { JudgesEntry (λ key. key.now) i.now result (judge_entry (judge_value depth_left) i.now) }
+    ensures judged { JudgesEntry (λ key. key.now) i.now result
+        (judge_entry (judge_value depth_left) i.now) }
     ensures used { IfOk result (λ found. (0 < found.0.used) × (found.0.used ≤ length i.now)) }
 {
     let (n, key) = short_text(i)?;

@@ -1,11 +1,10 @@
 //! Writing the canonical bytes of values, arrays and tables that were decoded, without memory.
 
-ghost use Rattle.std.specs.Prelude.{◌<◌, ◌+◌, ◌^◌, length, map, All};
-ghost use Rattle.amqp_types.specs.Settling.{settled};
-ghost use Rattle.amqp_types.specs.ValueBytes.{array_bytes, table_bytes, tagged_bytes, value_bytes};
+ghost use Rattle.std.specs.Prelude.{drop, All};
 ghost use Rattle.amqp_types.specs.ValueJudging.{filled, nested, judge_array, judge_behind, judge_entry, judge_table, judge_value};
-ghost use Rattle.amqp_canonical.specs.Writes.{IsRead, IsFilled, HasRoom, PutsIfRoom, array_content, canonical_of, entry_bytes, items_of, table_content};
-ghost use Rattle.amqp_canonical.specs.Marks.{AreEntries, IsMarkOf, entries_in, entry_at, last_of_ties, marked_entry};
+ghost use Rattle.amqp_canonical.specs.Writes.{IsRead, IsFilled, HasRoomFor, PutsIfRoom};
+ghost use Rattle.amqp_canonical.specs.CanonicalValues.{canonical_after_tag, canonical_array, canonical_entries, canonical_entry, canonical_table, canonical_value, canonical_values, marked_entries};
+ghost use Rattle.amqp_canonical.specs.Marks.{AreEntries, IsMarkOf, entry_at};
 
 use crate::marks::{EntryMark, is_tied, mark_in_order};
 use crate::rooms::{Room, put_if_room, truth_byte};
@@ -25,8 +24,8 @@ pub fn put_value<R: Room>(
     depth_left: usize,
 ) -> usize
     requires read { IsRead (judge_value depth_left i.now) }
-    requires room { HasRoom R.sure (at + length (canonical_of tagged_bytes (judge_value depth_left i.now))) (length buf.old) }
-    ensures { PutsIfRoom buf.old buf.new at (canonical_of tagged_bytes (judge_value depth_left i.now)) result }
+    requires room { HasRoomFor R.sure buf.old at (canonical_value depth_left i.now) }
+    ensures { PutsIfRoom buf.old buf.new at (canonical_value depth_left i.now) result }
 {
     match i {
         [] => at,
@@ -52,8 +51,8 @@ fn put_after_tag<R: Room>(
     depth_left: usize,
 ) -> usize
     requires read { IsRead (judge_behind (nested depth_left) tag i.now) }
-    requires room { HasRoom R.sure (at + length (canonical_of value_bytes (judge_behind (nested depth_left) tag i.now))) (length buf.old) }
-    ensures { PutsIfRoom buf.old buf.new at (canonical_of value_bytes (judge_behind (nested depth_left) tag i.now)) result }
+    requires room { HasRoomFor R.sure buf.old at (canonical_after_tag depth_left tag i.now) }
+    ensures { PutsIfRoom buf.old buf.new at (canonical_after_tag depth_left tag i.now) result }
 {
     match layout_of(tag) {
         layout @ (Layout::Fixed(_) | Layout::Counted) => put_if_room::<R>(
@@ -78,8 +77,8 @@ pub fn put_array<R: Room>(
     depth_left: usize,
 ) -> usize
     requires read { IsRead (judge_array (judge_value depth_left) i.now) }
-    requires room { HasRoom R.sure (at + length (canonical_of array_bytes (judge_array (judge_value depth_left) i.now))) (length buf.old) }
-    ensures { PutsIfRoom buf.old buf.new at (canonical_of array_bytes (judge_array (judge_value depth_left) i.now)) result }
+    requires room { HasRoomFor R.sure buf.old at (canonical_array depth_left i.now) }
+    ensures { PutsIfRoom buf.old buf.new at (canonical_array depth_left i.now) result }
 {
     let end = put_values::<R>(buf, at + 4, scratch, content_of(i), depth_left);
     put_if_room::<R>(buf, at, &((end - at - 4) as u32).to_be_bytes());
@@ -97,17 +96,18 @@ pub fn put_table<R: Room>(
     depth_left: usize,
 ) -> usize
     requires read { IsRead (judge_table (judge_value depth_left) i.now) }
-    requires room { HasRoom R.sure (at + length (canonical_of table_bytes (judge_table (judge_value depth_left) i.now))) (length buf.old) }
-    ensures { PutsIfRoom buf.old buf.new at (canonical_of table_bytes (judge_table (judge_value depth_left) i.now)) result }
+    requires room { HasRoomFor R.sure buf.old at (canonical_table depth_left i.now) }
+    ensures { PutsIfRoom buf.old buf.new at (canonical_table depth_left i.now) result }
 {
     let end = put_entries::<R>(buf, at + 4, scratch, content_of(i), depth_left);
     put_if_room::<R>(buf, at, &((end - at - 4) as u32).to_be_bytes());
     end
 }
 
-/// Puts the canonical bytes of the values that fill an array.
+/// Puts the canonical bytes of the values that fill an array, and returns the place after them. Tables and arrays may
+/// nest `depth_left` deep in them.
 #[cycle(write)]
-fn put_values<R: Room>(
+pub fn put_values<R: Room>(
     buf: &mut [u8],
     at: usize,
     scratch: &mut [EntryMark],
@@ -115,8 +115,8 @@ fn put_values<R: Room>(
     depth_left: usize,
 ) -> usize
     requires read { IsFilled (filled (judge_value depth_left) 0 content.now) }
-    requires room { HasRoom R.sure (at + length (array_content (items_of (filled (judge_value depth_left) 0 content.now)))) (length buf.old) }
-    ensures { PutsIfRoom buf.old buf.new at (array_content (items_of (filled (judge_value depth_left) 0 content.now))) result }
+    requires room { HasRoomFor R.sure buf.old at (canonical_values depth_left content.now) }
+    ensures { PutsIfRoom buf.old buf.new at (canonical_values depth_left content.now) result }
 {
     let mut end = at;
     let mut start = 0;
@@ -128,9 +128,10 @@ fn put_values<R: Room>(
     end
 }
 
-/// Puts the canonical bytes of the entries that fill a table.
+/// Puts the canonical bytes of the entries that fill a table, and returns the place after them: in ascending key order,
+/// and of duplicate keys the last one. Tables and arrays may nest `depth_left` deep in their values.
 #[cycle(write)]
-fn put_entries<R: Room>(
+pub fn put_entries<R: Room>(
     buf: &mut [u8],
     at: usize,
     scratch: &mut [EntryMark],
@@ -138,8 +139,8 @@ fn put_entries<R: Room>(
     depth_left: usize,
 ) -> usize
     requires read { AreEntries depth_left content.now }
-    requires room { HasRoom R.sure (at + length (table_content (settled (entries_in depth_left content.now)))) (length buf.old) }
-    ensures { PutsIfRoom buf.old buf.new at (table_content (settled (entries_in depth_left content.now))) result }
+    requires room { HasRoomFor R.sure buf.old at (canonical_entries depth_left content.now) }
+    ensures { PutsIfRoom buf.old buf.new at (canonical_entries depth_left content.now) result }
 {
     match mark_in_order(scratch, content) {
         Some(count) => {
@@ -162,8 +163,8 @@ fn put_marked<R: Room>(
 ) -> usize
     requires read { All (λ mark. IsRead (entry_at depth_left content.now mark.place)) marks.now }
     requires each { All (IsMarkOf content.now) marks.now }
-    requires room { HasRoom R.sure (at + length (table_content (last_of_ties (map (marked_entry depth_left content.now) marks.now)))) (length buf.old) }
-    ensures { PutsIfRoom buf.old buf.new at (table_content (last_of_ties (map (marked_entry depth_left content.now) marks.now))) result }
+    requires room { HasRoomFor R.sure buf.old at (marked_entries depth_left content.now marks.now) }
+    ensures { PutsIfRoom buf.old buf.new at (marked_entries depth_left content.now marks.now) result }
 {
     let mut end = at;
     let mut k = 0;
@@ -189,8 +190,8 @@ fn put_mark<R: Room>(
 ) -> usize
     requires read { IsRead (entry_at depth_left content.now mark.now.place) }
     requires is { IsMarkOf content.now mark.now }
-    requires room { HasRoom R.sure (at + length (canonical_of entry_bytes (entry_at depth_left content.now mark.now.place))) (length buf.old) }
-    ensures { PutsIfRoom buf.old buf.new at (canonical_of entry_bytes (entry_at depth_left content.now mark.now.place)) result }
+    requires room { HasRoomFor R.sure buf.old at (canonical_entry depth_left (drop mark.now.place content.now)) }
+    ensures { PutsIfRoom buf.old buf.new at (canonical_entry depth_left (drop mark.now.place content.now)) result }
 {
     let place = mark.place as usize;
     let size = mark.size as usize;
@@ -211,8 +212,8 @@ fn put_selected<R: Room>(
     depth_left: usize,
 ) -> usize
     requires read { AreEntries depth_left content.now }
-    requires room { HasRoom R.sure (at + length (table_content (settled (entries_in depth_left content.now)))) (length buf.old) }
-    ensures { PutsIfRoom buf.old buf.new at (table_content (settled (entries_in depth_left content.now))) result }
+    requires room { HasRoomFor R.sure buf.old at (canonical_entries depth_left content.now) }
+    ensures { PutsIfRoom buf.old buf.new at (canonical_entries depth_left content.now) result }
 {
     let mut end = at;
     let mut next = next_entry(content, None);
@@ -234,8 +235,8 @@ fn put_entry<R: Room>(
     depth_left: usize,
 ) -> usize
     requires read { IsRead (judge_entry (judge_value depth_left) i.now) }
-    requires room { HasRoom R.sure (at + length (canonical_of entry_bytes (judge_entry (judge_value depth_left) i.now))) (length buf.old) }
-    ensures { PutsIfRoom buf.old buf.new at (canonical_of entry_bytes (judge_entry (judge_value depth_left) i.now)) result }
+    requires room { HasRoomFor R.sure buf.old at (canonical_entry depth_left i.now) }
+    ensures { PutsIfRoom buf.old buf.new at (canonical_entry depth_left i.now) result }
 {
     let (key, value) = split_key(i);
     let place = put_if_room::<R>(buf, at, &i[..1 + key.len()]);

@@ -3,11 +3,13 @@ use Rattle.std.specs.Prelude.{ℕ, Bool, List, Result}
 use Rattle.amqp_wire.specs.declared.outline.FrameOutline.{FrameOutline}
 use Rattle.amqp_wire.specs.Frames.{Frame}
 use Rattle.amqp_wire.specs.Canonical.{canon_frames}
+use Rattle.amqp_stream.specs.declared.report.RunReport.{RunReport}
 use Rattle.amqp_stream.specs.Ends.{Supply, Store}
 use Rattle.amqp_in_turn.specs.declared.errors.TurnError.{TurnError}
 use Rattle.amqp_filter.specs.Kept.{kept_of}
 use Rattle.amqp_filter.specs.Stepping.{is_method_type}
 use Rattle.amqp_in_turn.specs.Turning.{GoesInTurn, GoesExactly, TurnRun}
+use Rattle.amqp_in_turn.specs.Reports.{TurnReport}
 
 -- the canonical bytes of the frames that are kept
 abbrev pub kept_bytes : (FrameOutline → Bool) → List Frame → List ℕ
@@ -24,3 +26,7 @@ FiltersExactly keeps m bytes k l result = GoesExactly (kept_bytes keeps) m bytes
 -- a run that writes the canonical bytes of the frames that are kept
 abbrev pub FilterRun : {S K : Type 0} → (FrameOutline → Bool) → (S → Supply) → (K → Store) → ℕ → ℕ → S → S → K → K → Result (Unit {0}) TurnError → Type 0
 FilterRun keeps = TurnRun (kept_bytes keeps) is_method_type
+
+-- the same, with its report
+abbrev pub FilterReport : {S K : Type 0} → (FrameOutline → Bool) → (S → Supply) → (K → Store) → ℕ → ℕ → S → S → K → K → Result (Unit {0}) (RunReport TurnError) → Type 0
+FilterReport keeps = TurnReport (kept_bytes keeps) is_method_type

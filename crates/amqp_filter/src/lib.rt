@@ -8,5 +8,5 @@ mod message_filter;
 mod messages;
 
 pub use amqp_in_turn::{TurnError as FilterError, equal_turn_errors as equal_filter_errors};
-pub use filtering::filter;
+pub use filtering::{filter, filter_reported};
 pub use laws::{all_is_written, channels_select_alike, twice_is_once, units_are_kept};

@@ -1,5 +1,6 @@
 -- The lemmas of amqp_in_turn.
 pub mod Turning
+pub mod Reporting
 pub mod Keeping
 pub mod Judging
 pub mod Lent

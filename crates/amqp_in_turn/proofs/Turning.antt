@@ -103,7 +103,7 @@ bad_is_none bad e = cc
 bad_is_open : (bad : ContentFault) → Some (refusals.BadContent bad) ≡ Some refusals.OpenContent → ⊥
 bad_is_open bad e = cc
 
-bad_is_not_open : (bad : ContentFault) → refusals.BadContent bad ≡ refusals.OpenContent → ⊥
+pub bad_is_not_open : (bad : ContentFault) → refusals.BadContent bad ≡ refusals.OpenContent → ⊥
 bad_is_not_open bad e = cc
 
 same_bad : (worse bad : ContentFault) → Some (refusals.BadContent worse) ≡ Some (refusals.BadContent bad) → worse ≡ bad
@@ -142,7 +142,7 @@ done_or_memory (Err (runs_end.Refused refusals.OpenContent)) h = absurd h
 
 -- ---- where the frames end
 
-whole_by : (frames front rest : List Frame) (why : Option Refusal) → frames ≡ front ++ rest → Ends [] front rest why → why ≡ None → front ≡ frames
+pub whole_by : (frames front rest : List Frame) (why : Option Refusal) → frames ≡ front ++ rest → Ends [] front rest why → why ≡ None → front ≡ frames
 whole_by frames front rest why parts (all none e) h = sym (parts ∙ ap (λ r. front ++ r) none ∙ append-nil front)
 whole_by frames front rest why parts (fault next more bad is e lost last news) h = absurd (bad_is_none bad (sym e ∙ h))
 
@@ -273,6 +273,20 @@ module _ {S : Type 0} {step : S → Frame → Result (List ℕ × S) Refusal} {e
 
   -- ---- a run
 
+  -- where none is refused all are in turn, and written for
+  pub record IsWholeInTurn (s : S) (m : ℕ) (sequence : List ℕ) : Type 0 where
+    pub in_turn : AreInTurn (frames_at m sequence)
+    pub text_is : text_of w s m sequence ≡ after [] (frames_at m sequence)
+
+  pub whole_in_turn : (s : S) (m : ℕ) (sequence : List ℕ) → StandsFor s [] → refused_of w s m sequence ≡ None → IsWholeInTurn s m sequence
+  whole_in_turn s m sequence new none =
+      let ran = ran_all s (frames_at m sequence) new in
+      let whole = whole_by (frames_at m sequence) ran.front ran.rest (refused_of w s m sequence) ran.parts ran.ends none in
+      record {
+        in_turn = subst AreInTurn whole (longest_ran s (frames_at m sequence) ran).in_turn;
+        text_is = ran.text_is ∙ ap (after []) whole;
+      }
+
   writes_by : (s : S) (m : ℕ) (taken written text_is : List ℕ) (r : Result (Unit {0}) (RunError Refusal)) → HasWrittenBy w s m taken written (ending_of r) → text_of w s m taken ≡ text_is → HasWrittenInTurn text_is written (as_turned r)
   writes_by s m taken written text_is (Ok done) h e = h.text_is ∙ e
   writes_by s m taken written text_is (Err (runs_end.Stream error)) h e = written_unless w s m taken text_is written (cause_of error) e h
@@ -289,16 +303,15 @@ module _ {S : Type 0} {step : S → Frame → Result (List ℕ × S) Refusal} {e
 
   at_wanted : (s : S) (m : ℕ) (taken written : List ℕ) → StandsFor s [] → AtWanting w s m taken written → AtWanted (after []) wants m taken written
   at_wanted s m taken written new h =
-      let ran = ran_all s (frames_at m h.sequence) new in
+      let whole = whole_in_turn s m h.sequence new h.none_refused in
       record {
         sequence = h.sequence;
         rest = h.rest;
         parts = h.parts;
         is_sequence = h.is_sequence;
+        in_turn = whole.in_turn;
         wanted = h.wanting;
-        frames = ran.front;
-        in_turn = longest_ran s (frames_at m h.sequence) ran;
-        written_is = h.written_is ∙ ran.text_is;
+        written_is = h.written_is ∙ whole.text_is;
       }
 
   cause_by : (s : S) (m turns : ℕ) (taken written : List ℕ) (a b : Supply) (k l : Store) (r : Result (Unit {0}) (RunError Refusal)) → StandsFor s [] → (ran : Ran s [] (frames_at m taken)) → HasWrittenBy w s m taken written (ending_of r) → HasCauseBy w s m turns taken written a b k l (ending_of r) → HasCauseInTurn (after []) wants m turns taken written ran.front a b k l (as_turned r)
@@ -319,7 +332,7 @@ module _ {S : Type 0} {step : S → Frame → Result (List ℕ × S) Refusal} {e
   goes s t m turns a b k l r new run =
       let ran = ran_all s (frames_at m run.taken) new in
       let short = run.short_by in
-      let behind = ran_all s (frames_at m short.sequence) new in
+      let behind = whole_in_turn s m short.sequence new short.none_refused in
       record {
         taken = run.taken;
         are_bytes = run.are_bytes;
@@ -338,8 +351,7 @@ module _ {S : Type 0} {step : S → Frame → Result (List ℕ × S) Refusal} {e
           rest = short.rest;
           parts = short.parts;
           is_sequence = short.is_sequence;
-          frames = behind.front;
-          in_turn = longest_ran s (frames_at m short.sequence) behind;
+          in_turn = behind.in_turn;
           written_begins = subst (λ (text_is : List ℕ). IsPrefix text_is run.written) behind.text_is short.written_begins;
           few = short.few;
         };
@@ -413,8 +425,12 @@ module _ {S : Type 0} {step : S → Frame → Result (List ℕ × S) Refusal} {e
 
   -- ---- a whole call
 
+  pub turn_run : {A K : Type 0} (s t : S) {supply : A → Supply} {store : K → Store} {m turns : ℕ} {source source' : A} {sink sink' : K} (r : Result (Unit {0}) (RunError Refusal)) → StandsFor s []
+      → WriterRun w s t supply store m turns source source' sink sink' r → TurnRun (after []) wants supply store m turns source source' sink sink' (as_turned r)
+  turn_run s t {supply = supply} {store = store} {m = m} {turns = turns} {source = source} {source' = source'} {sink = sink} {sink' = sink'} r new run =
+      run_by (goes s t m turns (supply source) (supply source') (store sink) (store sink') r new) (ap as_turned) (λ bytes. goes_exactly s m bytes (store sink) (store sink') r new) (λ bytes accepted. (accepted.0, welcome s m bytes new accepted.1)) (λ goes. done_or_memory r) run
+
   pub goes_run : {A K : Type 0} (s t : S) {supply : A → Supply} {store : K → Store} {m turns : ℕ} {source source' : A} {sink sink' : K} (r : Result (Unit {0}) (RunError Refusal)) → StandsFor s [] → RanOrNever s t supply store m turns source source' sink sink' r
       → TurnRun (after []) wants supply store m turns source source' sink sink' (as_turned r) ⊎ NeverBegan source source' sink sink' (errors.Stream streams.NoMemory) (as_turned r)
-  goes_run s t {supply = supply} {store = store} {m = m} {turns = turns} {source = source} {source' = source'} {sink = sink} {sink' = sink'} r new (inl run) =
-      inl (run_by (goes s t m turns (supply source) (supply source') (store sink) (store sink') r new) (ap as_turned) (λ bytes. goes_exactly s m bytes (store sink) (store sink') r new) (λ bytes accepted. (accepted.0, welcome s m bytes new accepted.1)) (λ goes. done_or_memory r) run)
+  goes_run s t r new (inl run) = inl (turn_run s t r new run)
   goes_run s t r new (inr h) = inr (record { no_memory = ap as_turned h.0.no_memory; source_stays = h.0.source_stays; sink_stays = h.0.sink_stays })

@@ -2,5 +2,6 @@
 pub use Rattle.amqp_turns.specs.InTurn
 pub mod Errors
 pub mod Turning
+pub mod Reports
 pub mod Judging
 pub mod Lent

@@ -21,26 +21,25 @@ use Rattle.amqp_turns.specs.InTurn.{IsLongestInTurn, IsNextFault, IsOpen, NoneIs
 abbrev pub frames_at : ℕ → List ℕ → List Frame
 frames_at m bytes = front plain (Some m) bytes
 
--- A sequence of frames was written for, as far as it is in turn, and then a frame of a type that is wanted has come.
+-- A sequence of frames that are in turn was written for, and then a frame of a type that is wanted has come.
 pub record AtWanted (text : List Frame → List ℕ) (wants : AMQPFrameType → Bool) (m : ℕ) (taken written : List ℕ) : Type 0 where
   pub sequence : List ℕ
   pub rest : List ℕ
   pub parts : taken ≡ sequence ++ rest
   pub is_sequence : IsSequence plain m sequence
+  pub in_turn : AreInTurn (frames_at m sequence)
   pub wanted : BeginsWith (λ kind. IsTrue (wants kind)) (Some m) rest
-  pub frames : List Frame
-  pub in_turn : IsLongestInTurn (frames_at m sequence) frames
-  pub written_is : written ≡ text frames
+  pub written_is : written ≡ text (frames_at m sequence)
 
--- At most n of the bytes taken come after a sequence of frames that was written for, as far as it is in turn.
+-- At most n of the bytes taken come after a sequence of frames that are in turn and were written for. So of what follows a frame that is not in turn no more
+-- is taken than was held with it.
 pub record IsTextBehindBy (text : List Frame → List ℕ) (m : ℕ) (taken written : List ℕ) (n : ℕ) : Type 0 where
   pub sequence : List ℕ
   pub rest : List ℕ
   pub parts : taken ≡ sequence ++ rest
   pub is_sequence : IsSequence plain m sequence
-  pub frames : List Frame
-  pub in_turn : IsLongestInTurn (frames_at m sequence) frames
-  pub written_begins : IsPrefix (text frames) written
+  pub in_turn : AreInTurn (frames_at m sequence)
+  pub written_begins : IsPrefix (text (frames_at m sequence)) written
   pub few : length rest ≤ n
 
 -- Unless a write or memory failed, all frames at the front are in turn.

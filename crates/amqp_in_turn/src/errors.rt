@@ -2,8 +2,9 @@
 
 ghost use Rattle.std.specs.Prelude.{◌≡◌};
 ghost use Rattle.amqp_in_turn.specs.Errors.{as_turned};
+ghost use Rattle.amqp_in_turn.specs.Reports.{as_turned_report};
 
-use amqp_stream::{RunError, StreamError};
+use amqp_stream::{RunError, RunReport, StreamError};
 use amqp_turns::ContentFault;
 use std::error::Error;
 use std::fmt;
@@ -104,5 +105,21 @@ pub fn as_turned(answer: Result<(), RunError<Refusal>>) -> Result<(), TurnError>
     match answer {
         Ok(()) => Ok(()),
         Err(error) => Err(TurnError::from(error)),
+    }
+}
+
+/// What a run returns and reports, with its error as one of these.
+pub fn as_turned_report(
+    answer: Result<(), RunReport<RunError<Refusal>>>,
+) -> Result<(), RunReport<TurnError>>
+    ensures { result ≡ as_turned_report answer }
+{
+    match answer {
+        Ok(()) => Ok(()),
+        Err(report) => Err(RunReport {
+            error: TurnError::from(report.error),
+            place: report.place,
+            channel: report.channel,
+        }),
     }
 }

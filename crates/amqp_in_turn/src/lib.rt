@@ -6,5 +6,5 @@ mod errors;
 mod open_messages;
 
 pub use equality::equal_turn_errors;
-pub use errors::{Refusal, TurnError, as_turned};
+pub use errors::{Refusal, TurnError, as_turned, as_turned_report};
 pub use open_messages::OpenMessages;

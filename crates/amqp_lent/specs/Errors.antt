@@ -2,6 +2,7 @@
 use Rattle.std.specs.Prelude.{Result, Ok, Err}
 use Rattle.amqp_stream.specs.declared.errors.StreamError.{StreamError}
 use Rattle.amqp_stream.specs.declared.errors.StreamError.TheVariants as errors
+use Rattle.amqp_stream.specs.declared.report.RunReport.{RunReport}
 use Rattle.amqp_lent.specs.declared.errors.LentError.{LentError}
 use Rattle.amqp_lent.specs.declared.errors.LentError.TheVariants as lent
 
@@ -27,3 +28,8 @@ codec_error lent.WriteFault = errors.WriteFault
 abbrev pub as_stream : Result (Unit {0}) LentError → Result (Unit {0}) StreamError
 as_stream (Ok done) = Ok done
 as_stream (Err error) = Err (codec_error error)
+
+-- the same, with the report
+abbrev pub as_stream_reported : Result (Unit {0}) (RunReport LentError) → Result (Unit {0}) (RunReport StreamError)
+as_stream_reported (Ok done) = Ok done
+as_stream_reported (Err report) = Err (record { error = codec_error report.error; place = report.place; channel = report.channel })

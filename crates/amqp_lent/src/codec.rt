@@ -4,10 +4,11 @@ ghost use Rattle.std.specs.Prelude.{◌≡◌, ◌≢◌, ◌⊎◌, Err, IfOk};
 ghost use Rattle.amqp_types.specs.Levels.{plain};
 ghost use Rattle.amqp_stream.specs.Runs.{CanonicalRun};
 ghost use Rattle.amqp_stream.specs.Transcribing.{NeverBegan};
-ghost use Rattle.amqp_lent.specs.Errors.{as_stream, codec_error};
+ghost use Rattle.amqp_stream.specs.Reports.{CanonicalReport, NeverBeganReport, unreported};
+ghost use Rattle.amqp_lent.specs.Errors.{as_stream, as_stream_reported, codec_error};
 
 use crate::errors::LentError;
-use amqp_stream::{Codec, Sink, Source, StreamError};
+use amqp_stream::{Codec, RunReport, Sink, Source, StreamError, unreported};
 use amqp_types::{ChunkSize, NoMemory, Profile};
 use std::alloc::Global;
 use std::marker::Model;
@@ -54,6 +55,36 @@ fn lent_error(error: StreamError) -> LentError
     }
 }
 
+/// What a stream returned and reported, with the same error.
+fn lent_reported(answer: Result<(), RunReport<StreamError>>) -> Result<(), RunReport<LentError>>
+    requires memory { unreported answer ≢ Err StreamError.NoMemory }
+    requires never_untidy { unreported answer ≢ Err StreamError.NotTidy }
+    ensures { answer ≡ as_stream_reported result }
+{
+    match answer {
+        Ok(()) => Ok(()),
+        Err(report) => Err(RunReport {
+            error: lent_error(report.error),
+            place: report.place,
+            channel: report.channel,
+        }),
+    }
+}
+
+/// The same back.
+fn stream_reported(answer: Result<(), RunReport<LentError>>) -> Result<(), RunReport<StreamError>>
+    ensures { result ≡ as_stream_reported answer }
+{
+    match answer {
+        Ok(()) => Ok(()),
+        Err(report) => Err(RunReport {
+            error: StreamError::from(report.error),
+            place: report.place,
+            channel: report.channel,
+        }),
+    }
+}
+
 impl LentCodec {
     /// A codec for payloads of at most so many bytes. All its memory is taken here.
     pub fn open(alloc: Global, max_payload: ChunkSize) -> Result<LentCodec, NoMemory>
@@ -63,8 +94,24 @@ impl LentCodec {
         Ok(LentCodec { codec })
     }
 
-    /// Writes the canonical bytes of each frame that can be read, to the end of input or an error. Each read takes one
-    /// of the read budget. What an earlier call left in the codec is dropped.
+    /// Writes the canonical bytes of each frame that can be read, to the end of input or an error, and reports where
+    /// that is. Each read takes one of the read budget. What an earlier call left in the codec is dropped.
+    pub fn canonicalize_reported<S: Source, K: Sink>(
+        &mut self,
+        source: &mut S,
+        sink: &mut K,
+        turns: u64,
+    ) -> Result<(), RunReport<LentError>>
+        ensures limit { self.new ≡ self.old }
+        ensures run { CanonicalReport plain S.supply K.store self.old turns source.old source.new sink.old sink.new (as_stream_reported result) }
+    {
+        lent_reported(
+            self.codec
+                .rewrite_reported(Profile::Plain, source, sink, turns),
+        )
+    }
+
+    /// The same, without where it ended.
     pub fn canonicalize<S: Source, K: Sink>(
         &mut self,
         source: &mut S,
@@ -74,14 +121,33 @@ impl LentCodec {
         ensures limit { self.new ≡ self.old }
         ensures run { CanonicalRun plain S.supply K.store self.old turns source.old source.new sink.old sink.new (as_stream result) }
     {
-        match self.codec.rewrite(Profile::Plain, source, sink, turns) {
-            Ok(()) => Ok(()),
-            Err(error) => Err(lent_error(error)),
-        }
+        unreported(self.canonicalize_reported(source, sink, turns))
     }
 }
 
-/// Opens a codec, and canonicalizes with it what can be read. Memory runs out before the first read, or not at all.
+/// Opens a codec, and canonicalizes with it what can be read, and reports where that ended. Memory runs out before the
+/// first read, or not at all.
+pub fn canonicalize_lent_reported<S: Source, K: Sink>(
+    alloc: Global,
+    source: &mut S,
+    sink: &mut K,
+    max_payload: ChunkSize,
+    turns: u64,
+) -> Result<(), RunReport<StreamError>>
+    ensures run { CanonicalReport plain S.supply K.store max_payload turns source.old source.new sink.old sink.new result
+        ⊎ NeverBeganReport source.old source.new sink.old sink.new StreamError.NoMemory result }
+    ensures never_untidy { unreported result ≢ Err StreamError.NotTidy }
+{
+    match LentCodec::open(alloc, max_payload) {
+        Ok(codec) => {
+            let mut codec = codec;
+            stream_reported(codec.canonicalize_reported(source, sink, turns))
+        }
+        Err(_) => Err(RunReport::at_start(StreamError::NoMemory)),
+    }
+}
+
+/// The same, without where it ended.
 pub fn canonicalize_lent<S: Source, K: Sink>(
     alloc: Global,
     source: &mut S,
@@ -93,14 +159,5 @@ pub fn canonicalize_lent<S: Source, K: Sink>(
         ⊎ NeverBegan source.old source.new sink.old sink.new StreamError.NoMemory result }
     ensures never_untidy { result ≢ Err StreamError.NotTidy }
 {
-    match LentCodec::open(alloc, max_payload) {
-        Ok(codec) => {
-            let mut codec = codec;
-            match codec.canonicalize(source, sink, turns) {
-                Ok(()) => Ok(()),
-                Err(error) => Err(StreamError::from(error)),
-            }
-        }
-        Err(_) => Err(StreamError::NoMemory),
-    }
+    unreported(canonicalize_lent_reported(alloc, source, sink, max_payload, turns))
 }

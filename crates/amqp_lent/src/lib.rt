@@ -12,7 +12,7 @@ mod table;
 mod value;
 mod writing;
 
-pub use codec::{LentCodec, canonicalize_lent};
+pub use codec::{LentCodec, canonicalize_lent, canonicalize_lent_reported};
 pub use equality::{
     equal_lent_arrays, equal_lent_errors, equal_lent_frames, equal_lent_tables, equal_lent_values,
 };

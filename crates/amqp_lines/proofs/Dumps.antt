@@ -8,18 +8,21 @@ use Rattle.amqp_wire.specs.Verdicts.{whole}
 use Rattle.amqp_stream.specs.declared.errors.StreamError.{StreamError}
 use Rattle.amqp_stream.specs.declared.errors.StreamError.TheVariants as errors
 use Rattle.amqp_stream.specs.Errors.{Cause, faulty, cut_short, turns_spent, read_failed, write_failed, out_of_memory, cause_of}
+use Rattle.std.specs.Prelude.{IfErr}
 use Rattle.amqp_stream.specs.Ends.{Supply, Store}
 use Rattle.amqp_stream.specs.Writing.{Gathered, GatherFails}
 use Rattle.amqp_stream.specs.Steps.{text, refused}
 use Rattle.amqp_stream.specs.Streaming.{finished, stopped_by, ending_of, as_run, IsStep, WritesBy, IsWelcome, IsDoneOrWanting}
-use Rattle.amqp_stream.specs.Transcribing.{NeverBegan, IsOkOrNoMemory}
+use Rattle.amqp_stream.specs.Transcribing.{IsOkOrNoMemory}
+use Rattle.amqp_stream.specs.declared.report.RunReport.{RunReport}
 use Rattle.amqp_stream.specs.Runs.{WriterRun, NeverRan}
-use Rattle.amqp_stream.proofs.Transcribing.{never_began}
+use Rattle.amqp_stream.specs.Reports.{IsReportBy, WriterReport, NeverRanReport, NeverBeganReport, as_run_report, unreported}
 use Rattle.amqp_stream.proofs.Runs.{run_by, stream_error}
+use Rattle.amqp_stream.proofs.Reporting.{unreported_as_run, never_began_report}
 use Rattle.amqp_stream.proofs.Writes.{kept}
 use Rattle.amqp_lines.specs.Lines.{line, lines}
 use Rattle.amqp_lines.specs.LineTexts.{HasNoLine, PutsLine}
-use Rattle.amqp_lines.specs.Dumping.{dumping, WritesLines, DumpRun}
+use Rattle.amqp_lines.specs.Dumping.{dumping, WritesLines, DumpRun, IsDumpReport, DumpReport}
 
 -- ---- one frame
 
@@ -72,7 +75,7 @@ RanOrNever supply store m turns source source' sink sink' r =
 ending_is : (r : Result (Unit {0}) StreamError) (error : StreamError) → r ≡ Err error → ending_of {E = Infallible} (as_run r) ≡ stopped_by (cause_of error)
 ending_is r error e = ap (λ x. ending_of (as_run x)) e
 
-pub never_untidy : {S K : Type 0} {supply : S → Supply} {store : K → Store} {m turns : ℕ} {source source' : S} {sink sink' : K} (r : Result (Unit {0}) StreamError) → RanOrNever supply store m turns source source' sink sink' r → r ≢ Err errors.NotTidy
+never_untidy : {S K : Type 0} {supply : S → Supply} {store : K → Store} {m turns : ℕ} {source source' : S} {sink sink' : K} (r : Result (Unit {0}) StreamError) → RanOrNever supply store m turns source source' sink sink' r → r ≢ Err errors.NotTidy
 never_untidy r (inl run) e = run.stream.tidy_only (ending_is r errors.NotTidy e)
 never_untidy r (inr none) e = let other = sym (ending_is r errors.NotTidy e) ∙ ap ending_of none.0.no_memory in absurd cc
 
@@ -80,7 +83,40 @@ done_or_wanting : (r : Result (Unit {0}) StreamError) → IsDoneOrWanting (endin
 done_or_wanting (Ok done) h = tt
 done_or_wanting (Err error) h = h
 
-pub dump_run : {S K : Type 0} {supply : S → Supply} {store : K → Store} {m turns : ℕ} {source source' : S} {sink sink' : K} (r : Result (Unit {0}) StreamError) → RanOrNever supply store m turns source source' sink sink' r
-    → DumpRun supply store m turns source source' sink sink' r ⊎ NeverBegan source source' sink sink' errors.NoMemory r
-dump_run {m = m} r (inl run) = inl (run_by (λ goes. goes) (stream_error r errors.TurnsSpent) (λ bytes exact. exact) (λ bytes valid. (valid, welcome m bytes)) (λ goes. done_or_wanting r) run)
-dump_run r (inr never) = inr (never_began never.0)
+dump_by : {S K : Type 0} {supply : S → Supply} {store : K → Store} {m turns : ℕ} {source source' : S} {sink sink' : K} (r : Result (Unit {0}) StreamError) → WriterRun dumping tt tt supply store m turns source source' sink sink' (as_run r) → DumpRun supply store m turns source source' sink sink' r
+dump_by {m = m} r run = run_by (λ goes. goes) (stream_error r errors.TurnsSpent) (λ bytes exact. exact) (λ bytes valid. (valid, welcome m bytes)) (λ goes. done_or_wanting r) run
+
+-- ---- its report
+
+report_of : (m : ℕ) (a b : Supply) (r : Result (Unit {0}) (RunReport StreamError)) → IfErr (as_run_report {E = Infallible} r) (IsReportBy dumping tt m a b) → IfErr r (IsDumpReport m a b)
+report_of m a b (Ok done) h = tt
+report_of m a b (Err report) h = record {
+  taken = h.taken;
+  reads = h.reads;
+  takes = h.takes;
+  sequence = h.sequence;
+  rest = h.rest;
+  parts = h.parts;
+  is_sequence = h.is_sequence;
+  few = h.few;
+  there = h.there.1;
+  place_is = h.place_is;
+  channel_is = h.channel_is;
+}
+
+-- a call that ran, or never began, with its report
+abbrev pub ReportedOrNever : {S K : Type 0} → (S → Supply) → (K → Store) → ℕ → ℕ → S → S → K → K → Result (Unit {0}) (RunReport StreamError) → Type 0
+ReportedOrNever supply store m turns source source' sink sink' r =
+    WriterReport dumping tt tt supply store m turns source source' sink sink' (as_run_report r) ⊎ NeverRanReport {T = Unit {0}} tt tt source source' sink sink' (as_run_report {E = Infallible} r)
+
+error_alone : {S K : Type 0} {supply : S → Supply} {store : K → Store} {m turns : ℕ} {source source' : S} {sink sink' : K} (r : Result (Unit {0}) (RunReport StreamError)) → ReportedOrNever supply store m turns source source' sink sink' r → RanOrNever supply store m turns source source' sink sink' (unreported r)
+error_alone r (inl run) = inl (rw unreported_as_run at run.0)
+error_alone r (inr never) = inr (rw unreported_as_run at never.0)
+
+pub untidy_never : {S K : Type 0} {supply : S → Supply} {store : K → Store} {m turns : ℕ} {source source' : S} {sink sink' : K} (r : Result (Unit {0}) (RunReport StreamError)) → ReportedOrNever supply store m turns source source' sink sink' r → unreported r ≢ Err errors.NotTidy
+untidy_never r h = never_untidy (unreported r) (error_alone r h)
+
+pub dump_report : {S K : Type 0} {supply : S → Supply} {store : K → Store} {m turns : ℕ} {source source' : S} {sink sink' : K} (r : Result (Unit {0}) (RunReport StreamError)) → ReportedOrNever supply store m turns source source' sink sink' r
+    → DumpReport supply store m turns source source' sink sink' r ⊎ NeverBeganReport source source' sink sink' errors.NoMemory r
+dump_report {supply = supply} {m = m} {source = source} {source' = source'} r (inl run) = inl (dump_by (unreported r) (rw unreported_as_run at run.0), report_of m (supply source) (supply source') r run.1)
+dump_report r (inr never) = inr (never_began_report r never)

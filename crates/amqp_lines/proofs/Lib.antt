@@ -6,6 +6,8 @@ pub mod Lining
 pub mod Borrowed
 pub mod Dumps
 pub mod Newlines
+pub mod Lengths
+pub mod LineLengths
 pub mod ReadWords
 pub mod ReadBack
 pub mod ReadSteps

@@ -200,7 +200,7 @@ clean_slots (reserved_slot form constant ∷ slots) items = clean_slots slots it
 
 -- what holds of each name, and of none
 module _ (P : List ℕ → Type 0) (nothing : P []) where
-  each_name : (names : List (ℕ × List ℕ)) (bit : ℕ) → AllByRecursion (λ (name : ℕ × List ℕ). P name.1) names → P (unwrap_or (lookup (λ k. bit == k) names) [])
+  pub each_name : (names : List (ℕ × List ℕ)) (bit : ℕ) → AllByRecursion (λ (name : ℕ × List ℕ). P name.1) names → P (unwrap_or (lookup (λ k. bit == k) names) [])
   each_name [] bit h = nothing
   each_name (name ∷ names) bit h = by_test (bit == name.0) h.0 (each_name names bit h.1)
     where

@@ -1,15 +1,18 @@
 -- What dumping a stream does, as a run of a script: the line of each frame, whatever it is.
-use Rattle.std.specs.Prelude.{◌≡◌, ℕ, true, false, List, None, Result, Ok, Err}
+use Rattle.std.specs.Prelude.{◌≡◌, ℕ, true, false, List, None, Result, Ok, Err, IfErr}
 use Rattle.std.specs.declared.string.ParseError.{Infallible}
 use Rattle.amqp_types.specs.Levels.{plain}
 use Rattle.amqp_wire.specs.Frames.{Frame}
 use Rattle.amqp_stream.specs.declared.errors.StreamError.{StreamError}
 use Rattle.amqp_stream.specs.declared.errors.StreamError.TheVariants as errors
+use Rattle.amqp_stream.specs.declared.report.RunReport.{RunReport}
+use Rattle.amqp_stream.specs.Errors.{cause_of}
 use Rattle.amqp_stream.specs.Ends.{Supply, Store}
 use Rattle.amqp_stream.specs.Steps.{Manner, text, refused}
-use Rattle.amqp_stream.specs.Streaming.{Streams, StreamsExactly, as_run, ending_of}
+use Rattle.amqp_stream.specs.Streaming.{stopped_by, Streams, StreamsExactly, as_run, ending_of}
 use Rattle.amqp_stream.specs.Transcribing.{transcript, IsValid, IsOkOrNoMemory}
 use Rattle.amqp_stream.specs.Runs.{Runs}
+use Rattle.amqp_stream.specs.Reports.{EndsAt, IsRestBy, unreported}
 use Rattle.amqp_lines.specs.Lines.{line, lines}
 
 -- The line of each frame by itself, of whatever can be read. No frame is refused, the stream may end anywhere, and memory may run out at any frame.
@@ -41,3 +44,12 @@ DumpRun supply store m turns source source' sink sink' result = Runs supply stor
     (λ bytes. DumpsExactly m bytes (store sink) (store sink') result)
     (IsValid plain m turns)
     (IsOkOrNoMemory result)
+
+-- the report of such a run
+abbrev pub IsDumpReport : ℕ → Supply → Supply → RunReport StreamError → Type 0
+IsDumpReport m a b report = EndsAt plain m a b (λ taken sequence rest. IsRestBy dumping tt m taken rest (stopped_by (cause_of report.error))) report.place report.channel
+
+-- such a run, with its report
+abbrev pub DumpReport : {S K : Type 0} → (S → Supply) → (K → Store) → ℕ → ℕ → S → S → K → K → Result (Unit {0}) (RunReport StreamError) → Type 0
+DumpReport supply store m turns source source' sink sink' result =
+    DumpRun supply store m turns source source' sink sink' (unreported result) × IfErr result (IsDumpReport m (supply source) (supply source'))

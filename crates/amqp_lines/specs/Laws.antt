@@ -1,5 +1,5 @@
 -- Laws of lines.
-use Rattle.std.specs.Prelude.{◌≡◌, ◌≢◌, ℕ, List, ◌++◌, codes}
+use Rattle.std.specs.Prelude.{◌≡◌, ◌≢◌, ◌≤◌, ◌+◌, ◌*◌, ℕ, List, ◌++◌, length, codes}
 use Rattle.std.specs.List.{AllByRecursion}
 use Rattle.amqp_wire.specs.Frames.{Frame}
 use Rattle.amqp_types.specs.Levels.{strict}
@@ -17,6 +17,10 @@ pub record HasOneNewline (text : List ℕ) : Type 0 where
 -- each frame, strict or not, has such a line
 abbrev pub LinesHaveOneNewline : Type 0
 LinesHaveOneNewline = (frame : Frame) → HasOneNewline (line frame)
+
+-- The line of a frame is at most four times as long as the bytes that encode it strictly, and 400 bytes.
+abbrev pub LinesAreBounded : Type 0
+LinesAreBounded = (bytes : List ℕ) (frame : Frame) → Spells strict bytes frame → length (line frame) ≤ 4 * length bytes + 400
 
 -- A frame that its canonical bytes encode strictly. So it is no heartbeat on channel 0 that does not belong there, it is not long and not too deep.
 pub record IsStrict (frame : Frame) : Type 0 where

@@ -2,11 +2,13 @@
 
 ghost use Rattle.std.specs.Prelude.{◌≢◌, ◌⊎◌, Err};
 ghost use Rattle.amqp_stream.specs.Transcribing.{NeverBegan};
-ghost use Rattle.amqp_lines.specs.Dumping.{DumpRun};
+ghost use Rattle.amqp_stream.specs.Reports.{NeverBeganReport, unreported};
+ghost use Rattle.amqp_lines.specs.Dumping.{DumpReport, DumpRun};
 
 use crate::line_text::LineText;
 use amqp_stream::{
-    FrameWriter, OutputBuffer, RunError, Sink, Source, StreamError, gather, run_stream, unrefused,
+    FrameWriter, OutputBuffer, RunError, RunReport, Sink, Source, StreamError, gather,
+    run_stream_reported, unrefused_report, unreported,
 };
 use amqp_types::ChunkSize;
 use amqp_wire::AMQPRawFrame;
@@ -54,9 +56,31 @@ impl FrameWriter for Dumper {
     }
 }
 
-/// Writes the line of each frame of a stream, to the end of input or an error. `turns` is the read budget: so many
-/// reads at most are made. `max_payload` is in bytes; a longer payload is `TooLarge`. Memory may run out at any frame:
-/// a line is longer than its frame.
+/// Writes the line of each frame of a stream, to the end of input or an error, and reports where that is. `turns` is the
+/// read budget: so many reads at most are made. `max_payload` is in bytes; a longer payload is `TooLarge`. Memory may
+/// run out at any frame: a line is longer than its frame.
+pub fn dump_reported<S: Source, K: Sink>(
+    alloc: Global,
+    source: &mut S,
+    sink: &mut K,
+    max_payload: ChunkSize,
+    turns: u64,
+) -> Result<(), RunReport<StreamError>>
+    ensures run { DumpReport S.supply K.store max_payload turns source.old source.new sink.old sink.new result
+        ⊎ NeverBeganReport source.old source.new sink.old sink.new StreamError.NoMemory result }
+    ensures never_untidy { unreported result ≢ Err StreamError.NotTidy }
+{
+    match LineText::open(alloc) {
+        Ok(text) => {
+            let mut writer = Dumper { text };
+            let run = run_stream_reported(alloc, &mut writer, source, sink, max_payload, turns);
+            unrefused_report(run)
+        }
+        Err(_) => Err(RunReport::at_start(StreamError::NoMemory)),
+    }
+}
+
+/// The same, without where it ended.
 pub fn dump<S: Source, K: Sink>(
     alloc: Global,
     source: &mut S,
@@ -68,11 +92,5 @@ pub fn dump<S: Source, K: Sink>(
         ⊎ NeverBegan source.old source.new sink.old sink.new StreamError.NoMemory result }
     ensures never_untidy { result ≢ Err StreamError.NotTidy }
 {
-    match LineText::open(alloc) {
-        Ok(text) => {
-            let mut writer = Dumper { text };
-            unrefused(run_stream(alloc, &mut writer, source, sink, max_payload, turns))
-        }
-        Err(_) => Err(StreamError::NoMemory),
-    }
+    unreported(dump_reported(alloc, source, sink, max_payload, turns))
 }

@@ -1,12 +1,18 @@
 //! Laws of lines, each the contract of a function that does nothing.
 
 ghost use Rattle.amqp_lines.specs.Dumping.{WritesLines};
-ghost use Rattle.amqp_lines.specs.Laws.{EqualLinesAreEqualFrames, EqualTextsAreEqualSequences, LinesHaveOneNewline};
+ghost use Rattle.amqp_lines.specs.Laws.{EqualLinesAreEqualFrames, EqualTextsAreEqualSequences, LinesAreBounded, LinesHaveOneNewline};
 ghost use Rattle.amqp_lines.specs.UndumpLaws.{CorrespondOneToOne, DumpedTextIsReadBack, OneLongestText, StrictFramesAreUsual, UndumpUndoesDump};
 
 /// A line holds one newline, which is its last byte.
 pub fn lines_have_one_newline()
     ensures { LinesHaveOneNewline }
+{}
+
+/// A line is at most four times as long as the bytes that encode its frame strictly, and 400 bytes: one of a frame within
+/// a limit on payloads has at most so many.
+pub fn lines_are_bounded()
+    ensures { LinesAreBounded }
 {}
 
 /// Two frames that their canonical bytes encode strictly are equal where their lines are.

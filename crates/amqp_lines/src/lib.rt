@@ -15,7 +15,7 @@ mod undumping;
 mod values;
 mod words;
 
-pub use dumping::dump;
+pub use dumping::{dump, dump_reported};
 pub use equality::{equal_text_errors, equal_undump_errors};
 pub use errors::{TextError, UndumpError};
 pub use laws::{

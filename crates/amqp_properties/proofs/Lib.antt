@@ -1,4 +1,5 @@
 -- The lemmas of amqp_properties.
 pub mod AllProperties
+pub mod Sizes
 pub mod Holding
 pub mod EqualProperties

@@ -11,8 +11,11 @@ ghost use Rattle.amqp_properties.specs.Options.{options};
 use crate::optional_fields::{
     field_long_long_uint, field_short_short_uint, field_short_string, field_table,
 };
+use crate::optional_sizes::{
+    size_optional_byte, size_optional_table, size_optional_text, size_optional_time,
+};
 use crate::properties::AMQPProperties;
-use amqp_values::{Field, GenError, gen_fields, put_fields, size_fields};
+use amqp_values::{Field, GenError, gen_fields, put_fields};
 use std::alloc::Global;
 
 /// The mask, and the properties that are set.
@@ -44,7 +47,21 @@ pub(crate) fn properties_fields(p: &AMQPProperties) -> [Field<'_>; 15]
 pub fn size_properties(value: &AMQPProperties) -> Result<u64, GenError>
     ensures { Measures result (properties_size (options value.now)) }
 {
-    size_fields(&properties_fields(value))
+    let headers = size_optional_table(&value.headers)?;
+    let texts = size_optional_text(&value.content_type)
+        + size_optional_text(&value.content_encoding)
+        + size_optional_text(&value.correlation_id)
+        + size_optional_text(&value.reply_to)
+        + size_optional_text(&value.expiration)
+        + size_optional_text(&value.message_id)
+        + size_optional_text(&value.kind)
+        + size_optional_text(&value.user_id)
+        + size_optional_text(&value.app_id)
+        + size_optional_text(&value.cluster_id);
+    let numbers = size_optional_byte(&value.delivery_mode)
+        + size_optional_byte(&value.priority)
+        + size_optional_time(&value.timestamp);
+    Ok(2 + texts + numbers + headers)
 }
 
 /// Puts the mask and the properties that are set at a place of a slice, and returns the place after

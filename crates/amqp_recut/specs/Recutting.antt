@@ -2,9 +2,11 @@
 use Rattle.std.specs.Prelude.{ℕ, List, Result}
 use Rattle.amqp_wire.specs.Frames.{Frame}
 use Rattle.amqp_wire.specs.Canonical.{canon_frames}
+use Rattle.amqp_stream.specs.declared.report.RunReport.{RunReport}
 use Rattle.amqp_stream.specs.Ends.{Supply, Store}
 use Rattle.amqp_in_turn.specs.declared.errors.TurnError.{TurnError}
 use Rattle.amqp_in_turn.specs.Turning.{GoesInTurn, GoesExactly, TurnRun}
+use Rattle.amqp_in_turn.specs.Reports.{TurnReport}
 use Rattle.amqp_recut.specs.Cuts.{recut}
 use Rattle.amqp_recut.specs.Stepping.{is_content_type}
 
@@ -23,3 +25,7 @@ RecutsExactly m size bytes k l result = GoesExactly (recut_bytes size) m bytes k
 -- a run that writes the canonical bytes of frames recut
 abbrev pub RecutRun : {S K : Type 0} → ℕ → (S → Supply) → (K → Store) → ℕ → ℕ → S → S → K → K → Result (Unit {0}) TurnError → Type 0
 RecutRun size = TurnRun (recut_bytes size) is_content_type
+
+-- the same, with its report
+abbrev pub RecutReport : {S K : Type 0} → ℕ → (S → Supply) → (K → Store) → ℕ → ℕ → S → S → K → K → Result (Unit {0}) (RunReport TurnError) → Type 0
+RecutReport size = TurnReport (recut_bytes size) is_content_type

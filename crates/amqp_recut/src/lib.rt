@@ -9,4 +9,4 @@ mod recutting;
 
 pub use amqp_in_turn::{TurnError as RecutError, equal_turn_errors as equal_recut_errors};
 pub use laws::{bodies_are_cut, last_size_counts, messages_stay};
-pub use recutting::recut;
+pub use recutting::{recut, recut_reported};

@@ -2,18 +2,42 @@
 
 ghost use Rattle.std.specs.Prelude.{◌≢◌, ◌⊎◌, ◌≤◌, Err};
 ghost use Rattle.amqp_stream.specs.Transcribing.{NeverBegan};
-ghost use Rattle.amqp_recut.specs.Recutting.{RecutRun};
+ghost use Rattle.amqp_stream.specs.Reports.{NeverBeganReport, unreported};
+ghost use Rattle.amqp_recut.specs.Recutting.{RecutReport, RecutRun};
 
 use crate::recutter::Recutter;
-use amqp_in_turn::{TurnError as RecutError, as_turned};
-use amqp_stream::{Sink, Source, StreamError, run_stream};
+use amqp_in_turn::{TurnError as RecutError, as_turned_report};
+use amqp_stream::{RunReport, Sink, Source, StreamError, run_stream_reported, unreported};
 use amqp_turns::ContentFault;
 use amqp_types::ChunkSize;
 use std::alloc::Global;
 
 /// Writes the canonical bytes of a stream's frames, with the bodies of messages cut into body frames of `size` bytes,
-/// the last of a message shorter. It goes on to the end of input, the first frame that is not in turn, or an error.
-/// Each read takes one of the read budget. Of each message that is not complete, fewer than `size` bytes are held.
+/// the last of a message shorter. It goes on to the end of input, the first frame that is not in turn, or an error, and
+/// reports where that is. Each read takes one of the read budget. Of each message that is not complete, fewer than
+/// `size` bytes are held.
+pub fn recut_reported<S: Source, K: Sink>(
+    alloc: Global,
+    source: &mut S,
+    sink: &mut K,
+    max_payload: ChunkSize,
+    size: u32,
+    turns: u64,
+) -> Result<(), RunReport<RecutError>>
+    requires some { 1 ≤ size }
+    requires fits { size ≤ max_payload }
+    ensures run { RecutReport size S.supply K.store max_payload turns source.old source.new sink.old sink.new result
+        ⊎ NeverBeganReport source.old source.new sink.old sink.new (RecutError.Stream StreamError.NoMemory) result }
+    ensures never_untidy { unreported result ≢ Err (RecutError.Stream StreamError.NotTidy) }
+    ensures never_too_large { unreported result ≢ Err (RecutError.BadContent ContentFault.BodyTooLarge) }
+    ensures never_faulted { unreported result ≢ Err (RecutError.BadContent ContentFault.Faulted) }
+{
+    let mut writer = Recutter::new(alloc, size);
+    let run = run_stream_reported(alloc, &mut writer, source, sink, max_payload, turns);
+    as_turned_report(run)
+}
+
+/// The same, without where it ended.
 pub fn recut<S: Source, K: Sink>(
     alloc: Global,
     source: &mut S,
@@ -30,6 +54,5 @@ pub fn recut<S: Source, K: Sink>(
     ensures never_too_large { result ≢ Err (RecutError.BadContent ContentFault.BodyTooLarge) }
     ensures never_faulted { result ≢ Err (RecutError.BadContent ContentFault.Faulted) }
 {
-    let mut writer = Recutter::new(alloc, size);
-    as_turned(run_stream(alloc, &mut writer, source, sink, max_payload, turns))
+    unreported(recut_reported(alloc, source, sink, max_payload, size, turns))
 }

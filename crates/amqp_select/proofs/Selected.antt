@@ -15,17 +15,19 @@ use Rattle.amqp_wire.specs.Judgements.{IsJudged}
 use Rattle.amqp_stream.specs.declared.errors.StreamError.{StreamError}
 use Rattle.amqp_stream.specs.declared.errors.StreamError.TheVariants as errors
 use Rattle.amqp_stream.specs.Ends.{Supply, Store}
-use Rattle.amqp_stream.specs.Streaming.{as_run, IsStep}
+use Rattle.amqp_stream.specs.Streaming.{IsStep}
 use Rattle.amqp_stream.specs.Decisions.{IsKept, IsDropped}
-use Rattle.amqp_stream.specs.Transcribing.{Transcribes, TranscribesExactly, NeverBegan}
-use Rattle.amqp_stream.specs.Runs.{CanonicalRun, WriterRun, NeverRan}
-use Rattle.amqp_stream.proofs.Transcribing.{Transcriber, maps, never_began}
+use Rattle.amqp_stream.specs.declared.report.RunReport.{RunReport}
+use Rattle.amqp_stream.specs.Transcribing.{Transcribes, TranscribesExactly}
+use Rattle.amqp_stream.specs.Reports.{CanonicalReport, WriterReport, NeverRanReport, NeverBeganReport, as_run_report, unreported}
+use Rattle.amqp_stream.proofs.Transcribing.{Transcriber, maps}
 use Rattle.amqp_stream.proofs.Runs.{run_by, text_run}
+use Rattle.amqp_stream.proofs.Reporting.{unreported_as_run, report_at, never_began_report}
 use Rattle.amqp_select.specs.declared.rule.Rule.{Rule}
 use Rattle.amqp_select.specs.declared.selecting.Selector.{Selector}
 use Rattle.amqp_select.specs.Matching as matching
 use Rattle.amqp_select.specs.Matching.{decides}
-use Rattle.amqp_select.specs.Selecting.{selection, selected, selecting, SelectRun}
+use Rattle.amqp_select.specs.Selecting.{selection, selected, selecting, SelectReport}
 
 -- ---- all frames
 
@@ -37,12 +39,12 @@ pub selects_all : (rules : List Rule) → ((outline : FrameOutline) → true ≡
 selects_all rules all = fun_ext λ frames. ap canon_frames (sym (all_kept rules all frames))
 
 -- where all are kept, what is canonicalized is what is selected
-pub all_run : {S K : Type 0} (rules : List Rule) {supply : S → Supply} {store : K → Store} {m turns : ℕ} {source source' : S} {sink sink' : K} {r : Result (Unit {0}) StreamError} → ((outline : FrameOutline) → true ≡ decides rules outline)
-    → CanonicalRun plain supply store m turns source source' sink sink' r ⊎ NeverBegan source source' sink sink' errors.NoMemory r → SelectRun rules supply store m turns source source' sink sink' r ⊎ NeverBegan source source' sink sink' errors.NoMemory r
-all_run rules {supply = supply} {store = store} {m = m} {turns = turns} {source = source} {source' = source'} {sink = sink} {sink' = sink'} {r = r} all (inl run) =
+pub all_run : {S K : Type 0} (rules : List Rule) {supply : S → Supply} {store : K → Store} {m turns : ℕ} {source source' : S} {sink sink' : K} (r : Result (Unit {0}) (RunReport StreamError)) → ((outline : FrameOutline) → true ≡ decides rules outline)
+    → CanonicalReport plain supply store m turns source source' sink sink' r ⊎ NeverBeganReport source source' sink sink' errors.NoMemory r → SelectReport rules supply store m turns source source' sink sink' r ⊎ NeverBeganReport source source' sink sink' errors.NoMemory r
+all_run rules {supply = supply} {store = store} {m = m} {turns = turns} {source = source} {source' = source'} {sink = sink} {sink' = sink'} r all (inl run) =
     let same = selects_all rules all in
-    inl (run_by (λ goes. subst (λ text. Transcribes text plain m turns (supply source) (supply source') (store sink) (store sink') r) same goes.run) (λ e. e) (λ bytes. subst (λ text. TranscribesExactly text plain m bytes (store sink) (store sink') r) same) (λ bytes e. e) (λ goes e. e) run)
-all_run rules all (inr never) = inr never
+    inl (run_by (λ goes. subst (λ text. Transcribes text plain m turns (supply source) (supply source') (store sink) (store sink') (unreported r)) same goes.run) (λ e. e) (λ bytes. subst (λ text. TranscribesExactly text plain m bytes (store sink) (store sink') (unreported r)) same) (λ bytes e. e) (λ goes e. e) run.0, run.1)
+all_run rules r all (inr never) = inr never
 
 -- ---- one frame
 
@@ -91,8 +93,8 @@ selects s =
     }
 
 -- a whole call
-pub select_run : {S K : Type 0} (s t : Selector) {supply : S → Supply} {store : K → Store} {m turns : ℕ} {source source' : S} {sink sink' : K} {r : Result (Unit {0}) StreamError}
-    → WriterRun selecting s t supply store m turns source source' sink sink' (as_run r) ⊎ NeverRan s t source source' sink sink' (as_run {E = Infallible} r)
-    → SelectRun s.rules.now supply store m turns source source' sink sink' r ⊎ NeverBegan source source' sink sink' errors.NoMemory r
-select_run s t (inl run) = inl (text_run (selects s) run)
-select_run s t (inr never) = inr (never_began never.0)
+pub select_run : {S K : Type 0} (s t : Selector) {supply : S → Supply} {store : K → Store} {m turns : ℕ} {source source' : S} {sink sink' : K} (r : Result (Unit {0}) (RunReport StreamError))
+    → WriterReport selecting s t supply store m turns source source' sink sink' (as_run_report r) ⊎ NeverRanReport s t source source' sink sink' (as_run_report {E = Infallible} r)
+    → SelectReport s.rules.now supply store m turns source source' sink sink' r ⊎ NeverBeganReport source source' sink sink' errors.NoMemory r
+select_run s t {supply = supply} {m = m} {source = source} {source' = source'} r (inl run) = inl (text_run (selects s) (rw unreported_as_run at run.0), report_at (selects s) m (supply source) (supply source') r run.1)
+select_run s t r (inr never) = inr (never_began_report r never)

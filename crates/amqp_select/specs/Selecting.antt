@@ -1,16 +1,18 @@
 -- What is written of a stream of which rules keep some frames.
-use Rattle.std.specs.Prelude.{◌≡◌, ℕ, List, [], true, Result, Ok, if◌then◌else◌}
+use Rattle.std.specs.Prelude.{◌≡◌, ℕ, List, [], true, Result, Ok, IfErr, if◌then◌else◌}
 use Rattle.std.specs.declared.string.ParseError.{Infallible}
 use Rattle.amqp_types.specs.Levels.{plain}
 use Rattle.amqp_wire.specs.Frames.{Frame}
 use Rattle.amqp_wire.specs.Canonical.{canon, canon_frames}
 use Rattle.amqp_wire.specs.Outlines.{outline_of}
 use Rattle.amqp_stream.specs.declared.errors.StreamError.{StreamError}
+use Rattle.amqp_stream.specs.declared.report.RunReport.{RunReport}
 use Rattle.amqp_stream.specs.Ends.{Supply, Store}
 use Rattle.amqp_stream.specs.Steps.{Manner}
 use Rattle.amqp_stream.specs.Manners.{mapping}
 use Rattle.amqp_stream.specs.Transcribing.{Transcribes}
 use Rattle.amqp_stream.specs.Runs.{TextRun}
+use Rattle.amqp_stream.specs.Reports.{IsReportAt, unreported}
 use Rattle.amqp_select.specs.declared.rule.Rule.{Rule}
 use Rattle.amqp_select.specs.declared.selecting.Selector.{Selector}
 use Rattle.amqp_select.specs.Matching.{decides, kept}
@@ -32,3 +34,8 @@ abbrev pub SelectRun : {S K : Type 0} → List Rule → (S → Supply) → (K �
 SelectRun rules supply store m turns source source' sink sink' result = TextRun (selection rules) plain supply store m turns source source' sink sink' result
     (Transcribes (selection rules) plain m turns (supply source) (supply source') (store sink) (store sink') result)
     (result ≡ Ok tt)
+
+-- the same, with its report
+abbrev pub SelectReport : {S K : Type 0} → List Rule → (S → Supply) → (K → Store) → ℕ → ℕ → S → S → K → K → Result (Unit {0}) (RunReport StreamError) → Type 0
+SelectReport rules supply store m turns source source' sink sink' result =
+    SelectRun rules supply store m turns source source' sink sink' (unreported result) × IfErr result (IsReportAt plain m (supply source) (supply source'))

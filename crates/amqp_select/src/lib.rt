@@ -14,4 +14,4 @@ pub use errors::RuleError;
 pub use laws::{covered_rules_decide_nothing, words_spell_one_rule};
 pub use rule::{Rule, Span};
 pub use rules::Rules;
-pub use selecting::select;
+pub use selecting::{select, select_reported};

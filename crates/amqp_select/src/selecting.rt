@@ -2,17 +2,19 @@
 
 ghost use Rattle.std.specs.Prelude.{◌≡◌, ◌≢◌, ◌⊎◌, Ok, Err};
 ghost use Rattle.amqp_stream.specs.Transcribing.{NeverBegan};
+ghost use Rattle.amqp_stream.specs.Reports.{NeverBeganReport, unreported};
 ghost use Rattle.amqp_wire.specs.Frames.{Frame, raw_of};
 ghost use Rattle.amqp_wire.specs.Outlines.{outline_of};
 ghost use Rattle.amqp_wire.specs.Verdicts.{whole};
 ghost use Rattle.amqp_select.specs.Matching.{decides};
 ghost use Rattle.amqp_stream.specs.Decisions.{DecidesBy};
-ghost use Rattle.amqp_select.specs.Selecting.{selecting, SelectRun};
+ghost use Rattle.amqp_select.specs.Selecting.{selecting, SelectReport, SelectRun};
 
 use crate::rules::Rules;
 use amqp_stream::{
-    Decision, FrameWriter, OutputBuffer, RunError, Sink, Source, StreamError, canonicalize,
-    payload_error, put_decided, run_stream, unrefused,
+    Decision, FrameWriter, OutputBuffer, RunError, RunReport, Sink, Source, StreamError,
+    canonicalize_reported, payload_error, put_decided, run_stream_reported, unrefused_report,
+    unreported,
 };
 use amqp_types::ChunkSize;
 use amqp_wire::{AMQPRawFrame, judge_frame, outline_front};
@@ -89,8 +91,30 @@ impl<'a> FrameWriter for Selector<'a> {
     }
 }
 
-/// Writes the canonical bytes of the frames that rules keep of a stream, to the end of input or an error. The others
-/// are read and decoded all the same. Each read takes one of the read budget.
+/// Writes the canonical bytes of the frames that rules keep of a stream, to the end of input or an error, and reports
+/// where that is. The others are read and decoded all the same. Each read takes one of the read budget.
+pub fn select_reported<S: Source, K: Sink>(
+    alloc: Global,
+    rules: &Rules,
+    source: &mut S,
+    sink: &mut K,
+    max_payload: ChunkSize,
+    turns: u64,
+) -> Result<(), RunReport<StreamError>>
+    ensures run { SelectReport rules.now S.supply K.store max_payload turns source.old source.new sink.old sink.new result
+        ⊎ NeverBeganReport source.old source.new sink.old sink.new StreamError.NoMemory result }
+    ensures never_untidy { unreported result ≢ Err StreamError.NotTidy }
+{
+    // Where every frame is kept, no frame is looked at but by the canonicalizer.
+    if let Some(true) = rules.decide_all() {
+        return canonicalize_reported(alloc, source, sink, max_payload, turns);
+    }
+    let mut writer = Selector { rules };
+    let run = run_stream_reported(alloc, &mut writer, source, sink, max_payload, turns);
+    unrefused_report(run)
+}
+
+/// The same, without where it ended.
 pub fn select<S: Source, K: Sink>(
     alloc: Global,
     rules: &Rules,
@@ -103,10 +127,5 @@ pub fn select<S: Source, K: Sink>(
         ⊎ NeverBegan source.old source.new sink.old sink.new StreamError.NoMemory result }
     ensures never_untidy { result ≢ Err StreamError.NotTidy }
 {
-    // Where every frame is kept, no frame is looked at but by the canonicalizer.
-    if let Some(true) = rules.decide_all() {
-        return canonicalize(alloc, source, sink, max_payload, turns);
-    }
-    let mut writer = Selector { rules };
-    unrefused(run_stream(alloc, &mut writer, source, sink, max_payload, turns))
+    unreported(select_reported(alloc, rules, source, sink, max_payload, turns))
 }

@@ -23,10 +23,10 @@ use Rattle.amqp_stream.specs.Writing.{IsPrefix, WritesAll, GatherFails, IsFaulty
 use Rattle.amqp_stream.specs.Transcribing.{place_verdict, IsSequence}
 use Rattle.amqp_stream.specs.Steps.{Manner, text, refused, state}
 use Rattle.amqp_stream.specs.Streaming.{Ending, finished, refused_by, stopped_by, error_ending, ending_of, IsRefused, WriteFails, WritesBy, end_with, ended, EndsWith, text_of, state_of, IsShortBy, HasCauseBy, IsAllWritten, HasWrittenBy, HasStateBy, refused_of}
-use Rattle.amqp_stream.specs.Resuming.{ahead, Rests, RestsAt, RestsBy, Resumes}
+use Rattle.amqp_stream.specs.Resuming.{ahead, Rests, RestsAfter, RestsAt, RestsBy, Resumes}
 use Rattle.amqp_stream.proofs.Adding.{Takes-ahead, counted_none, Gains-then, Rises-later}
 use Rattle.amqp_stream.proofs.Passing.{Passes-one, Passes-all, refuses_here}
-use Rattle.amqp_stream.proofs.Going.{Start, Spans, Clear, Going, Clear-flushed, Clear-read, Going-kept}
+use Rattle.amqp_stream.proofs.Going.{Start, Spans, Spans-then, Clear, Going, Clear-flushed, Clear-read, Going-kept}
 
 -- ---- what was used is a sequence of frames, and what was written begins with what is written for it
 
@@ -55,7 +55,7 @@ front_bytes a b fits = subst IsBytes (take_at a b (length a) refl) (IsBytes-take
 short_by : {S E : Type 0} {w : Manner S E} {m : ℕ} {s t : S} {used text : List ℕ} (rest more : List ℕ) → Spans w m s t used text → IsBytes (used ++ rest) → length rest ≤ m + 8 → IsShortBy w s m (used ++ rest) (text ++ more) (m + 8)
 short_by {w = w} {m = m} {s = s} {used = used} {text = text} rest more h fits few =
     let is = spanned h (front_bytes used rest fits) in
-    record { sequence = used; rest = rest; parts = refl; is_sequence = is.sequence; written_begins = (more, ap (λ (xs : List ℕ). xs ++ more) is.text_is); few = few }
+    record { sequence = used; rest = rest; parts = refl; is_sequence = is.sequence; none_refused = is.none_refused; written_begins = (more, ap (λ (xs : List ℕ). xs ++ more) is.text_is); few = few }
 
 -- the run ended so: its writer, how many bytes came, its source and sink, and what is held after it
 abbrev pub Ended : {S E : Type 0} → Start S E → S → ℕ → Supply → Store → List ℕ → Ending E → Type 0
@@ -66,6 +66,12 @@ rests_of : {S E : Type 0} {r : Start S E} {u : S} {left came : ℕ} {c : Supply}
 rests_of {held = held} h =
     let is = spanned h.spans (front_bytes h.used held h.taken.are_bytes) in
     record { used = h.used; parts = refl; is_sequence = is.sequence; none_refused = is.none_refused; text_is = sym is.text_is; state_is = sym is.state_is }
+
+-- the frames so far, whatever was written for them
+rests_after : {S E : Type 0} {w : Manner S E} {s u : S} {m : ℕ} {used text : List ℕ} (held : List ℕ) → Spans w m s u used text → IsBytes (used ++ held) → RestsAfter w s m (used ++ held) held
+rests_after {used = used} held spans fits =
+    let is = spanned spans (front_bytes used held fits) in
+    record { used = used; parts = refl; is_sequence = is.sequence; none_refused = is.none_refused }
 
 -- ---- a run that ends with nothing pending
 
@@ -214,17 +220,19 @@ finish_memory {r = r} {u = u} {held = held} t raw n h found wants =
       rest = held;
       parts = refl;
       is_sequence = is.sequence;
+      none_refused = is.none_refused;
       wanting = record { raw = raw; used = n; found = found; such = wants };
       written_is = sym is.text_is;
-    }) (λ e. absurd cc) tt
+    }) (λ e. absurd cc) (record { rests = rests_after held h.spans h.taken.are_bytes; wanting = record { raw = raw; used = n; found = found; such = wants } })
 
 -- ---- a write that failed
 
 -- A piece of the front of what is pending was written, and of what follows it.
-finish_unwritten : {S E : Type 0} {r : Start S E} {u : S} {left came : ℕ} {c : Supply} {l l' : Store} {held pending piece kept : List ℕ} (t : S) (tail rest : List ℕ) → Going r u left came c l held pending → Gains l l' piece → IsPrefix piece (pending ++ tail) → text_of r.w u r.m held ≡ tail ++ rest → (r.sink.faults ≤ l.faults → Rises r.sink.faults l'.faults) → Ended r t came c l' kept (stopped_by write_failed)
+finish_unwritten : {S E : Type 0} {r : Start S E} {u : S} {left came : ℕ} {c : Supply} {l l' : Store} {held pending piece : List ℕ} (t : S) (tail rest : List ℕ) → Going r u left came c l held pending → Gains l l' piece → IsPrefix piece (pending ++ tail) → text_of r.w u r.m held ≡ tail ++ rest → (r.sink.faults ≤ l.faults → Rises r.sink.faults l'.faults) → Ended r t came c l' held (stopped_by write_failed)
 finish_unwritten {r = r} {u = u} {left = left} {c = c} {l = l} {l' = l'} {held = held} {pending = pending} {piece = piece} t tail rest g gains prefix text_is rises =
     let w = r.w in
     let taken = g.used ++ (g.since ++ held) in
+    let split : (g.used ++ g.since) ++ held ≡ taken = append_assoc g.used g.since held in
     let all : text_of w r.s r.m taken ≡ g.text ++ (g.text_since ++ (tail ++ rest)) = ap (text w r.s) (g.spans.sequence.sequence (g.since ++ held)) ∙ g.spans.passes.text_is _ ∙ ap (λ (xs : List ℕ). g.text ++ xs) (ap (text w g.between) (g.spans_since.sequence.sequence held) ∙ g.spans_since.passes.text_is _ ∙ ap (λ (xs : List ℕ). g.text_since ++ xs) text_is) in
     let piece_is : piece ++ (prefix.0 ++ rest) ≡ pending ++ (tail ++ rest) = sym (append_assoc piece prefix.0 rest) ∙ ap (λ (xs : List ℕ). xs ++ rest) prefix.1 ∙ append_assoc pending tail rest in
     let since_is : g.written ++ (piece ++ (prefix.0 ++ rest)) ≡ g.text_since ++ (tail ++ rest) = ap (λ (xs : List ℕ). g.written ++ xs) piece_is ∙ sym (append_assoc g.written pending (tail ++ rest)) ∙ ap (λ (xs : List ℕ). xs ++ (tail ++ rest)) g.parts in
@@ -250,16 +258,16 @@ finish_unwritten {r = r} {u = u} {left = left} {c = c} {l = l} {l' = l'} {held =
       takes = g.taken.takes;
       counts = g.taken.counts;
       some = λ e. absurd cc;
-      rests = tt;
+      rests = subst (λ (xs : List ℕ). RestsAfter w r.s r.m xs held) split (rests_after held (Spans-then g.spans g.spans_since) (subst IsBytes (sym split) g.taken.are_bytes));
     }
 
 -- what was pending could not be written
-pub finish_unflushed : {S E : Type 0} {r : Start S E} {u : S} {left came : ℕ} {c : Supply} {l l' : Store} {held pending kept : List ℕ} {bad : SinkFault} (t : S) → Going r u left came c l held pending → WritesAll l l' pending (Err bad) → Ended r t came c l' kept (stopped_by write_failed)
+pub finish_unflushed : {S E : Type 0} {r : Start S E} {u : S} {left came : ℕ} {c : Supply} {l l' : Store} {held pending : List ℕ} {bad : SinkFault} (t : S) → Going r u left came c l held pending → WritesAll l l' pending (Err bad) → Ended r t came c l' held (stopped_by write_failed)
 finish_unflushed {r = r} {u = u} {l = l} {l' = l'} {held = held} {pending = pending} t g f =
     finish_unwritten t [] (text_of r.w u r.m held) g f.gains (f.prefix.0, f.prefix.1 ∙ sym (append-nil pending)) refl (λ low. Rises-later r.sink.faults l.faults l'.faults low f.gains.faults f.err)
 
 -- a frame for which nothing was written, or not all
-finish_frame : {S E : Type 0} {r : Start S E} {u : S} {left came : ℕ} {c : Supply} {l l' : Store} {held before after kept : List ℕ} (t : S) (raw : Raw) (n : ℕ) → Going r u left came c l held before → outer (Some r.m) held ≡ took raw n → WriteFails r.w u raw l l' before after → Ended r t came c l' kept (stopped_by write_failed)
+finish_frame : {S E : Type 0} {r : Start S E} {u : S} {left came : ℕ} {c : Supply} {l l' : Store} {held before after : List ℕ} (t : S) (raw : Raw) (n : ℕ) → Going r u left came c l held before → outer (Some r.m) held ≡ took raw n → WriteFails r.w u raw l l' before after → Ended r t came c l' held (stopped_by write_failed)
 finish_frame {r = r} {u = u} {l = l} {l' = l'} {held = held} t raw n g found h =
     let w = r.w in
     let is = h.step in
@@ -278,7 +286,7 @@ ending-ended : {E : Type 0} (error : RunError E) (written : Result (Unit {0}) Si
 ending-ended error (Ok done) = refl
 ending-ended error (Err bad) = refl
 
-flush_then : {S E : Type 0} {r : Start S E} {u : S} {left came : ℕ} {c : Supply} {l l' : Store} {held pending kept : List ℕ} (t : S) (e : Ending E) (written : Result (Unit {0}) SinkFault) → Going r u left came c l held pending → WritesAll l l' pending written → (Clear r u left came c l' held 0 → Ended r t came c l' kept e) → Ended r t came c l' kept (ended_by e written)
+flush_then : {S E : Type 0} {r : Start S E} {u : S} {left came : ℕ} {c : Supply} {l l' : Store} {held pending : List ℕ} (t : S) (e : Ending E) (written : Result (Unit {0}) SinkFault) → Going r u left came c l held pending → WritesAll l l' pending written → (Clear r u left came c l' held 0 → Ended r t came c l' held e) → Ended r t came c l' held (ended_by e written)
 flush_then t e (Ok done) g f then = then (Clear-flushed g f)
 flush_then t e (Err bad) g f then = finish_unflushed t g f
 

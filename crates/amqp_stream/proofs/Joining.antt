@@ -13,7 +13,7 @@ use Rattle.amqp_stream.specs.Ends.{Supply, Store}
 use Rattle.amqp_stream.specs.Transcribing.{IsSequence}
 use Rattle.amqp_stream.specs.Steps.{Manner, text_at, text, refused_at, refused, state_at, state}
 use Rattle.amqp_stream.specs.Streaming.{Ending, finished, refused_by, stopped_by, text_of, refused_of, state_of, IsShortBy, HasCauseBy, HasWrittenBy, HasStateBy}
-use Rattle.amqp_stream.specs.Resuming.{ahead, Rests, RestsBy, RunsAddUp}
+use Rattle.amqp_stream.specs.Resuming.{ahead, Rests, RestsAfter, RestsBy, RunsAddUp}
 use Rattle.amqp_stream.proofs.Adding.{Takes-then, Takes-ahead, counted_more, Gains-then, Rises-later, IsBytes-append}
 use Rattle.amqp_stream.proofs.Passing.{Passes, Passes-none, Passes-then, Passes-one}
 use Rattle.amqp_stream.proofs.Going.{Spans}
@@ -76,6 +76,7 @@ short_then {w = w} {m = m} {used = used} {p = p} sp sequence h = record {
   rest = h.rest;
   parts = ap (λ (xs : List ℕ). used ++ xs) h.parts ∙ sym (append_assoc used h.sequence h.rest);
   is_sequence = sequence_then w.level m used h.sequence sequence h.is_sequence;
+  none_refused = refused_then sp h.sequence ∙ h.none_refused;
   written_begins = (h.written_begins.0, ap (λ (xs : List ℕ). xs ++ h.written_begins.0) (text_then sp h.sequence) ∙ append_assoc p _ h.written_begins.0 ∙ ap (λ (xs : List ℕ). p ++ xs) h.written_begins.1);
   few = h.few;
 }
@@ -96,6 +97,7 @@ causes_then {w = w} {m = m} {used = used} {p = p} turns more a b c k l n sp sequ
   rest = h.rest;
   parts = ap (λ (xs : List ℕ). used ++ xs) h.parts ∙ sym (append_assoc used h.sequence h.rest);
   is_sequence = sequence_then w.level m used h.sequence sequence h.is_sequence;
+  none_refused = refused_then sp h.sequence ∙ h.none_refused;
   wanting = h.wanting;
   written_is = ap (λ (xs : List ℕ). p ++ xs) h.written_is ∙ sym (text_then sp h.sequence);
 }
@@ -110,9 +112,17 @@ rest_then {w = w} {m = m} {used = used} {p = p} {held = held} sp sequence h = re
   state_is = h.state_is ∙ sym (state_then sp h.used);
 }
 
+rest_after_then : {S E : Type 0} {w : Manner S E} {m : ℕ} {s t : S} {used p bytes held : List ℕ} → Spans w m s t used p → IsSequence w.level m used → RestsAfter w t m bytes held → RestsAfter w s m (used ++ bytes) held
+rest_after_then {w = w} {m = m} {used = used} {held = held} sp sequence h = record {
+  used = used ++ h.used;
+  parts = ap (λ (xs : List ℕ). used ++ xs) h.parts ∙ sym (append_assoc used h.used held);
+  is_sequence = sequence_then w.level m used h.used sequence h.is_sequence;
+  none_refused = refused_then sp h.used ∙ h.none_refused;
+}
+
 rests_then : {S E : Type 0} {w : Manner S E} {m : ℕ} {s t : S} {used p : List ℕ} → Spans w m s t used p → IsSequence w.level m used → (u : S) (bytes q held : List ℕ) (e : Ending E) → RestsBy w t u m bytes q held e → RestsBy w s u m (used ++ bytes) (p ++ q) held e
-rests_then sp sequence u bytes q held (stopped_by write_failed) h = tt
-rests_then sp sequence u bytes q held (stopped_by out_of_memory) h = tt
+rests_then sp sequence u bytes q held (stopped_by write_failed) h = rest_after_then sp sequence h
+rests_then sp sequence u bytes q held (stopped_by out_of_memory) h = record { rests = rest_after_then sp sequence h.rests; wanting = h.wanting }
 rests_then sp sequence u bytes q held (refused_by why) h = record { rests = rest_then sp sequence h.rests; refused = h.refused }
 rests_then sp sequence u bytes q held ending h = record { rests = rest_then sp sequence h.rests; place_is = h.place_is ∙ sym (sp.sequence.after bytes) }
 

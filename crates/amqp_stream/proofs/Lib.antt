@@ -8,6 +8,7 @@ pub mod Going
 pub mod Finishing
 pub mod Standing
 pub mod Resuming
+pub mod Reporting
 pub mod Joining
 pub mod Turning
 pub mod Exactly
@@ -15,6 +16,7 @@ pub mod Transcribing
 pub mod Runs
 pub mod Forwarding
 pub mod Tidying
+pub mod Apart
 pub mod Putting
 pub mod Deciding
 pub mod Flushes

@@ -89,13 +89,13 @@ pub frame_has_room : {S E : Type 0} {r : Start S E} {room : ℕ} {x : Loop S} {f
 frame_has_room {x = x} turn finds is enough compact =
     omega (arith, fits_room turn.going (frame_at turn finds is) compact, turn.room_is, length-append x.out.bytes (take x.passed x.reader.held), length-take-le x.passed x.reader.held turn.within)
 
-pub ends_at_frame : {S E : Type 0} {r : Start S E} {room : ℕ} {x : Loop S} {found : Option FrameLayout} {layout : FrameLayout} {t : S} {l : Store} {held : List ℕ} {error : RunError E} → Turn r room x → Finds x.reader.limit (drop x.passed x.reader.held) (Ok found) → found ≡ Some layout → IsUnflushed x.sink l (gathered x.out.bytes x.passed x.reader.held) error ⊎ (IsStopped r.w x.writer t (laid_out layout (drop x.passed x.reader.held)) x.sink l (gathered x.out.bytes x.passed x.reader.held) error × (held ≡ drop x.passed x.reader.held)) → Ended r t x.came x.source l held (error_ending error)
+pub ends_at_frame : {S E : Type 0} {r : Start S E} {room : ℕ} {x : Loop S} {found : Option FrameLayout} {layout : FrameLayout} {t : S} {l : Store} {held : List ℕ} {error : RunError E} → Turn r room x → Finds x.reader.limit (drop x.passed x.reader.held) (Ok found) → found ≡ Some layout → (IsUnflushed x.sink l (gathered x.out.bytes x.passed x.reader.held) error ⊎ IsStopped r.w x.writer t (laid_out layout (drop x.passed x.reader.held)) x.sink l (gathered x.out.bytes x.passed x.reader.held) error) × (held ≡ drop x.passed x.reader.held) → Ended r t x.came x.source l held (error_ending error)
 ends_at_frame {t = t} turn finds is stops =
     let lies = frame_at turn finds is in
-    elim stops [
+    held_as stops.1 (elim stops.0 [
       | inl h ↦ rw h.is (finish_unflushed t turn.going h.written)
-      | inr h ↦ held_as h.1 (finish_stopped (Going-kept turn.going h.0.keeps) lies.found h.0.writes h.0.ends)
-    ]
+      | inr h ↦ finish_stopped (Going-kept turn.going h.keeps) lies.found h.writes h.ends
+    ])
 
 pub turn_after_frame : {S E : Type 0} {r : Start S E} {room : ℕ} {x : Loop S} {found : Option FrameLayout} {layout : FrameLayout} {t : S} {l : Store} {reader : Holding} {out : Buffered} {longer : ℕ} → Turn r room x → Finds x.reader.limit (drop x.passed x.reader.held) (Ok found) → found ≡ Some layout → IsTaken r.w x.writer t layout x.sink l x.reader.held reader.held x.out.bytes out.bytes x.passed longer → out.room ≡ x.out.room → reader.limit ≡ x.reader.limit → Turn r room (record { writer = t; left = x.left; came = x.came; source = x.source; sink = l; reader = reader; out = out; passed = longer })
 turn_after_frame {r = r} {x = x} {t = t} {l = l} {reader = reader} {out = out} {longer = longer} turn finds is taken room_is limit =
@@ -112,8 +112,8 @@ frame_shortens {r = r} {x = x} {layout = layout} turn finds is same = rw same (f
 
 -- ---- neither, so that what is pending is written, and more bytes are needed
 
-pub ends_unflushed : {S E : Type 0} {r : Start S E} {room : ℕ} {x : Loop S} {l : Store} {held : List ℕ} {bad : SinkFault} → Turn r room x → WritesAll x.sink l (gathered x.out.bytes x.passed x.reader.held) (Err bad) → Ended r x.writer x.came x.source l held (stopped_by write_failed)
-ends_unflushed turn failed = finish_unflushed _ turn.going failed
+pub ends_unflushed : {S E : Type 0} {r : Start S E} {room : ℕ} {x : Loop S} {l : Store} {held : List ℕ} {bad : SinkFault} → Turn r room x → WritesAll x.sink l (gathered x.out.bytes x.passed x.reader.held) (Err bad) → held ≡ drop x.passed x.reader.held → Ended r x.writer x.came x.source l held (stopped_by write_failed)
+ends_unflushed turn failed rest = held_as rest (finish_unflushed _ turn.going failed)
 
 -- Nothing is pending, and the held bytes are the front of a frame.
 record Idle {S E : Type 0} (r : Start S E) (u : S) (left came : ℕ) (b : Supply) (l : Store) (held : List ℕ) : Type 0 where

@@ -1,11 +1,11 @@
 -- What canonicalizing a stream does.
-use Rattle.std.specs.Prelude.{ℕ, ◌≤◌, List, length, Some, Result}
+use Rattle.std.specs.Prelude.{◌≡◌, ◌↔◌, ℕ, ◌≤◌, List, length, Some, Result}
 use Rattle.amqp_types.specs.Levels.{Level}
 use Rattle.amqp_wire.specs.Canonical.{canon_frames}
 use Rattle.amqp_wire.specs.Fronts.{front}
 use Rattle.amqp_stream.specs.declared.errors.StreamError.{StreamError}
 use Rattle.amqp_stream.specs.Ends.{Supply, Store}
-use Rattle.amqp_stream.specs.Transcribing.{Transcribes, TranscribesExactly}
+use Rattle.amqp_stream.specs.Transcribing.{IsSequence, Transcribes, TranscribesExactly}
 
 -- the canonical bytes of the sequence of frames at the front of some bytes
 abbrev pub canon_of : Level → ℕ → List ℕ → List ℕ
@@ -19,3 +19,8 @@ pub record Canonicalizes (level : Level) (m turns : ℕ) (a b : Supply) (k l : S
 -- what a call returns and writes over a source that reports its bytes
 abbrev pub AnswersExactly : Level → ℕ → List ℕ → Store → Store → Result (Unit {0}) StreamError → Type 0
 AnswersExactly level m bytes k l result = TranscribesExactly canon_frames level m bytes k l result
+
+-- What is written for two sequences of frames is equal exactly where they encode the same frames.
+abbrev pub EqualOutputIsEqualFrames : Type 0
+EqualOutputIsEqualFrames = (level : Level) (m : ℕ) (a b : List ℕ) → IsSequence level m a → IsSequence level m b
+    → (canon_of level m a ≡ canon_of level m b) ↔ (front level (Some m) a ≡ front level (Some m) b)

@@ -12,6 +12,7 @@ pub mod Steps
 pub mod Streaming
 pub mod Runs
 pub mod Resuming
+pub mod Reports
 pub mod Forwarding
 pub mod Decisions
 pub mod Taking

@@ -1,8 +1,9 @@
 -- A run that begins with bytes that are held already, and holds what follows the frames that it wrote for.
-use Rattle.std.specs.Prelude.{◌≡◌, ◌⊎◌, ℕ, ◌+◌, ◌≤◌, List, [], ◌++◌, length, None, Some, Err}
+use Rattle.std.specs.Prelude.{◌≡◌, ◌⊎◌, ℕ, ◌+◌, ◌≤◌, List, [], ◌++◌, length, None, Some, Err, IsTrue}
 use Rattle.amqp_types.specs.Judging.{took}
 use Rattle.amqp_wire.specs.Frames.{Frame}
 use Rattle.amqp_wire.specs.Fronts.{place}
+use Rattle.amqp_wire.specs.Outer.{BeginsWith}
 use Rattle.amqp_wire.specs.Verdicts.{verdict}
 use Rattle.amqp_stream.specs.Errors.{turns_spent, write_failed, out_of_memory}
 use Rattle.amqp_stream.specs.Ends.{Supply, Store, Takes, prepended, counted}
@@ -40,10 +41,22 @@ pub record RestsRefused {S E : Type 0} (w : Manner S E) (s t : S) (m : ℕ) (byt
   pub rests : Rests w s t m bytes written held
   pub refused : IsRefusedThere w t m held why ⊎ ((held ≡ []) × (w.end t ≡ Some why))
 
--- What is held after a run. Only after a failed write, and after memory ran out, it is not known.
+-- Of some bytes those in front are frames of which none is refused, and the rest is held.
+pub record RestsAfter {S E : Type 0} (w : Manner S E) (s : S) (m : ℕ) (bytes held : List ℕ) : Type 0 where
+  pub used : List ℕ
+  pub parts : bytes ≡ used ++ held
+  pub is_sequence : IsSequence w.level m used
+  pub none_refused : refused_of w s m used ≡ None
+
+-- The same, and the held bytes begin with a frame at which memory may run out.
+pub record RestsWanting {S E : Type 0} (w : Manner S E) (s : S) (m : ℕ) (bytes held : List ℕ) : Type 0 where
+  pub rests : RestsAfter w s m bytes held
+  pub wanting : BeginsWith (λ kind. IsTrue (w.wants kind)) (Some m) held
+
+-- What is held after a run: what follows the frames that were written for, or after a failed write those that were taken.
 abbrev pub RestsBy : {S E : Type 0} → Manner S E → S → S → ℕ → List ℕ → List ℕ → List ℕ → Ending E → Type 0
-RestsBy w s t m bytes written held (stopped_by write_failed) = Unit {0}
-RestsBy w s t m bytes written held (stopped_by out_of_memory) = Unit {0}
+RestsBy w s t m bytes written held (stopped_by write_failed) = RestsAfter w s m bytes held
+RestsBy w s t m bytes written held (stopped_by out_of_memory) = RestsWanting w s m bytes held
 RestsBy w s t m bytes written held (refused_by why) = RestsRefused w s t m bytes written held why
 RestsBy w s t m bytes written held ending = RestsAt w s t m bytes written held
 

@@ -120,21 +120,24 @@ pub record IsUnended {S E : Type 0} (w : Manner S E) (s : S) (m : ℕ) (taken : 
   pub none_refused : refused_of w s m taken ≡ None
   pub ends : w.end (state_of w s m taken) ≡ Some why
 
--- A sequence of frames that was written for and then a frame at which memory may run out have come.
+-- A sequence of frames that was written for, and of which none is refused, and then a frame at which memory may run out have come.
 pub record AtWanting {S E : Type 0} (w : Manner S E) (s : S) (m : ℕ) (taken written : List ℕ) : Type 0 where
   pub sequence : List ℕ
   pub rest : List ℕ
   pub parts : taken ≡ sequence ++ rest
   pub is_sequence : IsSequence w.level m sequence
+  pub none_refused : refused_of w s m sequence ≡ None
   pub wanting : BeginsWith (λ kind. IsTrue (w.wants kind)) (Some m) rest
   pub written_is : written ≡ text_of w s m sequence
 
--- At most n of the bytes taken come after a sequence of frames that was written for.
+-- At most n of the bytes taken come after a sequence of frames that was written for, and of which none is refused. So of what follows a refused frame no
+-- more is taken than was held with it.
 pub record IsShortBy {S E : Type 0} (w : Manner S E) (s : S) (m : ℕ) (taken written : List ℕ) (n : ℕ) : Type 0 where
   pub sequence : List ℕ
   pub rest : List ℕ
   pub parts : taken ≡ sequence ++ rest
   pub is_sequence : IsSequence w.level m sequence
+  pub none_refused : refused_of w s m sequence ≡ None
   pub written_begins : IsPrefix (text_of w s m sequence) written
   pub few : length rest ≤ n
 

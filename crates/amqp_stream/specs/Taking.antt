@@ -41,8 +41,8 @@ pub record IsStopped {S E : Type 0} (w : Manner S E) (s t : S) (raw : Raw) (old 
   pub writes : WritesBy w s t raw mid later pending after (error_ending why)
   pub ends : EndsWith later new after why (Err error)
 
--- how one frame of a run is taken
+-- how one frame of a run is taken; where the run ends at it, it is held
 abbrev pub TakesFrame : {S E : Type 0} → Manner S E → S → S → FrameLayout → Store → Store → List ℕ → List ℕ → List ℕ → List ℕ → Stretch → Result Stretch (RunError E) → Type 0
 TakesFrame w s t layout old new held_old held_new before after stretch (Ok longer) = IsTaken w s t layout old new held_old held_new before after stretch.len longer.len
 TakesFrame w s t layout old new held_old held_new before after stretch (Err error) =
-    IsUnflushed old new (gathered before stretch.len held_old) error ⊎ (IsStopped w s t (laid_out layout (drop stretch.len held_old)) old new (gathered before stretch.len held_old) error × (held_new ≡ drop stretch.len held_old))
+    (IsUnflushed old new (gathered before stretch.len held_old) error ⊎ IsStopped w s t (laid_out layout (drop stretch.len held_old)) old new (gathered before stretch.len held_old) error) × (held_new ≡ drop stretch.len held_old)

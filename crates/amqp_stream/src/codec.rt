@@ -1,21 +1,42 @@
 //! A reader and an output buffer, reserved in full, and what runs over them.
 
-ghost use Rattle.std.specs.Prelude.{◌≡◌, ◌≢◌, ◌⊎◌, Err, IfOk};
+ghost use Rattle.std.specs.Prelude.{◌≡◌, ◌≢◌, ◌⊎◌, ◌+◌, ◌-◌, ◌≤◌, length, Err, IfOk, IfErr};
 ghost use Rattle.amqp_types.specs.Levels.{plain, level_of};
 ghost use Rattle.amqp_stream.specs.Runs.{CanonicalRun, WriterRun, NeverRan};
 ghost use Rattle.amqp_stream.specs.Transcribing.{NeverBegan};
+ghost use Rattle.amqp_stream.specs.Reports.{IsReportBy, IsReportAt, channel_in, unreported};
+ghost use Rattle.amqp_stream.specs.Reports.{WriterReport, NeverRanReport, CanonicalReport, NeverBeganReport};
 
-use crate::canonical::{Canonical, TidyCanonical, unrefused};
+use crate::canonical::{Canonical, TidyCanonical};
 use crate::engine::run_with;
 use crate::errors::{RunError, StreamError};
 use crate::frame_writer::FrameWriter;
 use crate::output_buffer::OutputBuffer;
 use crate::reader::FrameReader;
+use crate::report::{RunReport, unrefused_report, unreported};
 use crate::sink::Sink;
 use crate::source::Source;
 use amqp_types::{ChunkSize, NoMemory, Profile};
 use std::alloc::Global;
 use std::marker::Model;
+
+/// The result of a run with its report: it ended before what is held of the bytes that came.
+fn reported<E>(reader: &FrameReader, came: u64, ended: Result<(), E>) -> Result<(), RunReport<E>>
+    ensures error { unreported result ≡ ended }
+    ensures place { IfErr result (λ report. report.place ≡ came - length reader.now.held) }
+    ensures channel { IfErr result (λ report. report.channel ≡ channel_in reader.now.held) }
+    ensures few { length reader.now.held ≤ reader.now.limit + 8 }
+{
+    let held = reader.held().len() as u64;
+    match ended {
+        Ok(()) => Ok(()),
+        Err(error) => Err(RunReport {
+            error,
+            place: came.saturating_sub(held),
+            channel: reader.channel(),
+        }),
+    }
+}
 
 /// A reader and an output buffer, both reserved in full, over which streams are read and written.
 #[derive(Drop)]
@@ -45,8 +66,34 @@ impl Codec {
         Ok(Codec { reader, out })
     }
 
-    /// Writes for each frame that is read, to the end of input or an error. Each read takes one of
-    /// the read budget. What an earlier call left in the codec is dropped.
+    /// Writes for each frame that is read, to the end of input or an error, and reports where that is. Each read takes
+    /// one of the read budget. What an earlier call left in the codec is dropped.
+    pub fn run_reported<W: FrameWriter, S: Source, K: Sink>(
+        &mut self,
+        writer: &mut W,
+        source: &mut S,
+        sink: &mut K,
+        turns: u64,
+    ) -> Result<(), RunReport<RunError<W::Refusal>>>
+        ensures limit { self.new ≡ self.old }
+        ensures run { WriterRun W.manner writer.old writer.new S.supply K.store self.old turns source.old source.new sink.old sink.new (unreported result) }
+        ensures place { IfErr result (IsReportBy W.manner writer.old self.old (S.supply source.old) (S.supply source.new)) }
+    {
+        self.reader.clear();
+        let mut came = 0;
+        let ended = run_with(
+            &mut self.reader,
+            &mut self.out,
+            writer,
+            source,
+            sink,
+            turns,
+            &mut came,
+        );
+        reported(&self.reader, came, ended)
+    }
+
+    /// The same, without where the run ended.
     pub fn run<W: FrameWriter, S: Source, K: Sink>(
         &mut self,
         writer: &mut W,
@@ -57,21 +104,35 @@ impl Codec {
         ensures limit { self.new ≡ self.old }
         ensures run { WriterRun W.manner writer.old writer.new S.supply K.store self.old turns source.old source.new sink.old sink.new result }
     {
-        self.reader.clear();
-        run_with(
-            &mut self.reader,
-            &mut self.out,
-            writer,
-            source,
-            sink,
-            turns,
-            &mut 0,
-        )
+        unreported(self.run_reported(writer, source, sink, turns))
     }
 
-    /// Writes the canonical bytes of each frame that is read in a profile, to the end of input or an
-    /// error. Each read takes one of the read budget. What an earlier call left in the codec is
-    /// dropped. No memory is taken.
+    /// Writes the canonical bytes of each frame that is read in a profile, to the end of input or an error, and reports
+    /// where that is. Each read takes one of the read budget. What an earlier call left in the codec is dropped. No
+    /// memory is taken.
+    pub fn rewrite_reported<S: Source, K: Sink>(
+        &mut self,
+        profile: Profile,
+        source: &mut S,
+        sink: &mut K,
+        turns: u64,
+    ) -> Result<(), RunReport<StreamError>>
+        ensures limit { self.new ≡ self.old }
+        ensures run { CanonicalRun (level_of profile) S.supply K.store self.old turns source.old source.new sink.old sink.new (unreported result) }
+        ensures place { IfErr result (IsReportAt (level_of profile) self.old (S.supply source.old) (S.supply source.new)) }
+        ensures memory { unreported result ≢ Err StreamError.NoMemory }
+    {
+        match profile {
+            Profile::Plain => {
+                unrefused_report(self.run_reported(&mut Canonical, source, sink, turns))
+            }
+            Profile::Tidy => {
+                unrefused_report(self.run_reported(&mut TidyCanonical, source, sink, turns))
+            }
+        }
+    }
+
+    /// The same, without where the run ended.
     pub fn rewrite<S: Source, K: Sink>(
         &mut self,
         profile: Profile,
@@ -83,46 +144,28 @@ impl Codec {
         ensures run { CanonicalRun (level_of profile) S.supply K.store self.old turns source.old source.new sink.old sink.new result }
         ensures memory { result ≢ Err StreamError.NoMemory }
     {
-        match profile {
-            Profile::Plain => unrefused(self.run(&mut Canonical, source, sink, turns)),
-            Profile::Tidy => unrefused(self.run(&mut TidyCanonical, source, sink, turns)),
+        unreported(self.rewrite_reported(profile, source, sink, turns))
+    }
+}
+
+/// Opens a codec and runs a writer over it, and reports where the run ended.
+pub fn run_stream_reported<W: FrameWriter, S: Source, K: Sink>(
+    alloc: Global,
+    writer: &mut W,
+    source: &mut S,
+    sink: &mut K,
+    max_payload: ChunkSize,
+    turns: u64,
+) -> Result<(), RunReport<RunError<W::Refusal>>>
+    ensures run { WriterReport W.manner writer.old writer.new S.supply K.store max_payload turns source.old source.new sink.old sink.new result
+        ⊎ NeverRanReport writer.old writer.new source.old source.new sink.old sink.new result }
+{
+    match Codec::open(alloc, max_payload) {
+        Ok(codec) => {
+            let mut codec = codec;
+            codec.run_reported(writer, source, sink, turns)
         }
-    }
-
-    /// Writes the canonical bytes of each frame that is read in a profile, to the end of input or an
-    /// error. Each read takes one of the read budget. What an earlier call left in the codec is
-    /// dropped. No memory is taken: the allocator is not asked.
-    pub fn canonicalize_in<S: Source, K: Sink>(
-        &mut self,
-        _alloc: Global,
-        profile: Profile,
-        source: &mut S,
-        sink: &mut K,
-        turns: u64,
-    ) -> Result<(), StreamError>
-        ensures limit { self.new ≡ self.old }
-        ensures run { CanonicalRun (level_of profile) S.supply K.store self.old turns source.old source.new sink.old sink.new result }
-        ensures memory { result ≢ Err StreamError.NoMemory }
-    {
-        self.rewrite(profile, source, sink, turns)
-    }
-
-    /// Writes the canonical bytes of each frame that can be read, to the end of input or an error.
-    /// Each read takes one of the read budget. What an earlier call left in the codec is dropped. No
-    /// memory is taken: the allocator is not asked.
-    pub fn canonicalize<S: Source, K: Sink>(
-        &mut self,
-        alloc: Global,
-        source: &mut S,
-        sink: &mut K,
-        turns: u64,
-    ) -> Result<(), StreamError>
-        ensures limit { self.new ≡ self.old }
-        ensures run { CanonicalRun plain S.supply K.store self.old turns source.old source.new sink.old sink.new result }
-        ensures memory { result ≢ Err StreamError.NoMemory }
-        ensures never_untidy { result ≢ Err StreamError.NotTidy }
-    {
-        self.canonicalize_in(alloc, Profile::Plain, source, sink, turns)
+        Err(_) => Err(RunReport::at_start(RunError::Stream(StreamError::NoMemory))),
     }
 }
 
@@ -138,37 +181,31 @@ pub fn run_stream<W: FrameWriter, S: Source, K: Sink>(
     ensures run { WriterRun W.manner writer.old writer.new S.supply K.store max_payload turns source.old source.new sink.old sink.new result
         ⊎ NeverRan writer.old writer.new source.old source.new sink.old sink.new result }
 {
-    match Codec::open(alloc, max_payload) {
-        Ok(codec) => {
-            let mut codec = codec;
-            codec.run(writer, source, sink, turns)
-        }
-        Err(_) => Err(RunError::Stream(StreamError::NoMemory)),
-    }
+    unreported(run_stream_reported(alloc, writer, source, sink, max_payload, turns))
 }
 
-/// Opens a codec, and canonicalizes with it what is read in a profile.
-pub fn canonicalize_in<S: Source, K: Sink>(
+/// Opens a codec, and canonicalizes with it what can be read, and reports where that ended.
+pub fn canonicalize_reported<S: Source, K: Sink>(
     alloc: Global,
-    profile: Profile,
     source: &mut S,
     sink: &mut K,
     max_payload: ChunkSize,
     turns: u64,
-) -> Result<(), StreamError>
-    ensures run { CanonicalRun (level_of profile) S.supply K.store max_payload turns source.old source.new sink.old sink.new result
-        ⊎ NeverBegan source.old source.new sink.old sink.new StreamError.NoMemory result }
+) -> Result<(), RunReport<StreamError>>
+    ensures run { CanonicalReport plain S.supply K.store max_payload turns source.old source.new sink.old sink.new result
+        ⊎ NeverBeganReport source.old source.new sink.old sink.new StreamError.NoMemory result }
+    ensures never_untidy { unreported result ≢ Err StreamError.NotTidy }
 {
     match Codec::open(alloc, max_payload) {
         Ok(codec) => {
             let mut codec = codec;
-            codec.canonicalize_in(alloc, profile, source, sink, turns)
+            codec.rewrite_reported(Profile::Plain, source, sink, turns)
         }
-        Err(_) => Err(StreamError::NoMemory),
+        Err(_) => Err(RunReport::at_start(StreamError::NoMemory)),
     }
 }
 
-/// Opens a codec, and canonicalizes with it what can be read.
+/// The same, without where it ended.
 pub fn canonicalize<S: Source, K: Sink>(
     alloc: Global,
     source: &mut S,
@@ -180,5 +217,5 @@ pub fn canonicalize<S: Source, K: Sink>(
         ⊎ NeverBegan source.old source.new sink.old sink.new StreamError.NoMemory result }
     ensures never_untidy { result ≢ Err StreamError.NotTidy }
 {
-    canonicalize_in(alloc, Profile::Plain, source, sink, max_payload, turns)
+    unreported(canonicalize_reported(alloc, source, sink, max_payload, turns))
 }

@@ -60,7 +60,10 @@ fn write_decided<W: FrameWriter, K: Sink>(
         reader.old.held reader.new.held out.old.bytes out.new.bytes stretch result }
 {
     match gather_stretch(out, sink, reader.front(stretch.len), stretch.has_large()) {
-        Err(_) => return Err(RunError::Stream(StreamError::WriteFault)),
+        Err(_) => {
+            reader.skip(stretch.len);
+            return Err(RunError::Stream(StreamError::WriteFault));
+        }
         Ok(()) => {}
     }
     let raw = reader.frame_after(stretch.len, layout);
@@ -149,7 +152,8 @@ fn take_frame<W: FrameWriter, K: Sink>(
 }
 
 /// Writes for each frame that is held or read, to the end of input. What is pending is written before each
-/// read, and at the end; frames that stand are written from where they lie. What follows them is held afterwards.
+/// read, and at the end; frames that stand are written from where they lie. What follows the frames that were taken is
+/// held afterwards, also where a write failed.
 /// `came` counts the bytes that reads gave, and stays at its last value.
 pub(crate) fn run_with<W: FrameWriter, S: Source, K: Sink>(
     reader: &mut FrameReader,
@@ -169,7 +173,7 @@ pub(crate) fn run_with<W: FrameWriter, S: Source, K: Sink>(
     ensures spent { reader.old.held ≡ [] → turns ≡ 0 → result ≡ Err (RunError.Stream StreamError.TurnsSpent) }
     ensures unwritten { reader.old.held ≡ [] → turns ≡ 0 → sink.new ≡ sink.old }
 {
-    // What is held are bytes, and no more than the largest frame has.
+    // For the proof alone, from the contract: what is held are bytes, and no more than the largest frame has.
     reader.held();
     out.clear();
     let mut left = turns;
@@ -193,7 +197,10 @@ pub(crate) fn run_with<W: FrameWriter, S: Source, K: Sink>(
             Ok(None) => {}
         }
         match write_after(out, sink, reader.front(stretch.len), stretch.has_large()) {
-            Err(_) => return Err(RunError::Stream(StreamError::WriteFault)),
+            Err(_) => {
+                reader.skip(stretch.len);
+                return Err(RunError::Stream(StreamError::WriteFault));
+            }
             Ok(()) => {}
         }
         reader.skip(stretch.len);

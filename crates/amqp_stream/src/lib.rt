@@ -3,6 +3,7 @@
 
 mod buffer;
 mod canonical;
+mod canonical_laws;
 mod codec;
 mod count_sink;
 mod decision;
@@ -17,6 +18,7 @@ mod make_source;
 mod output;
 mod output_buffer;
 mod reader;
+mod report;
 mod sink;
 mod sinks;
 mod source;
@@ -24,7 +26,8 @@ mod sources;
 mod stretch;
 
 pub use canonical::{Canonical, TidyCanonical, as_run, unrefused};
-pub use codec::{Codec, canonicalize, canonicalize_in, run_stream};
+pub use canonical_laws::equal_output_is_equal_frames;
+pub use codec::{Codec, canonicalize, canonicalize_reported, run_stream, run_stream_reported};
 pub use count_sink::CountSink;
 pub use decision::{Decision, put_decided};
 pub use equality::{
@@ -39,6 +42,7 @@ pub use make_source::MakeSource;
 pub use output::{SMALL_BODY, flush, gather, payload_error, write_all, write_canonical};
 pub use output_buffer::OutputBuffer;
 pub use reader::FrameReader;
+pub use report::{RunReport, unrefused_report, unreported};
 pub use sink::{Sink, SinkFault};
 pub use sinks::{ScriptSink, StdSink, VecSink};
 pub use source::{Source, SourceFault};

@@ -1,12 +1,39 @@
 //! Reading frames: a buffer for the largest of them, filled by reads, out of which they are borrowed.
 
+ghost use Rattle.std.specs.Prelude.{◌≡◌};
+ghost use Rattle.amqp_stream.specs.Reports.{channel_in, has_channel};
+
 use crate::buffer::{Span, held_of, read_more};
 use crate::errors::ReadError;
 use crate::source::{Source, SourceFault};
-use amqp_types::{ChunkSize, NoMemory};
+use amqp_types::{
+    ChannelId, ChunkSize, FRAME_BODY, FRAME_HEADER, FRAME_HEARTBEAT, FRAME_METHOD, NoMemory,
+};
 use amqp_wire::{AMQPRawFrame, FrameLayout, Look, look_at};
 use std::alloc::Global;
 use std::marker::Model;
+
+/// Whether a frame that begins with this byte has a channel: a protocol header has none.
+fn has_channel(kind: u8) -> bool
+    ensures { result ≡ has_channel kind }
+{
+    kind == FRAME_METHOD || kind == FRAME_HEADER || kind == FRAME_BODY || kind == FRAME_HEARTBEAT
+}
+
+/// The channel of the frame that some bytes begin with, where its header is there.
+#[tactic(auto, unfolding(crate::specs::Reports::channel_in))]
+fn channel_in(bytes: &[u8]) -> Option<ChannelId>
+    ensures { result ≡ channel_in bytes.now }
+{
+    if bytes.len() < 7 {
+        return None;
+    }
+    if !has_channel(bytes[0]) {
+        return None;
+    }
+    let rest = &bytes[1..];
+    Some(u16::from_be_bytes([rest[0], rest[1]]))
+}
 
 /// A reader of frames, over a buffer for the largest of them that is reserved in full. A frame is
 /// borrowed out of the buffer, and no call but `open` takes memory.
@@ -39,6 +66,7 @@ impl FrameReader {
     ghost use Rattle.amqp_wire.specs.Looks.{laid_out};
     ghost use Rattle.amqp_stream.specs.contracts.reader.FrameReader.{the_row};
     ghost use Rattle.amqp_stream.specs.Reading.{ReadsMore, PullsTo, Lies, LiesIn, Finds, HasNext, Returns};
+    ghost use Rattle.amqp_stream.specs.Reports.{channel_in};
 
     /// A reader that holds nothing, for payloads of at most so many bytes.
     pub fn open(alloc: Global, max_payload: ChunkSize) -> Result<FrameReader, NoMemory>
@@ -75,6 +103,13 @@ impl FrameReader {
         ensures { IsTrue result ↔ self.now.held ≡ [] }
     {
         self.span.start == self.span.end
+    }
+
+    /// The channel of the frame at the front of the held bytes, where its header is there.
+    pub fn channel(&self) -> Option<ChannelId>
+        ensures { result ≡ channel_in self.now.held }
+    {
+        channel_in(self.held())
     }
 
     /// The first held bytes.

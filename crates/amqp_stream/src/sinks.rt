@@ -1,14 +1,14 @@
 //! Sinks in memory, and a writer of the system.
 
 ghost use Rattle.std.specs.Prelude.{◌≡◌, ◌+◌, ◌<◌, ◌≤◌, [], length, min, take, Contains, IfOk, IsErr, OnOk, OnErr};
-ghost use Rattle.std.specs.Io.KnownBytes.{Appends};
+ghost use Rattle.std.specs.Io.KnownBytes.{Appends, WriteAppends};
 ghost use Rattle.amqp_stream.specs.Ends.{Gains, Rises, last, piece_of};
 ghost use Rattle.amqp_stream.specs.Scripts.{store_of, most_of, unreported_store};
 
 use crate::sink::{Sink, SinkFault};
 use crate::sources::most_at;
 use std::alloc::Global;
-use std::io::Write;
+use std::io::{ErrorKind, Write};
 use std::marker::Model;
 
 /// A list of bytes that grows by whole pieces. Running out of memory is a counted fault.
@@ -148,8 +148,26 @@ impl<'a> Sink for ScriptSink<'a> {
     }
 }
 
+/// One write, made again where a signal interrupts it.
+fn write_again<W: Write>(writer: &mut W, piece: &[u8]) -> Result<usize, SinkFault>
+    ensures bound { IfOk result (λ n. n ≤ length piece.now) }
+    ensures bytes { WriteAppends (W.contents writer.old) (W.contents writer.new) result piece.now }
+{
+    'tries: for _ in 0..u64::MAX {
+        match writer.write(piece) {
+            Ok(count) => return Ok(count),
+            Err(error) => {
+                if error.kind() != ErrorKind::Interrupted {
+                    return Err(SinkFault);
+                }
+            }
+        }
+    }
+    Err(SinkFault)
+}
+
 /// A writer of the system, flushed in each write. It reports nothing of its bytes; each failed write
-/// is counted.
+/// is counted. One that a signal interrupts is made again.
 #[derive(Drop)]
 pub struct StdSink<W> {
     writer: W,
@@ -191,7 +209,7 @@ impl<W: Write> Sink for StdSink<W> {
         // Where the writer reports its bytes, those that were taken stand after the others.
         ensures bytes { IfOk result (λ n. Appends (W.contents self.old.writer) (W.contents self.new.writer) (take n piece.now)) }
     {
-        match self.writer.write(piece) {
+        match write_again(&mut self.writer, piece) {
             Ok(count) if count > 0 => match self.writer.flush() {
                 Ok(()) => Ok(count),
                 Err(_) => {

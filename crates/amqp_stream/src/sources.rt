@@ -6,7 +6,7 @@ ghost use Rattle.std.specs.Io.KnownBytes.{ReadConsumes};
 ghost use Rattle.amqp_stream.specs.Scripts.{supply_of, faultless, most_of, unreported_supply};
 
 use crate::source::{Source, SourceFault};
-use std::io::Read;
+use std::io::{ErrorKind, Read};
 use std::marker::Model;
 
 /// Bytes in memory, of which each read gives as many as fit.
@@ -133,7 +133,26 @@ impl<'a> Source for PieceSource<'a> {
     }
 }
 
-/// A reader of the system. It reports nothing of its bytes; each failed read is counted.
+/// One read, made again where a signal interrupts it.
+fn read_again<R: Read>(reader: &mut R, buf: &mut [u8]) -> Result<usize, SourceFault>
+    ensures bound { IfOk result (λ n. n ≤ length buf.old) }
+    ensures bytes { ReadConsumes (R.remaining reader.old) (R.remaining reader.new) result buf.new }
+{
+    'tries: for _ in 0..u64::MAX {
+        match reader.read(buf) {
+            Ok(count) => return Ok(count),
+            Err(error) => {
+                if error.kind() != ErrorKind::Interrupted {
+                    return Err(SourceFault);
+                }
+            }
+        }
+    }
+    Err(SourceFault)
+}
+
+/// A reader of the system. It reports nothing of its bytes; each failed read is counted. One that a signal interrupts is
+/// made again.
 #[derive(Drop)]
 pub struct StdSource<R> {
     reader: R,
@@ -174,9 +193,9 @@ impl<R: Read> Source for StdSource<R> {
         // Where the reader reports its bytes, the next of them are given, and after a fault none is lost.
         ensures bytes { ReadConsumes (R.remaining self.old.reader) (R.remaining self.new.reader) result buf.new }
     {
-        match self.reader.read(buf) {
+        match read_again(&mut self.reader, buf) {
             Ok(count) => Ok(count),
-            Err(_) => {
+            Err(SourceFault) => {
                 self.faults = self.faults.saturating_add(1);
                 Err(SourceFault)
             }

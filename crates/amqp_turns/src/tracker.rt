@@ -1,6 +1,6 @@
 //! Marks on frames of many channels, by numbers alone: no body is kept.
 
-ghost use Rattle.std.specs.Prelude.{◌≡◌, ℕ, [], Ok, IfOk, OnOk, OnErr, IsTrue, count_by, false};
+ghost use Rattle.std.specs.Prelude.{◌≡◌, ℕ, [], None, Ok, IfOk, OnOk, OnErr, IsTrue, count_by, false};
 ghost use Rattle.std.specs.Ordering.{nat_cmp};
 ghost use Rattle.std.specs.Map.{keys_of, values_of};
 ghost use Rattle.std.specs.List.Sorted.{IsStrictlySortedBy};
@@ -53,11 +53,12 @@ impl Tracker {
         self.channels.get(channel_id).copied()
     }
 
-    /// Keeps this of a channel. Where memory runs out, all stays.
+    /// Keeps this of a channel. Memory may run out only where nothing is kept of it, and all stays.
     fn keep(&mut self, channel_id: ChannelId, progress: Option<Progress>) -> Result<(), NoMemory>
         ensures kept { OnOk result (kept_at self.new.channels channel_id ≡ progress) }
         ensures others { OthersStay channel_id self.old.channels self.new.channels }
         ensures max_body { self.new.max_body ≡ self.old.max_body }
+        ensures absent { OnErr result (kept_at self.old.channels channel_id ≡ None) }
         ensures err { OnErr result (self.new ≡ self.old) }
     {
         match progress {
@@ -69,13 +70,14 @@ impl Tracker {
         }
     }
 
-    /// Marks a frame by its outline, and goes on to the channel's state after it. Where memory runs
-    /// out, all channels are as before.
+    /// Marks a frame by its outline, and goes on to the channel's state after it. Memory may run out only where nothing
+    /// is kept of the channel, and all channels are as before.
     pub fn track_outline(&mut self, outline: FrameOutline) -> Result<Mark, NoMemory>
         ensures outside { is_content outline ≡ false → (result ≡ Ok Mark.Passed) × (self.new ≡ self.old) }
         ensures tracks { IsTrue (is_content outline) → IfOk result (TracksIn self.old self.new outline) }
         ensures others { OthersStay (outline_channel outline) self.old.channels self.new.channels }
         ensures max_body { self.new.max_body ≡ self.old.max_body }
+        ensures absent { OnErr result (kept_at self.old.channels (outline_channel outline) ≡ None) }
         ensures err { OnErr result (self.new ≡ self.old) }
     {
         let channel_id = outline.channel_id();
@@ -86,14 +88,15 @@ impl Tracker {
         Ok(mark)
     }
 
-    /// Marks a frame, typed or borrowed, or a reference to one, and goes on to its channel's state after it. Where memory runs
-    /// out, all channels are as before.
+    /// Marks a frame, typed or borrowed, or a reference to one, and goes on to its channel's state after it. Memory may
+    /// run out only where nothing is kept of its channel, and all channels are as before.
     pub fn track<F: HasOutline>(&mut self, frame: F) -> Result<Mark, NoMemory>
         requires { F.is_whole frame }
         ensures outside { is_content (F.meaning frame) ≡ false → (result ≡ Ok Mark.Passed) × (self.new ≡ self.old) }
         ensures tracks { IsTrue (is_content (F.meaning frame)) → IfOk result (TracksIn self.old self.new (F.meaning frame)) }
         ensures others { OthersStay (outline_channel (F.meaning frame)) self.old.channels self.new.channels }
         ensures max_body { self.new.max_body ≡ self.old.max_body }
+        ensures absent { OnErr result (kept_at self.old.channels (outline_channel (F.meaning frame)) ≡ None) }
         ensures err { OnErr result (self.new ≡ self.old) }
     {
         self.track_outline(frame.to_outline())

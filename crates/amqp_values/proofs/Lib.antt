@@ -2,6 +2,7 @@
 pub mod Pairs
 pub mod Parts
 pub mod Walk
+pub mod InFront
 pub mod Deciding
 pub mod Steps
 pub mod FieldLists

@@ -6,10 +6,6 @@ use Rattle.amqp_values.specs.Views.{value_of, entry_of}
 use Rattle.amqp_values.specs.declared.value.AMQPValue.{AMQPValue}
 use Rattle.amqp_values.proofs.Pairs.{Held}
 
-pub keys_of-entries : (es : List Held) → keys_of (map entry_of es) ≡ keys_of es
-keys_of-entries [] = refl
-keys_of-entries (e ∷ es) = ap (λ ks. e.0 ∷ ks) (keys_of-entries es)
-
 pub weight_at : (xs : List AMQPValue) (i : ℕ) (d : AMQPValue) → i < length xs → weight (value_of (get_or xs i d)) < values_weight (values_of (map value_of xs))
 weight_at [] i d h = absurd (omega arith)
 weight_at (x ∷ xs) zero d h = omega arith

@@ -1,5 +1,5 @@
 -- Going over an array or a table, from what is left to what is left then.
-use Rattle.std.proofs.Common.{◌≡◌, ℕ, ◌+◌, ◌<◌, ◌≤◌, ◌^◌, max, nat_le, ◌||◌, cond, List, [], ◌∷◌, ◌++◌, length, get_or, drop, map, Bool, true, false, Option, Some, None, IsOk, true≢false, refl, sym, ap, ◌∙◌, arith}
+use Rattle.std.proofs.Common.{◌≡◌, ℕ, ◌+◌, ◌<◌, ◌≤◌, ◌^◌, max, nat_le, ◌||◌, cond, List, [], ◌∷◌, ◌++◌, length, get_or, drop, map, Bool, true, false, Option, Some, None, IsOk, refl, sym, ap, ◌∙◌, arith}
 use Rattle.std.proofs.lemmas.Bool.Decides.{nat_tests}
 use Rattle.std.proofs.lemmas.List.{at_drop_more, length-append}
 use Rattle.amqp_types.specs.Values.{FieldValue, Entry, array_value, table_value, values_of, entries_of}
@@ -62,10 +62,6 @@ values_counted vs = values_total-is 0 vs (omega arith) ∙ ap (Total (any_value_
 
 pub entries_counted : (es : List Entry) → entries_total 0 es ≡ cond (is_long (table_value (entries_of es))) None (Some (length (entries_bytes (entries_of es))))
 entries_counted es = entries_total-is 0 es (omega arith) ∙ ap (Total (any_entry_long (entries_of es))) (omega arith)
-
-pub some_of : (b : Bool) (m n : ℕ) (r : Option ℕ) → b ≡ false → r ≡ cond b None (Some m) → r ≡ Some n → n ≡ m
-some_of true m n r h e f = absurd (true≢false h)
-some_of false m n r h e f = cc
 
 -- what has a size is not long
 pub is_short : (deep long : Bool) (bytes : List ℕ) → IsOk (measured deep long bytes) → long ≡ false

@@ -94,7 +94,10 @@ pub fn size_fields(fields: &[Field<'_>]) -> Result<u64, GenError>
 {
     match fields {
         [] => Ok(0),
-        [first, rest @ ..] => size_both(size_field(first), size_fields(rest)),
+        [first, rest @ ..] => match first {
+            Field::Nothing => size_fields(rest),
+            _ => size_both(size_field(first), size_fields(rest)),
+        },
     }
 }
 
@@ -129,10 +132,13 @@ fn put_each(buf: &mut [u8], at: usize, fields: &[Field<'_>]) -> usize
 {
     match fields {
         [] => at,
-        [first, rest @ ..] => {
-            let at = put_field(buf, at, first);
-            put_each(buf, at, rest)
-        }
+        [first, rest @ ..] => match first {
+            Field::Nothing => put_each(buf, at, rest),
+            _ => {
+                let place = put_field(buf, at, first);
+                put_each(buf, place, rest)
+            }
+        },
     }
 }
 

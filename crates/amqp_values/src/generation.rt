@@ -7,9 +7,7 @@ ghost use Rattle.amqp_types.specs.Tags.{tag_of};
 ghost use Rattle.amqp_types.specs.Writing.{Puts, Appends};
 ghost use Rattle.amqp_values.specs.Views.{value_of};
 
-use crate::measuring::{
-    entries_length, size_field_array, size_field_table, size_value, values_length,
-};
+use crate::measuring::{size_field_array, size_field_table, size_value};
 use crate::value::{AMQPValue, FieldArray, FieldTable};
 use amqp_types::{
     FieldTag, GenError, grow, put_boolean, put_byte_array, put_bytes, put_decimal_value,
@@ -85,35 +83,35 @@ fn put_behind(buf: &mut [u8], at: usize, value: &AMQPValue) -> usize
     }
 }
 
-/// Puts the length of an array and its values.
+/// Puts the values of an array, and their length in front of them.
 #[cycle(put)]
 fn put_array(buf: &mut [u8], at: usize, array: &FieldArray) -> usize
     requires short { is_long (array_value (values_of array.now)) ≡ false }
     requires room { at + length (array_bytes array.now) ≤ length buf.old }
     ensures { Puts buf.old buf.new at (array_bytes array.now) result }
 {
-    let n = values_length(array).unwrap();
-    let mut place = put_long_uint(buf, at, &(n as u32));
+    let mut end = at + 4;
     for value in array.as_slice() {
-        place = put_tagged(buf, place, value);
+        end = put_tagged(buf, end, value);
     }
-    place
+    put_long_uint(buf, at, &((end - at - 4) as u32));
+    end
 }
 
-/// Puts the length of a table and its entries.
+/// Puts the entries of a table, and their length in front of them.
 #[cycle(put)]
 fn put_table(buf: &mut [u8], at: usize, table: &FieldTable) -> usize
     requires short { is_long (table_value (entries_of table.now)) ≡ false }
     requires room { at + length (value_bytes (table_value (entries_of table.now))) ≤ length buf.old }
     ensures { Puts buf.old buf.new at (value_bytes (table_value (entries_of table.now))) result }
 {
-    let n = entries_length(table).unwrap();
-    let mut place = put_long_uint(buf, at, &(n as u32));
+    let mut end = at + 4;
     for (key, value) in table.iter() {
-        place = put_short_string(buf, place, key);
-        place = put_tagged(buf, place, value);
+        end = put_short_string(buf, end, key);
+        end = put_tagged(buf, end, value);
     }
-    place
+    put_long_uint(buf, at, &((end - at - 4) as u32));
+    end
 }
 
 /// Puts a tag and its value at a place of a slice, and returns the place after them.

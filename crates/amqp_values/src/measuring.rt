@@ -89,7 +89,7 @@ fn value_length(value: &AMQPValue) -> Option<u64>
 /// The number of the bytes of an array's values, unless four bytes do not hold a length.
 #[tactic(auto, using(crate::proofs::Walk::values_counted))]
 #[cycle(measure)]
-pub(crate) fn values_length(array: &FieldArray) -> Option<u64>
+fn values_length(array: &FieldArray) -> Option<u64>
     ensures exact { result ≡ (if is_long (array_value (values_of array.now)) then None else Some (length (values_bytes (values_of array.now)))) }
     ensures small { IfSome result (λ n. n < 2 ^ 32) }
 {
@@ -106,7 +106,7 @@ pub(crate) fn values_length(array: &FieldArray) -> Option<u64>
 /// The number of the bytes of a table's entries, unless four bytes do not hold a length.
 #[tactic(auto, using(crate::proofs::Walk::entries_counted))]
 #[cycle(measure)]
-pub(crate) fn entries_length(table: &FieldTable) -> Option<u64>
+fn entries_length(table: &FieldTable) -> Option<u64>
     ensures exact { result ≡ (if is_long (table_value (entries_of table.now)) then None else Some (length (entries_bytes (entries_of table.now)))) }
     ensures small { IfSome result (λ n. n < 2 ^ 32) }
 {

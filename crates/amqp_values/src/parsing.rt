@@ -8,7 +8,7 @@ ghost use Rattle.amqp_types.specs.ValueBytes.{tagged_bytes, tagged_size, array_b
 ghost use Rattle.amqp_types.specs.ValueLaws.{IsNoLonger};
 ghost use Rattle.amqp_values.specs.Views.{value_of, entry_of};
 
-use crate::value::{AMQPValue, FieldArray, FieldTable};
+use crate::value::{AMQPValue, FieldArray, FieldTable, push_entry};
 use amqp_types::{
     FieldTag, INNER_DEPTH, MAX_DEPTH, ParserError, ShortString, parse_boolean, parse_byte_array,
     parse_decimal_value, parse_double, parse_float, parse_long_bytes, parse_long_int,
@@ -17,6 +17,9 @@ use amqp_types::{
     parse_timestamp,
 };
 use std::alloc::Global;
+
+/// From how many bytes of entries on they are gathered first: a search for each then takes more than to sort them.
+const LONG_CONTENT: usize = 512;
 
 /// Decodes a tag and its value, in which tables and arrays may nest `depth_left` deep.
 #[tactic(auto, using(amqp_types::proofs::Judged::refuses_next), unfolding(amqp_types::specs::ValueJudging::judge_tagged, amqp_types::specs::ValueJudging::judge_value))]
@@ -181,6 +184,22 @@ fn values_in(alloc: Global, content: &[u8], depth_left: usize) -> Result<FieldAr
 fn entries_in(alloc: Global, content: &[u8], depth_left: usize) -> Result<FieldTable, ParserError>
     ensures { AnswersWhole (λ table. table) result (read_map settled (filled (judge_entry (judge_value depth_left)) 0 content.now)) }
 {
+    if content.len() < LONG_CONTENT {
+        few_entries_in(alloc, content, depth_left)
+    } else {
+        many_entries_in(alloc, content, depth_left)
+    }
+}
+
+/// Decodes the entries that fill a table, and puts each into it as it comes.
+#[cycle(read)]
+fn few_entries_in(
+    alloc: Global,
+    content: &[u8],
+    depth_left: usize,
+) -> Result<FieldTable, ParserError>
+    ensures { AnswersWhole (λ table. table) result (read_map settled (filled (judge_entry (judge_value depth_left)) 0 content.now)) }
+{
     let mut table = FieldTable::new(alloc);
     let mut at = 0;
     while at < content.len() {
@@ -192,6 +211,28 @@ fn entries_in(alloc: Global, content: &[u8], depth_left: usize) -> Result<FieldT
         at += n;
     }
     Ok(table)
+}
+
+/// Decodes the entries that fill a table, and makes it of all of them at once.
+#[cycle(read)]
+fn many_entries_in(
+    alloc: Global,
+    content: &[u8],
+    depth_left: usize,
+) -> Result<FieldTable, ParserError>
+    ensures { AnswersWhole (λ table. table) result (read_map settled (filled (judge_entry (judge_value depth_left)) 0 content.now)) }
+{
+    let mut entries = Vec::new(alloc);
+    let mut at = 0;
+    while at < content.len() {
+        let (n, entry) = match entry_within(alloc, &content[at..], depth_left) {
+            Ok(found) => found,
+            Err(error) => return Err(error.inside()),
+        };
+        push_entry(&mut entries, entry)?;
+        at += n;
+    }
+    Ok(FieldTable::from_entries(alloc, entries)?)
 }
 
 /// Decodes a key and, after it, a tag and its value.

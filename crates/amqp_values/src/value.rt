@@ -1,11 +1,11 @@
 //! Values, arrays and tables, as programs hold them.
 
-ghost use Rattle.std.specs.Prelude.{◌≡◌, ◌↔◌, ◌++◌, ◌∷◌, [], length, map, IsTrue, OnOk, OnErr};
+ghost use Rattle.std.specs.Prelude.{◌≡◌, ◌↔◌, ◌++◌, ◌∷◌, [], length, map, IsTrue, IfOk, OnOk, OnErr};
 ghost use Rattle.std.specs.Option.{option_map};
 ghost use Rattle.std.specs.Ordering.{nat_cmp};
 ghost use Rattle.std.specs.Cmp.Lexicographic.{slice_cmp};
 ghost use Rattle.std.specs.BTreeMap.{insert_entry};
-ghost use Rattle.amqp_types.specs.Settling.{IsRising, value_at};
+ghost use Rattle.amqp_types.specs.Settling.{IsRising, settled, value_at};
 
 pub use amqp_types::DecimalValue;
 use amqp_types::{
@@ -191,6 +191,17 @@ impl FieldTable {
         }
     }
 
+    /// The table of these entries. Of duplicate keys the last one wins.
+    pub fn from_entries(
+        alloc: Global,
+        entries: Vec<(ShortString, AMQPValue)>,
+    ) -> Result<FieldTable, NoMemory>
+        ensures { IfOk result (λ table. table ≡ settled (map entry_of entries.items)) }
+    {
+        let entries: BTreeMap<ShortString, AMQPValue> = entries.into_iter().collect(alloc)?;
+        Ok(FieldTable { entries })
+    }
+
     /// Makes this the value of the key. Key and value are dropped where memory runs out.
     pub fn insert(&mut self, key: ShortString, value: AMQPValue) -> Result<(), NoMemory>
         ensures ok { OnOk result (self.new ≡ insert_entry (slice_cmp nat_cmp) self.old key (value_of value)) }
@@ -235,6 +246,17 @@ impl FieldTable {
             entries: self.entries.iter(),
         }
     }
+}
+
+/// Appends an entry, which is dropped where memory runs out.
+pub(crate) fn push_entry(
+    entries: &mut Vec<(ShortString, AMQPValue)>,
+    entry: (ShortString, AMQPValue),
+) -> Result<(), NoMemory>
+    ensures { OnOk result (entries.new.items ≡ entries.old.items ++ entry ∷ []) }
+{
+    entries.push(entry)?;
+    Ok(())
 }
 
 /// The entries of a table that are still to come.

@@ -1,7 +1,7 @@
 //! How streams are tested: what canonicalizing some bytes returns, and what it writes.
 
 use amqp_lent::canonicalize_lent;
-use amqp_stream::{PieceSource, Source, StreamError, VecSink, canonicalize, canonicalize_in};
+use amqp_stream::{Codec, PieceSource, Source, StreamError, VecSink, canonicalize};
 use amqp_types::Profile;
 use amqp_vectors::asking::same_in;
 use std::alloc::Global;
@@ -87,7 +87,8 @@ pub fn ends_in<S: Source>(
     written: &[u8],
 ) -> Result<(), Fail> {
     let mut sink = VecSink::new(alloc);
-    let found = canonicalize_in(alloc, profile, source, &mut sink, LIMIT, turns);
+    let mut codec = Codec::open(alloc, LIMIT)?;
+    let found = codec.rewrite(profile, source, &mut sink, turns);
     has_ended(row, found, outcome, sink.bytes(), written)
 }
 

@@ -2,6 +2,7 @@
 
 use crate::asking::{HEARTBEAT, LIMIT, MESSAGE, has_ended};
 use amqp_stream::{Codec, PieceSource, StreamError, VecSink};
+use amqp_types::Profile;
 use std::alloc::Global;
 use std::test::Fail;
 
@@ -32,7 +33,7 @@ fn serves(alloc: Global, codec: &mut Codec, run: Run) -> Result<(), Fail> {
     let (bytes, pieces, failing, outcome, written) = run;
     let mut source = PieceSource::new(bytes, pieces, failing);
     let mut sink = VecSink::new(alloc);
-    let found = codec.canonicalize(alloc, &mut source, &mut sink, 100);
+    let found = codec.rewrite(Profile::Plain, &mut source, &mut sink, 100);
     has_ended("a run", found, outcome, sink.bytes(), written)
 }
 

@@ -1,6 +1,6 @@
 //! Tests of streams that cross crates: worked cases, hostile cases, ends that fail, the generated stream, names of
 //! faults, writers of the tests' own, a proxy, a loop over frames, streams that go on from call to call, readers and
-//! writers of the system, and memory that is refused.
+//! writers of the system, where a stream ended, and memory that is refused.
 #![tactic(auto)]
 
 #[cfg(test)]
@@ -26,6 +26,8 @@ pub mod proxy;
 mod reading;
 #[cfg(test)]
 mod refused;
+#[cfg(test)]
+mod reported;
 #[cfg(test)]
 mod rows;
 #[cfg(test)]

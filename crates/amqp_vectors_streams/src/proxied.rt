@@ -11,7 +11,7 @@ use std::test::Fail;
 /// Fails unless a message from the client passes.
 fn sends(alloc: Global, connection: &mut Connection) -> Result<(), Fail> {
     let mut server = VecSink::new(alloc);
-    let sent = connection.from_client(alloc, &mut SliceSource::new(&MESSAGE), &mut server, 9);
+    let sent = connection.from_client(&mut SliceSource::new(&MESSAGE), &mut server, 9);
     has_ended("a client", sent, Ok(()), server.bytes(), &MESSAGE)
 }
 
@@ -23,7 +23,7 @@ fn receives(
     written: &[u8],
 ) -> Result<(), Fail> {
     let mut client = VecSink::new(alloc);
-    let sent = connection.from_server(alloc, &mut SliceSource::new(&START), &mut client, 9);
+    let sent = connection.from_server(&mut SliceSource::new(&START), &mut client, 9);
     has_ended("a server", sent, outcome, client.bytes(), written)
 }
 

@@ -5,7 +5,7 @@ ghost use Rattle.amqp_types.specs.Levels.{plain};
 ghost use Rattle.amqp_stream.specs.Canonicalizing.{Canonicalizes};
 
 use amqp_stream::{Codec, Sink, Source, StreamError};
-use amqp_types::{ChunkSize, NoMemory};
+use amqp_types::{ChunkSize, NoMemory, Profile};
 use std::alloc::Global;
 
 /// The greatest limit on payloads with which two codecs stay within a budget of bytes. Each holds ten bytes for each
@@ -47,7 +47,6 @@ impl Connection {
     /// Passes on what the client sends, in canonical bytes, to its end or an error.
     pub fn from_client<S: Source, K: Sink>(
         &mut self,
-        alloc: Global,
         client: &mut S,
         server: &mut K,
         turns: u64,
@@ -57,13 +56,13 @@ impl Connection {
             (K.store server.old) (K.store server.new) result }
         ensures memory { result ≢ Err StreamError.NoMemory }
     {
-        self.to_server.canonicalize(alloc, client, server, turns)
+        self.to_server
+            .rewrite(Profile::Plain, client, server, turns)
     }
 
     /// Passes on what the server sends, in canonical bytes, to its end or an error.
     pub fn from_server<S: Source, K: Sink>(
         &mut self,
-        alloc: Global,
         server: &mut S,
         client: &mut K,
         turns: u64,
@@ -73,6 +72,7 @@ impl Connection {
             (K.store client.old) (K.store client.new) result }
         ensures memory { result ≢ Err StreamError.NoMemory }
     {
-        self.to_client.canonicalize(alloc, server, client, turns)
+        self.to_client
+            .rewrite(Profile::Plain, server, client, turns)
     }
 }

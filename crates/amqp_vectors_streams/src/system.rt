@@ -59,7 +59,7 @@ fn each_write_is_flushed(_rt: HostRuntime) -> Result<(), Fail> {
     same(flushes.get(), 3)
 }
 
-/// A reader that gives three bytes a call, and fails at its second.
+/// A reader that gives three bytes a call. A signal interrupts its second, and its fourth would block.
 #[derive(Drop)]
 struct Threes {
     calls: u8,
@@ -69,8 +69,10 @@ impl Read for Threes {
     fn read(&mut self, buf: &mut [u8]) -> IoResult<usize> {
         let call = self.calls;
         self.calls = self.calls.saturating_add(1);
-        if call == 1 {
-            return Err(Error::from(ErrorKind::Interrupted));
+        match call {
+            1 => return Err(Error::from(ErrorKind::Interrupted)),
+            3 => return Err(Error::from(ErrorKind::WouldBlock)),
+            _ => {}
         }
         let count = buf.len().min(3);
         for byte in &mut buf[..count] {
@@ -83,11 +85,13 @@ impl Read for Threes {
 /// What a read returns, and what stands in the buffer after it.
 const READS: &[(Result<usize, SourceFault>, [u8; 4])] = &[
     (Ok(3), [0, 0, 0, 9]),
-    (Err(SourceFault), [9, 9, 9, 9]),
     (Ok(3), [2, 2, 2, 9]),
+    (Err(SourceFault), [9, 9, 9, 9]),
+    (Ok(3), [4, 4, 4, 9]),
 ];
 
-/// Each read gives what the reader gave, in as many calls; one that was interrupted is a fault, and the next goes on.
+/// Each read gives what the reader gave: one that was interrupted is made again, one that would block is a fault, and the
+/// next goes on.
 #[test]
 fn each_read_is_one_of_the_reader(_rt: HostRuntime) -> Result<(), Fail> {
     let mut source = StdSource::new(Threes { calls: 0 });

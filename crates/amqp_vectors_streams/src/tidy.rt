@@ -105,7 +105,7 @@ fn codec_ends(
     written: &[u8],
 ) -> Result<(), Fail> {
     let mut sink = VecSink::new(alloc);
-    let found = codec.canonicalize_in(alloc, Profile::Tidy, source, &mut sink, 98);
+    let found = codec.rewrite(Profile::Tidy, source, &mut sink, 98);
     has_ended(row, found, outcome, sink.bytes(), written)
 }
 

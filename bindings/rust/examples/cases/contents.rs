@@ -1,7 +1,7 @@
 //! What comes of a stream of messages: `bindings/contents.py` has the form.
 
 use crate::case::{bytes, Case, Pieces};
-use feksroum::{filter, messages, recut, Assembler, ContentFault, Error, Filter, Frames, Message, MessageReader, Opening};
+use feksroum::{filter, messages, recut, Assembler, ContentFault, Error, Filter, Frames, Message, MessageReader, Opening, Received};
 use feksroum::{Recutter, Rules, StreamError, MAX_PAYLOAD};
 use std::num::NonZeroU32;
 
@@ -53,26 +53,26 @@ fn assembled(case: &Case<'_>, max_body: u64, max_open: u64, results: &mut Vec<u8
     let assembler = || Assembler::new(max_body, max_open);
     let (found, end) = split(assembler().messages(Frames::new(case.bytes, MAX_PAYLOAD)));
     let pieces = messages(Pieces(case.pieces().into_iter()), MAX_PAYLOAD, assembler());
-    let read = split(pieces.map(|message| match message {
-        Err(StreamError::Frame(error)) => Err(error),
+    let read = split(pieces.map(|received| match received {
+        Err(StreamError::Frame { error, .. }) => Err(error),
         Err(error) => panic!("{error}"),
-        Ok(message) => Ok(message),
+        Ok(received) => Ok(received),
     }));
     assert_eq!((&found, end), (&read.0, read.1), "read in pieces as at once");
     let (mut reader, mut fed) = (MessageReader::new(MAX_PAYLOAD, assembler()), Vec::new());
     let fed_end = case.pieces().into_iter().try_for_each(|piece| reader.feed(piece, &mut fed)).and_then(|()| reader.finish());
     assert_eq!((&found, end), (&fed, fed_end), "fed in pieces as at once");
-    found.iter().for_each(|message| put_message(message, results));
+    found.into_iter().filter_map(Received::message).for_each(|message| put_message(&message, results));
     results.extend([255, 255, 0, 0]);
     put_end(end, results);
 }
 
-/// All messages, and why they end.
-fn split(messages: impl Iterator<Item = Result<Message, Error>>) -> (Vec<Message>, Result<(), Error>) {
+/// All messages and other frames, and why they end.
+fn split(received: impl Iterator<Item = Result<Received, Error>>) -> (Vec<Received>, Result<(), Error>) {
     let (mut found, mut end) = (Vec::new(), Ok(()));
-    for message in messages {
-        match message {
-            Ok(message) => found.push(message),
+    for received in received {
+        match received {
+            Ok(received) => found.push(received),
             Err(error) => end = Err(error),
         }
     }
@@ -80,7 +80,7 @@ fn split(messages: impl Iterator<Item = Result<Message, Error>>) -> (Vec<Message
 }
 
 fn put_message(message: &Message, results: &mut Vec<u8>) {
-    let (id, key) = match message.opening().expect("it was assembled") {
+    let (id, key) = match message.opening() {
         Opening::Publish(publish) => (40_u16, publish.routing_key),
         Opening::Return(returned) => (50, returned.routing_key),
         Opening::Deliver(deliver) => (60, deliver.routing_key),
@@ -89,7 +89,7 @@ fn put_message(message: &Message, results: &mut Vec<u8>) {
     results.extend(message.channel().to_le_bytes());
     results.extend(id.to_le_bytes());
     bytes(key.as_bytes(), results);
-    results.push(message.properties().expect("it was assembled").priority.unwrap_or(255));
+    results.push(message.properties().priority.unwrap_or(255));
     bytes(message.body(), results);
 }
 

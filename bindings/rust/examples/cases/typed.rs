@@ -12,8 +12,8 @@ pub fn typed(case: &Case<'_>, results: &mut Vec<u8>) {
 }
 
 fn frame(frame: &Frame<'_>, results: &mut Vec<u8>) -> Result<(), Error> {
-    results.push(frame.frame_type as u8);
-    results.extend(frame.channel.to_le_bytes());
+    results.push(frame.frame_type() as u8);
+    results.extend(frame.channel().to_le_bytes());
     match frame.decode()? {
         Payload::ProtocolHeader(header) => results.extend([header.major, header.minor, header.revision]),
         Payload::Method(method) => {

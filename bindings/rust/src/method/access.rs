@@ -3,9 +3,9 @@
 // Made by `generate` out of the library's table. Change that, and not this file.
 
 use crate::encode::Encode;
-use crate::error::Error;
-use crate::field::{Field, Fielded, List};
-use crate::reader::Reader;
+use crate::field::{Field, List, Listed};
+use crate::library::fields::Fields;
+use crate::method_info::{Built, MethodInfo};
 
 /// `access.request`. The client asks for access to a realm.
 ///
@@ -27,23 +27,33 @@ pub struct AccessRequest<'a> {
 }
 
 impl<'a> AccessRequest<'a> {
-    pub(super) fn read(fields: &mut Reader<'a, '_>) -> Result<Self, Error> {
-        Ok(AccessRequest {
-            realm: fields.short_string()?,
-            exclusive: fields.flag()?,
-            passive: fields.flag()?,
-            active: fields.flag()?,
-            write: fields.flag()?,
-            read: fields.flag()?,
-        })
+    pub(crate) fn read(fields: &Fields<'a>) -> Self {
+        AccessRequest {
+            realm: fields.short_string(0),
+            exclusive: fields.flag(1),
+            passive: fields.flag(2),
+            active: fields.flag(3),
+            write: fields.flag(4),
+            read: fields.flag(5),
+        }
     }
 }
 
-impl Fielded for AccessRequest<'_> {
+impl MethodInfo for AccessRequest<'_> {
     const ID: (u16, u16) = (30, 10);
     const NAME: &'static str = "access.request";
-    const NAMES: &'static [&'static str] = &["realm", "exclusive", "passive", "active", "write", "read"];
+    const FIELD_NAMES: &'static [&'static str] = &["realm", "exclusive", "passive", "active", "write", "read"];
+}
 
+impl Built for AccessRequest<'_> {
+    type Of<'a> = AccessRequest<'a>;
+
+    fn built<'a>(fields: &Fields<'a>) -> AccessRequest<'a> {
+        AccessRequest::read(fields)
+    }
+}
+
+impl Listed for AccessRequest<'_> {
     fn list(&self) -> List<'_> {
         List::of([
             Some(Field::ShortString(self.realm)),
@@ -64,11 +74,21 @@ impl Encode for AccessRequest<'_> {}
 #[derive(Clone, Copy, Debug, Default, PartialEq, Eq)]
 pub struct AccessRequestOk;
 
-impl Fielded for AccessRequestOk {
+impl MethodInfo for AccessRequestOk {
     const ID: (u16, u16) = (30, 11);
     const NAME: &'static str = "access.request-ok";
-    const NAMES: &'static [&'static str] = &[];
+    const FIELD_NAMES: &'static [&'static str] = &[];
+}
 
+impl Built for AccessRequestOk {
+    type Of<'a> = AccessRequestOk;
+
+    fn built(_: &Fields<'_>) -> AccessRequestOk {
+        AccessRequestOk
+    }
+}
+
+impl Listed for AccessRequestOk {
     fn list(&self) -> List<'_> {
         List::of([])
     }

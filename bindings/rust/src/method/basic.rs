@@ -3,9 +3,9 @@
 // Made by `generate` out of the library's table. Change that, and not this file.
 
 use crate::encode::Encode;
-use crate::error::Error;
-use crate::field::{Field, Fielded, List};
-use crate::reader::Reader;
+use crate::field::{Field, List, Listed};
+use crate::library::fields::Fields;
+use crate::method_info::{Built, MethodInfo};
 use crate::table::Table;
 
 /// `basic.qos`. Limits how many messages wait for their acknowledgement.
@@ -20,16 +20,26 @@ pub struct BasicQos {
 }
 
 impl BasicQos {
-    pub(super) fn read(fields: &mut Reader<'_, '_>) -> Result<Self, Error> {
-        Ok(BasicQos { prefetch_count: fields.short()?, global: fields.flag()? })
+    pub(crate) fn read(fields: &Fields<'_>) -> Self {
+        BasicQos { prefetch_count: fields.short(0), global: fields.flag(1) }
     }
 }
 
-impl Fielded for BasicQos {
+impl MethodInfo for BasicQos {
     const ID: (u16, u16) = (60, 10);
     const NAME: &'static str = "basic.qos";
-    const NAMES: &'static [&'static str] = &["prefetch-count", "global"];
+    const FIELD_NAMES: &'static [&'static str] = &["prefetch-count", "global"];
+}
 
+impl Built for BasicQos {
+    type Of<'a> = BasicQos;
+
+    fn built(fields: &Fields<'_>) -> BasicQos {
+        BasicQos::read(fields)
+    }
+}
+
+impl Listed for BasicQos {
     fn list(&self) -> List<'_> {
         List::of([Some(Field::Short(self.prefetch_count)), Some(Field::Flag(self.global))])
     }
@@ -43,11 +53,21 @@ impl Encode for BasicQos {}
 #[derive(Clone, Copy, Debug, Default, PartialEq, Eq)]
 pub struct BasicQosOk;
 
-impl Fielded for BasicQosOk {
+impl MethodInfo for BasicQosOk {
     const ID: (u16, u16) = (60, 11);
     const NAME: &'static str = "basic.qos-ok";
-    const NAMES: &'static [&'static str] = &[];
+    const FIELD_NAMES: &'static [&'static str] = &[];
+}
 
+impl Built for BasicQosOk {
+    type Of<'a> = BasicQosOk;
+
+    fn built(_: &Fields<'_>) -> BasicQosOk {
+        BasicQosOk
+    }
+}
+
+impl Listed for BasicQosOk {
     fn list(&self) -> List<'_> {
         List::of([])
     }
@@ -77,24 +97,34 @@ pub struct BasicConsume<'a> {
 }
 
 impl<'a> BasicConsume<'a> {
-    pub(super) fn read(fields: &mut Reader<'a, '_>) -> Result<Self, Error> {
-        Ok(BasicConsume {
-            queue: fields.short_string()?,
-            consumer_tag: fields.short_string()?,
-            no_local: fields.flag()?,
-            no_ack: fields.flag()?,
-            exclusive: fields.flag()?,
-            no_wait: fields.flag()?,
-            arguments: fields.table()?,
-        })
+    pub(crate) fn read(fields: &Fields<'a>) -> Self {
+        BasicConsume {
+            queue: fields.short_string(0),
+            consumer_tag: fields.short_string(1),
+            no_local: fields.flag(2),
+            no_ack: fields.flag(3),
+            exclusive: fields.flag(4),
+            no_wait: fields.flag(5),
+            arguments: fields.table(6),
+        }
     }
 }
 
-impl Fielded for BasicConsume<'_> {
+impl MethodInfo for BasicConsume<'_> {
     const ID: (u16, u16) = (60, 20);
     const NAME: &'static str = "basic.consume";
-    const NAMES: &'static [&'static str] = &["queue", "consumer-tag", "no-local", "no-ack", "exclusive", "no-wait", "arguments"];
+    const FIELD_NAMES: &'static [&'static str] = &["queue", "consumer-tag", "no-local", "no-ack", "exclusive", "no-wait", "arguments"];
+}
 
+impl Built for BasicConsume<'_> {
+    type Of<'a> = BasicConsume<'a>;
+
+    fn built<'a>(fields: &Fields<'a>) -> BasicConsume<'a> {
+        BasicConsume::read(fields)
+    }
+}
+
+impl Listed for BasicConsume<'_> {
     fn list(&self) -> List<'_> {
         List::of([
             Some(Field::ShortString(self.queue)),
@@ -120,16 +150,26 @@ pub struct BasicConsumeOk<'a> {
 }
 
 impl<'a> BasicConsumeOk<'a> {
-    pub(super) fn read(fields: &mut Reader<'a, '_>) -> Result<Self, Error> {
-        Ok(BasicConsumeOk { consumer_tag: fields.short_string()? })
+    pub(crate) fn read(fields: &Fields<'a>) -> Self {
+        BasicConsumeOk { consumer_tag: fields.short_string(0) }
     }
 }
 
-impl Fielded for BasicConsumeOk<'_> {
+impl MethodInfo for BasicConsumeOk<'_> {
     const ID: (u16, u16) = (60, 21);
     const NAME: &'static str = "basic.consume-ok";
-    const NAMES: &'static [&'static str] = &["consumer-tag"];
+    const FIELD_NAMES: &'static [&'static str] = &["consumer-tag"];
+}
 
+impl Built for BasicConsumeOk<'_> {
+    type Of<'a> = BasicConsumeOk<'a>;
+
+    fn built<'a>(fields: &Fields<'a>) -> BasicConsumeOk<'a> {
+        BasicConsumeOk::read(fields)
+    }
+}
+
+impl Listed for BasicConsumeOk<'_> {
     fn list(&self) -> List<'_> {
         List::of([Some(Field::ShortString(self.consumer_tag))])
     }
@@ -149,16 +189,26 @@ pub struct BasicCancel<'a> {
 }
 
 impl<'a> BasicCancel<'a> {
-    pub(super) fn read(fields: &mut Reader<'a, '_>) -> Result<Self, Error> {
-        Ok(BasicCancel { consumer_tag: fields.short_string()?, no_wait: fields.flag()? })
+    pub(crate) fn read(fields: &Fields<'a>) -> Self {
+        BasicCancel { consumer_tag: fields.short_string(0), no_wait: fields.flag(1) }
     }
 }
 
-impl Fielded for BasicCancel<'_> {
+impl MethodInfo for BasicCancel<'_> {
     const ID: (u16, u16) = (60, 30);
     const NAME: &'static str = "basic.cancel";
-    const NAMES: &'static [&'static str] = &["consumer-tag", "no-wait"];
+    const FIELD_NAMES: &'static [&'static str] = &["consumer-tag", "no-wait"];
+}
 
+impl Built for BasicCancel<'_> {
+    type Of<'a> = BasicCancel<'a>;
+
+    fn built<'a>(fields: &Fields<'a>) -> BasicCancel<'a> {
+        BasicCancel::read(fields)
+    }
+}
+
+impl Listed for BasicCancel<'_> {
     fn list(&self) -> List<'_> {
         List::of([Some(Field::ShortString(self.consumer_tag)), Some(Field::Flag(self.no_wait))])
     }
@@ -176,16 +226,26 @@ pub struct BasicCancelOk<'a> {
 }
 
 impl<'a> BasicCancelOk<'a> {
-    pub(super) fn read(fields: &mut Reader<'a, '_>) -> Result<Self, Error> {
-        Ok(BasicCancelOk { consumer_tag: fields.short_string()? })
+    pub(crate) fn read(fields: &Fields<'a>) -> Self {
+        BasicCancelOk { consumer_tag: fields.short_string(0) }
     }
 }
 
-impl Fielded for BasicCancelOk<'_> {
+impl MethodInfo for BasicCancelOk<'_> {
     const ID: (u16, u16) = (60, 31);
     const NAME: &'static str = "basic.cancel-ok";
-    const NAMES: &'static [&'static str] = &["consumer-tag"];
+    const FIELD_NAMES: &'static [&'static str] = &["consumer-tag"];
+}
 
+impl Built for BasicCancelOk<'_> {
+    type Of<'a> = BasicCancelOk<'a>;
+
+    fn built<'a>(fields: &Fields<'a>) -> BasicCancelOk<'a> {
+        BasicCancelOk::read(fields)
+    }
+}
+
+impl Listed for BasicCancelOk<'_> {
     fn list(&self) -> List<'_> {
         List::of([Some(Field::ShortString(self.consumer_tag))])
     }
@@ -209,21 +269,31 @@ pub struct BasicPublish<'a> {
 }
 
 impl<'a> BasicPublish<'a> {
-    pub(super) fn read(fields: &mut Reader<'a, '_>) -> Result<Self, Error> {
-        Ok(BasicPublish {
-            exchange: fields.short_string()?,
-            routing_key: fields.short_string()?,
-            mandatory: fields.flag()?,
-            immediate: fields.flag()?,
-        })
+    pub(crate) fn read(fields: &Fields<'a>) -> Self {
+        BasicPublish {
+            exchange: fields.short_string(0),
+            routing_key: fields.short_string(1),
+            mandatory: fields.flag(2),
+            immediate: fields.flag(3),
+        }
     }
 }
 
-impl Fielded for BasicPublish<'_> {
+impl MethodInfo for BasicPublish<'_> {
     const ID: (u16, u16) = (60, 40);
     const NAME: &'static str = "basic.publish";
-    const NAMES: &'static [&'static str] = &["exchange", "routing-key", "mandatory", "immediate"];
+    const FIELD_NAMES: &'static [&'static str] = &["exchange", "routing-key", "mandatory", "immediate"];
+}
 
+impl Built for BasicPublish<'_> {
+    type Of<'a> = BasicPublish<'a>;
+
+    fn built<'a>(fields: &Fields<'a>) -> BasicPublish<'a> {
+        BasicPublish::read(fields)
+    }
+}
+
+impl Listed for BasicPublish<'_> {
     fn list(&self) -> List<'_> {
         List::of([
             Some(Field::ShortString(self.exchange)),
@@ -252,21 +322,31 @@ pub struct BasicReturn<'a> {
 }
 
 impl<'a> BasicReturn<'a> {
-    pub(super) fn read(fields: &mut Reader<'a, '_>) -> Result<Self, Error> {
-        Ok(BasicReturn {
-            reply_code: fields.short()?,
-            reply_text: fields.short_string()?,
-            exchange: fields.short_string()?,
-            routing_key: fields.short_string()?,
-        })
+    pub(crate) fn read(fields: &Fields<'a>) -> Self {
+        BasicReturn {
+            reply_code: fields.short(0),
+            reply_text: fields.short_string(1),
+            exchange: fields.short_string(2),
+            routing_key: fields.short_string(3),
+        }
     }
 }
 
-impl Fielded for BasicReturn<'_> {
+impl MethodInfo for BasicReturn<'_> {
     const ID: (u16, u16) = (60, 50);
     const NAME: &'static str = "basic.return";
-    const NAMES: &'static [&'static str] = &["reply-code", "reply-text", "exchange", "routing-key"];
+    const FIELD_NAMES: &'static [&'static str] = &["reply-code", "reply-text", "exchange", "routing-key"];
+}
 
+impl Built for BasicReturn<'_> {
+    type Of<'a> = BasicReturn<'a>;
+
+    fn built<'a>(fields: &Fields<'a>) -> BasicReturn<'a> {
+        BasicReturn::read(fields)
+    }
+}
+
+impl Listed for BasicReturn<'_> {
     fn list(&self) -> List<'_> {
         List::of([
             Some(Field::Short(self.reply_code)),
@@ -297,22 +377,32 @@ pub struct BasicDeliver<'a> {
 }
 
 impl<'a> BasicDeliver<'a> {
-    pub(super) fn read(fields: &mut Reader<'a, '_>) -> Result<Self, Error> {
-        Ok(BasicDeliver {
-            consumer_tag: fields.short_string()?,
-            delivery_tag: fields.long_long()?,
-            redelivered: fields.flag()?,
-            exchange: fields.short_string()?,
-            routing_key: fields.short_string()?,
-        })
+    pub(crate) fn read(fields: &Fields<'a>) -> Self {
+        BasicDeliver {
+            consumer_tag: fields.short_string(0),
+            delivery_tag: fields.long_long(1),
+            redelivered: fields.flag(2),
+            exchange: fields.short_string(3),
+            routing_key: fields.short_string(4),
+        }
     }
 }
 
-impl Fielded for BasicDeliver<'_> {
+impl MethodInfo for BasicDeliver<'_> {
     const ID: (u16, u16) = (60, 60);
     const NAME: &'static str = "basic.deliver";
-    const NAMES: &'static [&'static str] = &["consumer-tag", "delivery-tag", "redelivered", "exchange", "routing-key"];
+    const FIELD_NAMES: &'static [&'static str] = &["consumer-tag", "delivery-tag", "redelivered", "exchange", "routing-key"];
+}
 
+impl Built for BasicDeliver<'_> {
+    type Of<'a> = BasicDeliver<'a>;
+
+    fn built<'a>(fields: &Fields<'a>) -> BasicDeliver<'a> {
+        BasicDeliver::read(fields)
+    }
+}
+
+impl Listed for BasicDeliver<'_> {
     fn list(&self) -> List<'_> {
         List::of([
             Some(Field::ShortString(self.consumer_tag)),
@@ -338,16 +428,26 @@ pub struct BasicGet<'a> {
 }
 
 impl<'a> BasicGet<'a> {
-    pub(super) fn read(fields: &mut Reader<'a, '_>) -> Result<Self, Error> {
-        Ok(BasicGet { queue: fields.short_string()?, no_ack: fields.flag()? })
+    pub(crate) fn read(fields: &Fields<'a>) -> Self {
+        BasicGet { queue: fields.short_string(0), no_ack: fields.flag(1) }
     }
 }
 
-impl Fielded for BasicGet<'_> {
+impl MethodInfo for BasicGet<'_> {
     const ID: (u16, u16) = (60, 70);
     const NAME: &'static str = "basic.get";
-    const NAMES: &'static [&'static str] = &["queue", "no-ack"];
+    const FIELD_NAMES: &'static [&'static str] = &["queue", "no-ack"];
+}
 
+impl Built for BasicGet<'_> {
+    type Of<'a> = BasicGet<'a>;
+
+    fn built<'a>(fields: &Fields<'a>) -> BasicGet<'a> {
+        BasicGet::read(fields)
+    }
+}
+
+impl Listed for BasicGet<'_> {
     fn list(&self) -> List<'_> {
         List::of([Some(Field::ShortString(self.queue)), Some(Field::Flag(self.no_ack))])
     }
@@ -373,22 +473,32 @@ pub struct BasicGetOk<'a> {
 }
 
 impl<'a> BasicGetOk<'a> {
-    pub(super) fn read(fields: &mut Reader<'a, '_>) -> Result<Self, Error> {
-        Ok(BasicGetOk {
-            delivery_tag: fields.long_long()?,
-            redelivered: fields.flag()?,
-            exchange: fields.short_string()?,
-            routing_key: fields.short_string()?,
-            message_count: fields.long()?,
-        })
+    pub(crate) fn read(fields: &Fields<'a>) -> Self {
+        BasicGetOk {
+            delivery_tag: fields.long_long(0),
+            redelivered: fields.flag(1),
+            exchange: fields.short_string(2),
+            routing_key: fields.short_string(3),
+            message_count: fields.long(4),
+        }
     }
 }
 
-impl Fielded for BasicGetOk<'_> {
+impl MethodInfo for BasicGetOk<'_> {
     const ID: (u16, u16) = (60, 71);
     const NAME: &'static str = "basic.get-ok";
-    const NAMES: &'static [&'static str] = &["delivery-tag", "redelivered", "exchange", "routing-key", "message-count"];
+    const FIELD_NAMES: &'static [&'static str] = &["delivery-tag", "redelivered", "exchange", "routing-key", "message-count"];
+}
 
+impl Built for BasicGetOk<'_> {
+    type Of<'a> = BasicGetOk<'a>;
+
+    fn built<'a>(fields: &Fields<'a>) -> BasicGetOk<'a> {
+        BasicGetOk::read(fields)
+    }
+}
+
+impl Listed for BasicGetOk<'_> {
     fn list(&self) -> List<'_> {
         List::of([
             Some(Field::LongLong(self.delivery_tag)),
@@ -408,11 +518,21 @@ impl Encode for BasicGetOk<'_> {}
 #[derive(Clone, Copy, Debug, Default, PartialEq, Eq)]
 pub struct BasicGetEmpty;
 
-impl Fielded for BasicGetEmpty {
+impl MethodInfo for BasicGetEmpty {
     const ID: (u16, u16) = (60, 72);
     const NAME: &'static str = "basic.get-empty";
-    const NAMES: &'static [&'static str] = &[];
+    const FIELD_NAMES: &'static [&'static str] = &[];
+}
 
+impl Built for BasicGetEmpty {
+    type Of<'a> = BasicGetEmpty;
+
+    fn built(_: &Fields<'_>) -> BasicGetEmpty {
+        BasicGetEmpty
+    }
+}
+
+impl Listed for BasicGetEmpty {
     fn list(&self) -> List<'_> {
         List::of([])
     }
@@ -432,16 +552,26 @@ pub struct BasicAck {
 }
 
 impl BasicAck {
-    pub(super) fn read(fields: &mut Reader<'_, '_>) -> Result<Self, Error> {
-        Ok(BasicAck { delivery_tag: fields.long_long()?, multiple: fields.flag()? })
+    pub(crate) fn read(fields: &Fields<'_>) -> Self {
+        BasicAck { delivery_tag: fields.long_long(0), multiple: fields.flag(1) }
     }
 }
 
-impl Fielded for BasicAck {
+impl MethodInfo for BasicAck {
     const ID: (u16, u16) = (60, 80);
     const NAME: &'static str = "basic.ack";
-    const NAMES: &'static [&'static str] = &["delivery-tag", "multiple"];
+    const FIELD_NAMES: &'static [&'static str] = &["delivery-tag", "multiple"];
+}
 
+impl Built for BasicAck {
+    type Of<'a> = BasicAck;
+
+    fn built(fields: &Fields<'_>) -> BasicAck {
+        BasicAck::read(fields)
+    }
+}
+
+impl Listed for BasicAck {
     fn list(&self) -> List<'_> {
         List::of([Some(Field::LongLong(self.delivery_tag)), Some(Field::Flag(self.multiple))])
     }
@@ -461,16 +591,26 @@ pub struct BasicReject {
 }
 
 impl BasicReject {
-    pub(super) fn read(fields: &mut Reader<'_, '_>) -> Result<Self, Error> {
-        Ok(BasicReject { delivery_tag: fields.long_long()?, requeue: fields.flag()? })
+    pub(crate) fn read(fields: &Fields<'_>) -> Self {
+        BasicReject { delivery_tag: fields.long_long(0), requeue: fields.flag(1) }
     }
 }
 
-impl Fielded for BasicReject {
+impl MethodInfo for BasicReject {
     const ID: (u16, u16) = (60, 90);
     const NAME: &'static str = "basic.reject";
-    const NAMES: &'static [&'static str] = &["delivery-tag", "requeue"];
+    const FIELD_NAMES: &'static [&'static str] = &["delivery-tag", "requeue"];
+}
 
+impl Built for BasicReject {
+    type Of<'a> = BasicReject;
+
+    fn built(fields: &Fields<'_>) -> BasicReject {
+        BasicReject::read(fields)
+    }
+}
+
+impl Listed for BasicReject {
     fn list(&self) -> List<'_> {
         List::of([Some(Field::LongLong(self.delivery_tag)), Some(Field::Flag(self.requeue))])
     }
@@ -488,16 +628,26 @@ pub struct BasicRecoverAsync {
 }
 
 impl BasicRecoverAsync {
-    pub(super) fn read(fields: &mut Reader<'_, '_>) -> Result<Self, Error> {
-        Ok(BasicRecoverAsync { requeue: fields.flag()? })
+    pub(crate) fn read(fields: &Fields<'_>) -> Self {
+        BasicRecoverAsync { requeue: fields.flag(0) }
     }
 }
 
-impl Fielded for BasicRecoverAsync {
+impl MethodInfo for BasicRecoverAsync {
     const ID: (u16, u16) = (60, 100);
     const NAME: &'static str = "basic.recover-async";
-    const NAMES: &'static [&'static str] = &["requeue"];
+    const FIELD_NAMES: &'static [&'static str] = &["requeue"];
+}
 
+impl Built for BasicRecoverAsync {
+    type Of<'a> = BasicRecoverAsync;
+
+    fn built(fields: &Fields<'_>) -> BasicRecoverAsync {
+        BasicRecoverAsync::read(fields)
+    }
+}
+
+impl Listed for BasicRecoverAsync {
     fn list(&self) -> List<'_> {
         List::of([Some(Field::Flag(self.requeue))])
     }
@@ -515,16 +665,26 @@ pub struct BasicRecover {
 }
 
 impl BasicRecover {
-    pub(super) fn read(fields: &mut Reader<'_, '_>) -> Result<Self, Error> {
-        Ok(BasicRecover { requeue: fields.flag()? })
+    pub(crate) fn read(fields: &Fields<'_>) -> Self {
+        BasicRecover { requeue: fields.flag(0) }
     }
 }
 
-impl Fielded for BasicRecover {
+impl MethodInfo for BasicRecover {
     const ID: (u16, u16) = (60, 110);
     const NAME: &'static str = "basic.recover";
-    const NAMES: &'static [&'static str] = &["requeue"];
+    const FIELD_NAMES: &'static [&'static str] = &["requeue"];
+}
 
+impl Built for BasicRecover {
+    type Of<'a> = BasicRecover;
+
+    fn built(fields: &Fields<'_>) -> BasicRecover {
+        BasicRecover::read(fields)
+    }
+}
+
+impl Listed for BasicRecover {
     fn list(&self) -> List<'_> {
         List::of([Some(Field::Flag(self.requeue))])
     }
@@ -538,11 +698,21 @@ impl Encode for BasicRecover {}
 #[derive(Clone, Copy, Debug, Default, PartialEq, Eq)]
 pub struct BasicRecoverOk;
 
-impl Fielded for BasicRecoverOk {
+impl MethodInfo for BasicRecoverOk {
     const ID: (u16, u16) = (60, 111);
     const NAME: &'static str = "basic.recover-ok";
-    const NAMES: &'static [&'static str] = &[];
+    const FIELD_NAMES: &'static [&'static str] = &[];
+}
 
+impl Built for BasicRecoverOk {
+    type Of<'a> = BasicRecoverOk;
+
+    fn built(_: &Fields<'_>) -> BasicRecoverOk {
+        BasicRecoverOk
+    }
+}
+
+impl Listed for BasicRecoverOk {
     fn list(&self) -> List<'_> {
         List::of([])
     }
@@ -564,16 +734,26 @@ pub struct BasicNack {
 }
 
 impl BasicNack {
-    pub(super) fn read(fields: &mut Reader<'_, '_>) -> Result<Self, Error> {
-        Ok(BasicNack { delivery_tag: fields.long_long()?, multiple: fields.flag()?, requeue: fields.flag()? })
+    pub(crate) fn read(fields: &Fields<'_>) -> Self {
+        BasicNack { delivery_tag: fields.long_long(0), multiple: fields.flag(1), requeue: fields.flag(2) }
     }
 }
 
-impl Fielded for BasicNack {
+impl MethodInfo for BasicNack {
     const ID: (u16, u16) = (60, 120);
     const NAME: &'static str = "basic.nack";
-    const NAMES: &'static [&'static str] = &["delivery-tag", "multiple", "requeue"];
+    const FIELD_NAMES: &'static [&'static str] = &["delivery-tag", "multiple", "requeue"];
+}
 
+impl Built for BasicNack {
+    type Of<'a> = BasicNack;
+
+    fn built(fields: &Fields<'_>) -> BasicNack {
+        BasicNack::read(fields)
+    }
+}
+
+impl Listed for BasicNack {
     fn list(&self) -> List<'_> {
         List::of([Some(Field::LongLong(self.delivery_tag)), Some(Field::Flag(self.multiple)), Some(Field::Flag(self.requeue))])
     }

@@ -3,9 +3,9 @@
 // Made by `generate` out of the library's table. Change that, and not this file.
 
 use crate::encode::Encode;
-use crate::error::Error;
-use crate::field::{Field, Fielded, List};
-use crate::reader::Reader;
+use crate::field::{Field, List, Listed};
+use crate::library::fields::Fields;
+use crate::method_info::{Built, MethodInfo};
 
 /// `channel.open`. The client opens the channel.
 ///
@@ -13,11 +13,21 @@ use crate::reader::Reader;
 #[derive(Clone, Copy, Debug, Default, PartialEq, Eq)]
 pub struct ChannelOpen;
 
-impl Fielded for ChannelOpen {
+impl MethodInfo for ChannelOpen {
     const ID: (u16, u16) = (20, 10);
     const NAME: &'static str = "channel.open";
-    const NAMES: &'static [&'static str] = &[];
+    const FIELD_NAMES: &'static [&'static str] = &[];
+}
 
+impl Built for ChannelOpen {
+    type Of<'a> = ChannelOpen;
+
+    fn built(_: &Fields<'_>) -> ChannelOpen {
+        ChannelOpen
+    }
+}
+
+impl Listed for ChannelOpen {
     fn list(&self) -> List<'_> {
         List::of([])
     }
@@ -31,11 +41,21 @@ impl Encode for ChannelOpen {}
 #[derive(Clone, Copy, Debug, Default, PartialEq, Eq)]
 pub struct ChannelOpenOk;
 
-impl Fielded for ChannelOpenOk {
+impl MethodInfo for ChannelOpenOk {
     const ID: (u16, u16) = (20, 11);
     const NAME: &'static str = "channel.open-ok";
-    const NAMES: &'static [&'static str] = &[];
+    const FIELD_NAMES: &'static [&'static str] = &[];
+}
 
+impl Built for ChannelOpenOk {
+    type Of<'a> = ChannelOpenOk;
+
+    fn built(_: &Fields<'_>) -> ChannelOpenOk {
+        ChannelOpenOk
+    }
+}
+
+impl Listed for ChannelOpenOk {
     fn list(&self) -> List<'_> {
         List::of([])
     }
@@ -53,16 +73,26 @@ pub struct ChannelFlow {
 }
 
 impl ChannelFlow {
-    pub(super) fn read(fields: &mut Reader<'_, '_>) -> Result<Self, Error> {
-        Ok(ChannelFlow { active: fields.flag()? })
+    pub(crate) fn read(fields: &Fields<'_>) -> Self {
+        ChannelFlow { active: fields.flag(0) }
     }
 }
 
-impl Fielded for ChannelFlow {
+impl MethodInfo for ChannelFlow {
     const ID: (u16, u16) = (20, 20);
     const NAME: &'static str = "channel.flow";
-    const NAMES: &'static [&'static str] = &["active"];
+    const FIELD_NAMES: &'static [&'static str] = &["active"];
+}
 
+impl Built for ChannelFlow {
+    type Of<'a> = ChannelFlow;
+
+    fn built(fields: &Fields<'_>) -> ChannelFlow {
+        ChannelFlow::read(fields)
+    }
+}
+
+impl Listed for ChannelFlow {
     fn list(&self) -> List<'_> {
         List::of([Some(Field::Flag(self.active))])
     }
@@ -80,16 +110,26 @@ pub struct ChannelFlowOk {
 }
 
 impl ChannelFlowOk {
-    pub(super) fn read(fields: &mut Reader<'_, '_>) -> Result<Self, Error> {
-        Ok(ChannelFlowOk { active: fields.flag()? })
+    pub(crate) fn read(fields: &Fields<'_>) -> Self {
+        ChannelFlowOk { active: fields.flag(0) }
     }
 }
 
-impl Fielded for ChannelFlowOk {
+impl MethodInfo for ChannelFlowOk {
     const ID: (u16, u16) = (20, 21);
     const NAME: &'static str = "channel.flow-ok";
-    const NAMES: &'static [&'static str] = &["active"];
+    const FIELD_NAMES: &'static [&'static str] = &["active"];
+}
 
+impl Built for ChannelFlowOk {
+    type Of<'a> = ChannelFlowOk;
+
+    fn built(fields: &Fields<'_>) -> ChannelFlowOk {
+        ChannelFlowOk::read(fields)
+    }
+}
+
+impl Listed for ChannelFlowOk {
     fn list(&self) -> List<'_> {
         List::of([Some(Field::Flag(self.active))])
     }
@@ -113,21 +153,31 @@ pub struct ChannelClose<'a> {
 }
 
 impl<'a> ChannelClose<'a> {
-    pub(super) fn read(fields: &mut Reader<'a, '_>) -> Result<Self, Error> {
-        Ok(ChannelClose {
-            reply_code: fields.short()?,
-            reply_text: fields.short_string()?,
-            class_id: fields.short()?,
-            method_id: fields.short()?,
-        })
+    pub(crate) fn read(fields: &Fields<'a>) -> Self {
+        ChannelClose {
+            reply_code: fields.short(0),
+            reply_text: fields.short_string(1),
+            class_id: fields.short(2),
+            method_id: fields.short(3),
+        }
     }
 }
 
-impl Fielded for ChannelClose<'_> {
+impl MethodInfo for ChannelClose<'_> {
     const ID: (u16, u16) = (20, 40);
     const NAME: &'static str = "channel.close";
-    const NAMES: &'static [&'static str] = &["reply-code", "reply-text", "class-id", "method-id"];
+    const FIELD_NAMES: &'static [&'static str] = &["reply-code", "reply-text", "class-id", "method-id"];
+}
 
+impl Built for ChannelClose<'_> {
+    type Of<'a> = ChannelClose<'a>;
+
+    fn built<'a>(fields: &Fields<'a>) -> ChannelClose<'a> {
+        ChannelClose::read(fields)
+    }
+}
+
+impl Listed for ChannelClose<'_> {
     fn list(&self) -> List<'_> {
         List::of([
             Some(Field::Short(self.reply_code)),
@@ -146,11 +196,21 @@ impl Encode for ChannelClose<'_> {}
 #[derive(Clone, Copy, Debug, Default, PartialEq, Eq)]
 pub struct ChannelCloseOk;
 
-impl Fielded for ChannelCloseOk {
+impl MethodInfo for ChannelCloseOk {
     const ID: (u16, u16) = (20, 41);
     const NAME: &'static str = "channel.close-ok";
-    const NAMES: &'static [&'static str] = &[];
+    const FIELD_NAMES: &'static [&'static str] = &[];
+}
 
+impl Built for ChannelCloseOk {
+    type Of<'a> = ChannelCloseOk;
+
+    fn built(_: &Fields<'_>) -> ChannelCloseOk {
+        ChannelCloseOk
+    }
+}
+
+impl Listed for ChannelCloseOk {
     fn list(&self) -> List<'_> {
         List::of([])
     }

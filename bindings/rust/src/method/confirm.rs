@@ -3,9 +3,9 @@
 // Made by `generate` out of the library's table. Change that, and not this file.
 
 use crate::encode::Encode;
-use crate::error::Error;
-use crate::field::{Field, Fielded, List};
-use crate::reader::Reader;
+use crate::field::{Field, List, Listed};
+use crate::library::fields::Fields;
+use crate::method_info::{Built, MethodInfo};
 
 /// `confirm.select`. Asks the server to acknowledge what is published on the channel.
 ///
@@ -17,16 +17,26 @@ pub struct ConfirmSelect {
 }
 
 impl ConfirmSelect {
-    pub(super) fn read(fields: &mut Reader<'_, '_>) -> Result<Self, Error> {
-        Ok(ConfirmSelect { nowait: fields.flag()? })
+    pub(crate) fn read(fields: &Fields<'_>) -> Self {
+        ConfirmSelect { nowait: fields.flag(0) }
     }
 }
 
-impl Fielded for ConfirmSelect {
+impl MethodInfo for ConfirmSelect {
     const ID: (u16, u16) = (85, 10);
     const NAME: &'static str = "confirm.select";
-    const NAMES: &'static [&'static str] = &["nowait"];
+    const FIELD_NAMES: &'static [&'static str] = &["nowait"];
+}
 
+impl Built for ConfirmSelect {
+    type Of<'a> = ConfirmSelect;
+
+    fn built(fields: &Fields<'_>) -> ConfirmSelect {
+        ConfirmSelect::read(fields)
+    }
+}
+
+impl Listed for ConfirmSelect {
     fn list(&self) -> List<'_> {
         List::of([Some(Field::Flag(self.nowait))])
     }
@@ -40,11 +50,21 @@ impl Encode for ConfirmSelect {}
 #[derive(Clone, Copy, Debug, Default, PartialEq, Eq)]
 pub struct ConfirmSelectOk;
 
-impl Fielded for ConfirmSelectOk {
+impl MethodInfo for ConfirmSelectOk {
     const ID: (u16, u16) = (85, 11);
     const NAME: &'static str = "confirm.select-ok";
-    const NAMES: &'static [&'static str] = &[];
+    const FIELD_NAMES: &'static [&'static str] = &[];
+}
 
+impl Built for ConfirmSelectOk {
+    type Of<'a> = ConfirmSelectOk;
+
+    fn built(_: &Fields<'_>) -> ConfirmSelectOk {
+        ConfirmSelectOk
+    }
+}
+
+impl Listed for ConfirmSelectOk {
     fn list(&self) -> List<'_> {
         List::of([])
     }

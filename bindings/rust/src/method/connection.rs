@@ -3,9 +3,9 @@
 // Made by `generate` out of the library's table. Change that, and not this file.
 
 use crate::encode::Encode;
-use crate::error::Error;
-use crate::field::{Field, Fielded, List};
-use crate::reader::Reader;
+use crate::field::{Field, List, Listed};
+use crate::library::fields::Fields;
+use crate::method_info::{Built, MethodInfo};
 use crate::table::Table;
 
 /// `connection.start`. The server begins: its version, what it is, and how a client may log in.
@@ -26,22 +26,32 @@ pub struct ConnectionStart<'a> {
 }
 
 impl<'a> ConnectionStart<'a> {
-    pub(super) fn read(fields: &mut Reader<'a, '_>) -> Result<Self, Error> {
-        Ok(ConnectionStart {
-            version_major: fields.octet()?,
-            version_minor: fields.octet()?,
-            server_properties: fields.table()?,
-            mechanisms: fields.long_string()?,
-            locales: fields.long_string()?,
-        })
+    pub(crate) fn read(fields: &Fields<'a>) -> Self {
+        ConnectionStart {
+            version_major: fields.octet(0),
+            version_minor: fields.octet(1),
+            server_properties: fields.table(2),
+            mechanisms: fields.long_string(3),
+            locales: fields.long_string(4),
+        }
     }
 }
 
-impl Fielded for ConnectionStart<'_> {
+impl MethodInfo for ConnectionStart<'_> {
     const ID: (u16, u16) = (10, 10);
     const NAME: &'static str = "connection.start";
-    const NAMES: &'static [&'static str] = &["version-major", "version-minor", "server-properties", "mechanisms", "locales"];
+    const FIELD_NAMES: &'static [&'static str] = &["version-major", "version-minor", "server-properties", "mechanisms", "locales"];
+}
 
+impl Built for ConnectionStart<'_> {
+    type Of<'a> = ConnectionStart<'a>;
+
+    fn built<'a>(fields: &Fields<'a>) -> ConnectionStart<'a> {
+        ConnectionStart::read(fields)
+    }
+}
+
+impl Listed for ConnectionStart<'_> {
     fn list(&self) -> List<'_> {
         List::of([
             Some(Field::Octet(self.version_major)),
@@ -71,21 +81,31 @@ pub struct ConnectionStartOk<'a> {
 }
 
 impl<'a> ConnectionStartOk<'a> {
-    pub(super) fn read(fields: &mut Reader<'a, '_>) -> Result<Self, Error> {
-        Ok(ConnectionStartOk {
-            client_properties: fields.table()?,
-            mechanism: fields.short_string()?,
-            response: fields.long_string()?,
-            locale: fields.short_string()?,
-        })
+    pub(crate) fn read(fields: &Fields<'a>) -> Self {
+        ConnectionStartOk {
+            client_properties: fields.table(0),
+            mechanism: fields.short_string(1),
+            response: fields.long_string(2),
+            locale: fields.short_string(3),
+        }
     }
 }
 
-impl Fielded for ConnectionStartOk<'_> {
+impl MethodInfo for ConnectionStartOk<'_> {
     const ID: (u16, u16) = (10, 11);
     const NAME: &'static str = "connection.start-ok";
-    const NAMES: &'static [&'static str] = &["client-properties", "mechanism", "response", "locale"];
+    const FIELD_NAMES: &'static [&'static str] = &["client-properties", "mechanism", "response", "locale"];
+}
 
+impl Built for ConnectionStartOk<'_> {
+    type Of<'a> = ConnectionStartOk<'a>;
+
+    fn built<'a>(fields: &Fields<'a>) -> ConnectionStartOk<'a> {
+        ConnectionStartOk::read(fields)
+    }
+}
+
+impl Listed for ConnectionStartOk<'_> {
     fn list(&self) -> List<'_> {
         List::of([
             Some(Field::Table(self.client_properties)),
@@ -108,16 +128,26 @@ pub struct ConnectionSecure<'a> {
 }
 
 impl<'a> ConnectionSecure<'a> {
-    pub(super) fn read(fields: &mut Reader<'a, '_>) -> Result<Self, Error> {
-        Ok(ConnectionSecure { challenge: fields.long_string()? })
+    pub(crate) fn read(fields: &Fields<'a>) -> Self {
+        ConnectionSecure { challenge: fields.long_string(0) }
     }
 }
 
-impl Fielded for ConnectionSecure<'_> {
+impl MethodInfo for ConnectionSecure<'_> {
     const ID: (u16, u16) = (10, 20);
     const NAME: &'static str = "connection.secure";
-    const NAMES: &'static [&'static str] = &["challenge"];
+    const FIELD_NAMES: &'static [&'static str] = &["challenge"];
+}
 
+impl Built for ConnectionSecure<'_> {
+    type Of<'a> = ConnectionSecure<'a>;
+
+    fn built<'a>(fields: &Fields<'a>) -> ConnectionSecure<'a> {
+        ConnectionSecure::read(fields)
+    }
+}
+
+impl Listed for ConnectionSecure<'_> {
     fn list(&self) -> List<'_> {
         List::of([Some(Field::LongString(self.challenge))])
     }
@@ -135,16 +165,26 @@ pub struct ConnectionSecureOk<'a> {
 }
 
 impl<'a> ConnectionSecureOk<'a> {
-    pub(super) fn read(fields: &mut Reader<'a, '_>) -> Result<Self, Error> {
-        Ok(ConnectionSecureOk { response: fields.long_string()? })
+    pub(crate) fn read(fields: &Fields<'a>) -> Self {
+        ConnectionSecureOk { response: fields.long_string(0) }
     }
 }
 
-impl Fielded for ConnectionSecureOk<'_> {
+impl MethodInfo for ConnectionSecureOk<'_> {
     const ID: (u16, u16) = (10, 21);
     const NAME: &'static str = "connection.secure-ok";
-    const NAMES: &'static [&'static str] = &["response"];
+    const FIELD_NAMES: &'static [&'static str] = &["response"];
+}
 
+impl Built for ConnectionSecureOk<'_> {
+    type Of<'a> = ConnectionSecureOk<'a>;
+
+    fn built<'a>(fields: &Fields<'a>) -> ConnectionSecureOk<'a> {
+        ConnectionSecureOk::read(fields)
+    }
+}
+
+impl Listed for ConnectionSecureOk<'_> {
     fn list(&self) -> List<'_> {
         List::of([Some(Field::LongString(self.response))])
     }
@@ -166,16 +206,26 @@ pub struct ConnectionTune {
 }
 
 impl ConnectionTune {
-    pub(super) fn read(fields: &mut Reader<'_, '_>) -> Result<Self, Error> {
-        Ok(ConnectionTune { channel_max: fields.short()?, frame_max: fields.long()?, heartbeat: fields.short()? })
+    pub(crate) fn read(fields: &Fields<'_>) -> Self {
+        ConnectionTune { channel_max: fields.short(0), frame_max: fields.long(1), heartbeat: fields.short(2) }
     }
 }
 
-impl Fielded for ConnectionTune {
+impl MethodInfo for ConnectionTune {
     const ID: (u16, u16) = (10, 30);
     const NAME: &'static str = "connection.tune";
-    const NAMES: &'static [&'static str] = &["channel-max", "frame-max", "heartbeat"];
+    const FIELD_NAMES: &'static [&'static str] = &["channel-max", "frame-max", "heartbeat"];
+}
 
+impl Built for ConnectionTune {
+    type Of<'a> = ConnectionTune;
+
+    fn built(fields: &Fields<'_>) -> ConnectionTune {
+        ConnectionTune::read(fields)
+    }
+}
+
+impl Listed for ConnectionTune {
     fn list(&self) -> List<'_> {
         List::of([Some(Field::Short(self.channel_max)), Some(Field::Long(self.frame_max)), Some(Field::Short(self.heartbeat))])
     }
@@ -197,16 +247,26 @@ pub struct ConnectionTuneOk {
 }
 
 impl ConnectionTuneOk {
-    pub(super) fn read(fields: &mut Reader<'_, '_>) -> Result<Self, Error> {
-        Ok(ConnectionTuneOk { channel_max: fields.short()?, frame_max: fields.long()?, heartbeat: fields.short()? })
+    pub(crate) fn read(fields: &Fields<'_>) -> Self {
+        ConnectionTuneOk { channel_max: fields.short(0), frame_max: fields.long(1), heartbeat: fields.short(2) }
     }
 }
 
-impl Fielded for ConnectionTuneOk {
+impl MethodInfo for ConnectionTuneOk {
     const ID: (u16, u16) = (10, 31);
     const NAME: &'static str = "connection.tune-ok";
-    const NAMES: &'static [&'static str] = &["channel-max", "frame-max", "heartbeat"];
+    const FIELD_NAMES: &'static [&'static str] = &["channel-max", "frame-max", "heartbeat"];
+}
 
+impl Built for ConnectionTuneOk {
+    type Of<'a> = ConnectionTuneOk;
+
+    fn built(fields: &Fields<'_>) -> ConnectionTuneOk {
+        ConnectionTuneOk::read(fields)
+    }
+}
+
+impl Listed for ConnectionTuneOk {
     fn list(&self) -> List<'_> {
         List::of([Some(Field::Short(self.channel_max)), Some(Field::Long(self.frame_max)), Some(Field::Short(self.heartbeat))])
     }
@@ -224,16 +284,26 @@ pub struct ConnectionOpen<'a> {
 }
 
 impl<'a> ConnectionOpen<'a> {
-    pub(super) fn read(fields: &mut Reader<'a, '_>) -> Result<Self, Error> {
-        Ok(ConnectionOpen { virtual_host: fields.short_string()? })
+    pub(crate) fn read(fields: &Fields<'a>) -> Self {
+        ConnectionOpen { virtual_host: fields.short_string(0) }
     }
 }
 
-impl Fielded for ConnectionOpen<'_> {
+impl MethodInfo for ConnectionOpen<'_> {
     const ID: (u16, u16) = (10, 40);
     const NAME: &'static str = "connection.open";
-    const NAMES: &'static [&'static str] = &["virtual-host"];
+    const FIELD_NAMES: &'static [&'static str] = &["virtual-host"];
+}
 
+impl Built for ConnectionOpen<'_> {
+    type Of<'a> = ConnectionOpen<'a>;
+
+    fn built<'a>(fields: &Fields<'a>) -> ConnectionOpen<'a> {
+        ConnectionOpen::read(fields)
+    }
+}
+
+impl Listed for ConnectionOpen<'_> {
     fn list(&self) -> List<'_> {
         List::of([Some(Field::ShortString(self.virtual_host))])
     }
@@ -247,11 +317,21 @@ impl Encode for ConnectionOpen<'_> {}
 #[derive(Clone, Copy, Debug, Default, PartialEq, Eq)]
 pub struct ConnectionOpenOk;
 
-impl Fielded for ConnectionOpenOk {
+impl MethodInfo for ConnectionOpenOk {
     const ID: (u16, u16) = (10, 41);
     const NAME: &'static str = "connection.open-ok";
-    const NAMES: &'static [&'static str] = &[];
+    const FIELD_NAMES: &'static [&'static str] = &[];
+}
 
+impl Built for ConnectionOpenOk {
+    type Of<'a> = ConnectionOpenOk;
+
+    fn built(_: &Fields<'_>) -> ConnectionOpenOk {
+        ConnectionOpenOk
+    }
+}
+
+impl Listed for ConnectionOpenOk {
     fn list(&self) -> List<'_> {
         List::of([])
     }
@@ -275,21 +355,31 @@ pub struct ConnectionClose<'a> {
 }
 
 impl<'a> ConnectionClose<'a> {
-    pub(super) fn read(fields: &mut Reader<'a, '_>) -> Result<Self, Error> {
-        Ok(ConnectionClose {
-            reply_code: fields.short()?,
-            reply_text: fields.short_string()?,
-            class_id: fields.short()?,
-            method_id: fields.short()?,
-        })
+    pub(crate) fn read(fields: &Fields<'a>) -> Self {
+        ConnectionClose {
+            reply_code: fields.short(0),
+            reply_text: fields.short_string(1),
+            class_id: fields.short(2),
+            method_id: fields.short(3),
+        }
     }
 }
 
-impl Fielded for ConnectionClose<'_> {
+impl MethodInfo for ConnectionClose<'_> {
     const ID: (u16, u16) = (10, 50);
     const NAME: &'static str = "connection.close";
-    const NAMES: &'static [&'static str] = &["reply-code", "reply-text", "class-id", "method-id"];
+    const FIELD_NAMES: &'static [&'static str] = &["reply-code", "reply-text", "class-id", "method-id"];
+}
 
+impl Built for ConnectionClose<'_> {
+    type Of<'a> = ConnectionClose<'a>;
+
+    fn built<'a>(fields: &Fields<'a>) -> ConnectionClose<'a> {
+        ConnectionClose::read(fields)
+    }
+}
+
+impl Listed for ConnectionClose<'_> {
     fn list(&self) -> List<'_> {
         List::of([
             Some(Field::Short(self.reply_code)),
@@ -308,11 +398,21 @@ impl Encode for ConnectionClose<'_> {}
 #[derive(Clone, Copy, Debug, Default, PartialEq, Eq)]
 pub struct ConnectionCloseOk;
 
-impl Fielded for ConnectionCloseOk {
+impl MethodInfo for ConnectionCloseOk {
     const ID: (u16, u16) = (10, 51);
     const NAME: &'static str = "connection.close-ok";
-    const NAMES: &'static [&'static str] = &[];
+    const FIELD_NAMES: &'static [&'static str] = &[];
+}
 
+impl Built for ConnectionCloseOk {
+    type Of<'a> = ConnectionCloseOk;
+
+    fn built(_: &Fields<'_>) -> ConnectionCloseOk {
+        ConnectionCloseOk
+    }
+}
+
+impl Listed for ConnectionCloseOk {
     fn list(&self) -> List<'_> {
         List::of([])
     }
@@ -330,16 +430,26 @@ pub struct ConnectionBlocked<'a> {
 }
 
 impl<'a> ConnectionBlocked<'a> {
-    pub(super) fn read(fields: &mut Reader<'a, '_>) -> Result<Self, Error> {
-        Ok(ConnectionBlocked { reason: fields.short_string()? })
+    pub(crate) fn read(fields: &Fields<'a>) -> Self {
+        ConnectionBlocked { reason: fields.short_string(0) }
     }
 }
 
-impl Fielded for ConnectionBlocked<'_> {
+impl MethodInfo for ConnectionBlocked<'_> {
     const ID: (u16, u16) = (10, 60);
     const NAME: &'static str = "connection.blocked";
-    const NAMES: &'static [&'static str] = &["reason"];
+    const FIELD_NAMES: &'static [&'static str] = &["reason"];
+}
 
+impl Built for ConnectionBlocked<'_> {
+    type Of<'a> = ConnectionBlocked<'a>;
+
+    fn built<'a>(fields: &Fields<'a>) -> ConnectionBlocked<'a> {
+        ConnectionBlocked::read(fields)
+    }
+}
+
+impl Listed for ConnectionBlocked<'_> {
     fn list(&self) -> List<'_> {
         List::of([Some(Field::ShortString(self.reason))])
     }
@@ -353,11 +463,21 @@ impl Encode for ConnectionBlocked<'_> {}
 #[derive(Clone, Copy, Debug, Default, PartialEq, Eq)]
 pub struct ConnectionUnblocked;
 
-impl Fielded for ConnectionUnblocked {
+impl MethodInfo for ConnectionUnblocked {
     const ID: (u16, u16) = (10, 61);
     const NAME: &'static str = "connection.unblocked";
-    const NAMES: &'static [&'static str] = &[];
+    const FIELD_NAMES: &'static [&'static str] = &[];
+}
 
+impl Built for ConnectionUnblocked {
+    type Of<'a> = ConnectionUnblocked;
+
+    fn built(_: &Fields<'_>) -> ConnectionUnblocked {
+        ConnectionUnblocked
+    }
+}
+
+impl Listed for ConnectionUnblocked {
     fn list(&self) -> List<'_> {
         List::of([])
     }
@@ -377,16 +497,26 @@ pub struct ConnectionUpdateSecret<'a> {
 }
 
 impl<'a> ConnectionUpdateSecret<'a> {
-    pub(super) fn read(fields: &mut Reader<'a, '_>) -> Result<Self, Error> {
-        Ok(ConnectionUpdateSecret { new_secret: fields.long_string()?, reason: fields.short_string()? })
+    pub(crate) fn read(fields: &Fields<'a>) -> Self {
+        ConnectionUpdateSecret { new_secret: fields.long_string(0), reason: fields.short_string(1) }
     }
 }
 
-impl Fielded for ConnectionUpdateSecret<'_> {
+impl MethodInfo for ConnectionUpdateSecret<'_> {
     const ID: (u16, u16) = (10, 70);
     const NAME: &'static str = "connection.update-secret";
-    const NAMES: &'static [&'static str] = &["new-secret", "reason"];
+    const FIELD_NAMES: &'static [&'static str] = &["new-secret", "reason"];
+}
 
+impl Built for ConnectionUpdateSecret<'_> {
+    type Of<'a> = ConnectionUpdateSecret<'a>;
+
+    fn built<'a>(fields: &Fields<'a>) -> ConnectionUpdateSecret<'a> {
+        ConnectionUpdateSecret::read(fields)
+    }
+}
+
+impl Listed for ConnectionUpdateSecret<'_> {
     fn list(&self) -> List<'_> {
         List::of([Some(Field::LongString(self.new_secret)), Some(Field::ShortString(self.reason))])
     }
@@ -400,11 +530,21 @@ impl Encode for ConnectionUpdateSecret<'_> {}
 #[derive(Clone, Copy, Debug, Default, PartialEq, Eq)]
 pub struct ConnectionUpdateSecretOk;
 
-impl Fielded for ConnectionUpdateSecretOk {
+impl MethodInfo for ConnectionUpdateSecretOk {
     const ID: (u16, u16) = (10, 71);
     const NAME: &'static str = "connection.update-secret-ok";
-    const NAMES: &'static [&'static str] = &[];
+    const FIELD_NAMES: &'static [&'static str] = &[];
+}
 
+impl Built for ConnectionUpdateSecretOk {
+    type Of<'a> = ConnectionUpdateSecretOk;
+
+    fn built(_: &Fields<'_>) -> ConnectionUpdateSecretOk {
+        ConnectionUpdateSecretOk
+    }
+}
+
+impl Listed for ConnectionUpdateSecretOk {
     fn list(&self) -> List<'_> {
         List::of([])
     }

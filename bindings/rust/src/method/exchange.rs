@@ -3,9 +3,9 @@
 // Made by `generate` out of the library's table. Change that, and not this file.
 
 use crate::encode::Encode;
-use crate::error::Error;
-use crate::field::{Field, Fielded, List};
-use crate::reader::Reader;
+use crate::field::{Field, List, Listed};
+use crate::library::fields::Fields;
+use crate::method_info::{Built, MethodInfo};
 use crate::table::Table;
 
 /// `exchange.declare`. Creates an exchange, or checks that it is there.
@@ -32,25 +32,36 @@ pub struct ExchangeDeclare<'a> {
 }
 
 impl<'a> ExchangeDeclare<'a> {
-    pub(super) fn read(fields: &mut Reader<'a, '_>) -> Result<Self, Error> {
-        Ok(ExchangeDeclare {
-            exchange: fields.short_string()?,
-            kind: fields.short_string()?,
-            passive: fields.flag()?,
-            durable: fields.flag()?,
-            auto_delete: fields.flag()?,
-            internal: fields.flag()?,
-            no_wait: fields.flag()?,
-            arguments: fields.table()?,
-        })
+    pub(crate) fn read(fields: &Fields<'a>) -> Self {
+        ExchangeDeclare {
+            exchange: fields.short_string(0),
+            kind: fields.short_string(1),
+            passive: fields.flag(2),
+            durable: fields.flag(3),
+            auto_delete: fields.flag(4),
+            internal: fields.flag(5),
+            no_wait: fields.flag(6),
+            arguments: fields.table(7),
+        }
     }
 }
 
-impl Fielded for ExchangeDeclare<'_> {
+impl MethodInfo for ExchangeDeclare<'_> {
     const ID: (u16, u16) = (40, 10);
     const NAME: &'static str = "exchange.declare";
-    const NAMES: &'static [&'static str] = &["exchange", "type", "passive", "durable", "auto-delete", "internal", "no-wait", "arguments"];
+    const FIELD_NAMES: &'static [&'static str] =
+        &["exchange", "type", "passive", "durable", "auto-delete", "internal", "no-wait", "arguments"];
+}
 
+impl Built for ExchangeDeclare<'_> {
+    type Of<'a> = ExchangeDeclare<'a>;
+
+    fn built<'a>(fields: &Fields<'a>) -> ExchangeDeclare<'a> {
+        ExchangeDeclare::read(fields)
+    }
+}
+
+impl Listed for ExchangeDeclare<'_> {
     fn list(&self) -> List<'_> {
         List::of([
             Some(Field::ShortString(self.exchange)),
@@ -73,11 +84,21 @@ impl Encode for ExchangeDeclare<'_> {}
 #[derive(Clone, Copy, Debug, Default, PartialEq, Eq)]
 pub struct ExchangeDeclareOk;
 
-impl Fielded for ExchangeDeclareOk {
+impl MethodInfo for ExchangeDeclareOk {
     const ID: (u16, u16) = (40, 11);
     const NAME: &'static str = "exchange.declare-ok";
-    const NAMES: &'static [&'static str] = &[];
+    const FIELD_NAMES: &'static [&'static str] = &[];
+}
 
+impl Built for ExchangeDeclareOk {
+    type Of<'a> = ExchangeDeclareOk;
+
+    fn built(_: &Fields<'_>) -> ExchangeDeclareOk {
+        ExchangeDeclareOk
+    }
+}
+
+impl Listed for ExchangeDeclareOk {
     fn list(&self) -> List<'_> {
         List::of([])
     }
@@ -99,16 +120,26 @@ pub struct ExchangeDelete<'a> {
 }
 
 impl<'a> ExchangeDelete<'a> {
-    pub(super) fn read(fields: &mut Reader<'a, '_>) -> Result<Self, Error> {
-        Ok(ExchangeDelete { exchange: fields.short_string()?, if_unused: fields.flag()?, no_wait: fields.flag()? })
+    pub(crate) fn read(fields: &Fields<'a>) -> Self {
+        ExchangeDelete { exchange: fields.short_string(0), if_unused: fields.flag(1), no_wait: fields.flag(2) }
     }
 }
 
-impl Fielded for ExchangeDelete<'_> {
+impl MethodInfo for ExchangeDelete<'_> {
     const ID: (u16, u16) = (40, 20);
     const NAME: &'static str = "exchange.delete";
-    const NAMES: &'static [&'static str] = &["exchange", "if-unused", "no-wait"];
+    const FIELD_NAMES: &'static [&'static str] = &["exchange", "if-unused", "no-wait"];
+}
 
+impl Built for ExchangeDelete<'_> {
+    type Of<'a> = ExchangeDelete<'a>;
+
+    fn built<'a>(fields: &Fields<'a>) -> ExchangeDelete<'a> {
+        ExchangeDelete::read(fields)
+    }
+}
+
+impl Listed for ExchangeDelete<'_> {
     fn list(&self) -> List<'_> {
         List::of([Some(Field::ShortString(self.exchange)), Some(Field::Flag(self.if_unused)), Some(Field::Flag(self.no_wait))])
     }
@@ -122,11 +153,21 @@ impl Encode for ExchangeDelete<'_> {}
 #[derive(Clone, Copy, Debug, Default, PartialEq, Eq)]
 pub struct ExchangeDeleteOk;
 
-impl Fielded for ExchangeDeleteOk {
+impl MethodInfo for ExchangeDeleteOk {
     const ID: (u16, u16) = (40, 21);
     const NAME: &'static str = "exchange.delete-ok";
-    const NAMES: &'static [&'static str] = &[];
+    const FIELD_NAMES: &'static [&'static str] = &[];
+}
 
+impl Built for ExchangeDeleteOk {
+    type Of<'a> = ExchangeDeleteOk;
+
+    fn built(_: &Fields<'_>) -> ExchangeDeleteOk {
+        ExchangeDeleteOk
+    }
+}
+
+impl Listed for ExchangeDeleteOk {
     fn list(&self) -> List<'_> {
         List::of([])
     }
@@ -152,22 +193,32 @@ pub struct ExchangeBind<'a> {
 }
 
 impl<'a> ExchangeBind<'a> {
-    pub(super) fn read(fields: &mut Reader<'a, '_>) -> Result<Self, Error> {
-        Ok(ExchangeBind {
-            destination: fields.short_string()?,
-            source: fields.short_string()?,
-            routing_key: fields.short_string()?,
-            no_wait: fields.flag()?,
-            arguments: fields.table()?,
-        })
+    pub(crate) fn read(fields: &Fields<'a>) -> Self {
+        ExchangeBind {
+            destination: fields.short_string(0),
+            source: fields.short_string(1),
+            routing_key: fields.short_string(2),
+            no_wait: fields.flag(3),
+            arguments: fields.table(4),
+        }
     }
 }
 
-impl Fielded for ExchangeBind<'_> {
+impl MethodInfo for ExchangeBind<'_> {
     const ID: (u16, u16) = (40, 30);
     const NAME: &'static str = "exchange.bind";
-    const NAMES: &'static [&'static str] = &["destination", "source", "routing-key", "no-wait", "arguments"];
+    const FIELD_NAMES: &'static [&'static str] = &["destination", "source", "routing-key", "no-wait", "arguments"];
+}
 
+impl Built for ExchangeBind<'_> {
+    type Of<'a> = ExchangeBind<'a>;
+
+    fn built<'a>(fields: &Fields<'a>) -> ExchangeBind<'a> {
+        ExchangeBind::read(fields)
+    }
+}
+
+impl Listed for ExchangeBind<'_> {
     fn list(&self) -> List<'_> {
         List::of([
             Some(Field::ShortString(self.destination)),
@@ -187,11 +238,21 @@ impl Encode for ExchangeBind<'_> {}
 #[derive(Clone, Copy, Debug, Default, PartialEq, Eq)]
 pub struct ExchangeBindOk;
 
-impl Fielded for ExchangeBindOk {
+impl MethodInfo for ExchangeBindOk {
     const ID: (u16, u16) = (40, 31);
     const NAME: &'static str = "exchange.bind-ok";
-    const NAMES: &'static [&'static str] = &[];
+    const FIELD_NAMES: &'static [&'static str] = &[];
+}
 
+impl Built for ExchangeBindOk {
+    type Of<'a> = ExchangeBindOk;
+
+    fn built(_: &Fields<'_>) -> ExchangeBindOk {
+        ExchangeBindOk
+    }
+}
+
+impl Listed for ExchangeBindOk {
     fn list(&self) -> List<'_> {
         List::of([])
     }
@@ -217,22 +278,32 @@ pub struct ExchangeUnbind<'a> {
 }
 
 impl<'a> ExchangeUnbind<'a> {
-    pub(super) fn read(fields: &mut Reader<'a, '_>) -> Result<Self, Error> {
-        Ok(ExchangeUnbind {
-            destination: fields.short_string()?,
-            source: fields.short_string()?,
-            routing_key: fields.short_string()?,
-            no_wait: fields.flag()?,
-            arguments: fields.table()?,
-        })
+    pub(crate) fn read(fields: &Fields<'a>) -> Self {
+        ExchangeUnbind {
+            destination: fields.short_string(0),
+            source: fields.short_string(1),
+            routing_key: fields.short_string(2),
+            no_wait: fields.flag(3),
+            arguments: fields.table(4),
+        }
     }
 }
 
-impl Fielded for ExchangeUnbind<'_> {
+impl MethodInfo for ExchangeUnbind<'_> {
     const ID: (u16, u16) = (40, 40);
     const NAME: &'static str = "exchange.unbind";
-    const NAMES: &'static [&'static str] = &["destination", "source", "routing-key", "no-wait", "arguments"];
+    const FIELD_NAMES: &'static [&'static str] = &["destination", "source", "routing-key", "no-wait", "arguments"];
+}
 
+impl Built for ExchangeUnbind<'_> {
+    type Of<'a> = ExchangeUnbind<'a>;
+
+    fn built<'a>(fields: &Fields<'a>) -> ExchangeUnbind<'a> {
+        ExchangeUnbind::read(fields)
+    }
+}
+
+impl Listed for ExchangeUnbind<'_> {
     fn list(&self) -> List<'_> {
         List::of([
             Some(Field::ShortString(self.destination)),
@@ -252,11 +323,21 @@ impl Encode for ExchangeUnbind<'_> {}
 #[derive(Clone, Copy, Debug, Default, PartialEq, Eq)]
 pub struct ExchangeUnbindOk;
 
-impl Fielded for ExchangeUnbindOk {
+impl MethodInfo for ExchangeUnbindOk {
     const ID: (u16, u16) = (40, 51);
     const NAME: &'static str = "exchange.unbind-ok";
-    const NAMES: &'static [&'static str] = &[];
+    const FIELD_NAMES: &'static [&'static str] = &[];
+}
 
+impl Built for ExchangeUnbindOk {
+    type Of<'a> = ExchangeUnbindOk;
+
+    fn built(_: &Fields<'_>) -> ExchangeUnbindOk {
+        ExchangeUnbindOk
+    }
+}
+
+impl Listed for ExchangeUnbindOk {
     fn list(&self) -> List<'_> {
         List::of([])
     }

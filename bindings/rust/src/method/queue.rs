@@ -3,9 +3,9 @@
 // Made by `generate` out of the library's table. Change that, and not this file.
 
 use crate::encode::Encode;
-use crate::error::Error;
-use crate::field::{Field, Fielded, List};
-use crate::reader::Reader;
+use crate::field::{Field, List, Listed};
+use crate::library::fields::Fields;
+use crate::method_info::{Built, MethodInfo};
 use crate::table::Table;
 
 /// `queue.declare`. Creates a queue, or checks that it is there. An empty name lets the server choose one.
@@ -30,24 +30,34 @@ pub struct QueueDeclare<'a> {
 }
 
 impl<'a> QueueDeclare<'a> {
-    pub(super) fn read(fields: &mut Reader<'a, '_>) -> Result<Self, Error> {
-        Ok(QueueDeclare {
-            queue: fields.short_string()?,
-            passive: fields.flag()?,
-            durable: fields.flag()?,
-            exclusive: fields.flag()?,
-            auto_delete: fields.flag()?,
-            no_wait: fields.flag()?,
-            arguments: fields.table()?,
-        })
+    pub(crate) fn read(fields: &Fields<'a>) -> Self {
+        QueueDeclare {
+            queue: fields.short_string(0),
+            passive: fields.flag(1),
+            durable: fields.flag(2),
+            exclusive: fields.flag(3),
+            auto_delete: fields.flag(4),
+            no_wait: fields.flag(5),
+            arguments: fields.table(6),
+        }
     }
 }
 
-impl Fielded for QueueDeclare<'_> {
+impl MethodInfo for QueueDeclare<'_> {
     const ID: (u16, u16) = (50, 10);
     const NAME: &'static str = "queue.declare";
-    const NAMES: &'static [&'static str] = &["queue", "passive", "durable", "exclusive", "auto-delete", "no-wait", "arguments"];
+    const FIELD_NAMES: &'static [&'static str] = &["queue", "passive", "durable", "exclusive", "auto-delete", "no-wait", "arguments"];
+}
 
+impl Built for QueueDeclare<'_> {
+    type Of<'a> = QueueDeclare<'a>;
+
+    fn built<'a>(fields: &Fields<'a>) -> QueueDeclare<'a> {
+        QueueDeclare::read(fields)
+    }
+}
+
+impl Listed for QueueDeclare<'_> {
     fn list(&self) -> List<'_> {
         List::of([
             Some(Field::ShortString(self.queue)),
@@ -77,16 +87,26 @@ pub struct QueueDeclareOk<'a> {
 }
 
 impl<'a> QueueDeclareOk<'a> {
-    pub(super) fn read(fields: &mut Reader<'a, '_>) -> Result<Self, Error> {
-        Ok(QueueDeclareOk { queue: fields.short_string()?, message_count: fields.long()?, consumer_count: fields.long()? })
+    pub(crate) fn read(fields: &Fields<'a>) -> Self {
+        QueueDeclareOk { queue: fields.short_string(0), message_count: fields.long(1), consumer_count: fields.long(2) }
     }
 }
 
-impl Fielded for QueueDeclareOk<'_> {
+impl MethodInfo for QueueDeclareOk<'_> {
     const ID: (u16, u16) = (50, 11);
     const NAME: &'static str = "queue.declare-ok";
-    const NAMES: &'static [&'static str] = &["queue", "message-count", "consumer-count"];
+    const FIELD_NAMES: &'static [&'static str] = &["queue", "message-count", "consumer-count"];
+}
 
+impl Built for QueueDeclareOk<'_> {
+    type Of<'a> = QueueDeclareOk<'a>;
+
+    fn built<'a>(fields: &Fields<'a>) -> QueueDeclareOk<'a> {
+        QueueDeclareOk::read(fields)
+    }
+}
+
+impl Listed for QueueDeclareOk<'_> {
     fn list(&self) -> List<'_> {
         List::of([Some(Field::ShortString(self.queue)), Some(Field::Long(self.message_count)), Some(Field::Long(self.consumer_count))])
     }
@@ -112,22 +132,32 @@ pub struct QueueBind<'a> {
 }
 
 impl<'a> QueueBind<'a> {
-    pub(super) fn read(fields: &mut Reader<'a, '_>) -> Result<Self, Error> {
-        Ok(QueueBind {
-            queue: fields.short_string()?,
-            exchange: fields.short_string()?,
-            routing_key: fields.short_string()?,
-            no_wait: fields.flag()?,
-            arguments: fields.table()?,
-        })
+    pub(crate) fn read(fields: &Fields<'a>) -> Self {
+        QueueBind {
+            queue: fields.short_string(0),
+            exchange: fields.short_string(1),
+            routing_key: fields.short_string(2),
+            no_wait: fields.flag(3),
+            arguments: fields.table(4),
+        }
     }
 }
 
-impl Fielded for QueueBind<'_> {
+impl MethodInfo for QueueBind<'_> {
     const ID: (u16, u16) = (50, 20);
     const NAME: &'static str = "queue.bind";
-    const NAMES: &'static [&'static str] = &["queue", "exchange", "routing-key", "no-wait", "arguments"];
+    const FIELD_NAMES: &'static [&'static str] = &["queue", "exchange", "routing-key", "no-wait", "arguments"];
+}
 
+impl Built for QueueBind<'_> {
+    type Of<'a> = QueueBind<'a>;
+
+    fn built<'a>(fields: &Fields<'a>) -> QueueBind<'a> {
+        QueueBind::read(fields)
+    }
+}
+
+impl Listed for QueueBind<'_> {
     fn list(&self) -> List<'_> {
         List::of([
             Some(Field::ShortString(self.queue)),
@@ -147,11 +177,21 @@ impl Encode for QueueBind<'_> {}
 #[derive(Clone, Copy, Debug, Default, PartialEq, Eq)]
 pub struct QueueBindOk;
 
-impl Fielded for QueueBindOk {
+impl MethodInfo for QueueBindOk {
     const ID: (u16, u16) = (50, 21);
     const NAME: &'static str = "queue.bind-ok";
-    const NAMES: &'static [&'static str] = &[];
+    const FIELD_NAMES: &'static [&'static str] = &[];
+}
 
+impl Built for QueueBindOk {
+    type Of<'a> = QueueBindOk;
+
+    fn built(_: &Fields<'_>) -> QueueBindOk {
+        QueueBindOk
+    }
+}
+
+impl Listed for QueueBindOk {
     fn list(&self) -> List<'_> {
         List::of([])
     }
@@ -171,16 +211,26 @@ pub struct QueuePurge<'a> {
 }
 
 impl<'a> QueuePurge<'a> {
-    pub(super) fn read(fields: &mut Reader<'a, '_>) -> Result<Self, Error> {
-        Ok(QueuePurge { queue: fields.short_string()?, no_wait: fields.flag()? })
+    pub(crate) fn read(fields: &Fields<'a>) -> Self {
+        QueuePurge { queue: fields.short_string(0), no_wait: fields.flag(1) }
     }
 }
 
-impl Fielded for QueuePurge<'_> {
+impl MethodInfo for QueuePurge<'_> {
     const ID: (u16, u16) = (50, 30);
     const NAME: &'static str = "queue.purge";
-    const NAMES: &'static [&'static str] = &["queue", "no-wait"];
+    const FIELD_NAMES: &'static [&'static str] = &["queue", "no-wait"];
+}
 
+impl Built for QueuePurge<'_> {
+    type Of<'a> = QueuePurge<'a>;
+
+    fn built<'a>(fields: &Fields<'a>) -> QueuePurge<'a> {
+        QueuePurge::read(fields)
+    }
+}
+
+impl Listed for QueuePurge<'_> {
     fn list(&self) -> List<'_> {
         List::of([Some(Field::ShortString(self.queue)), Some(Field::Flag(self.no_wait))])
     }
@@ -198,16 +248,26 @@ pub struct QueuePurgeOk {
 }
 
 impl QueuePurgeOk {
-    pub(super) fn read(fields: &mut Reader<'_, '_>) -> Result<Self, Error> {
-        Ok(QueuePurgeOk { message_count: fields.long()? })
+    pub(crate) fn read(fields: &Fields<'_>) -> Self {
+        QueuePurgeOk { message_count: fields.long(0) }
     }
 }
 
-impl Fielded for QueuePurgeOk {
+impl MethodInfo for QueuePurgeOk {
     const ID: (u16, u16) = (50, 31);
     const NAME: &'static str = "queue.purge-ok";
-    const NAMES: &'static [&'static str] = &["message-count"];
+    const FIELD_NAMES: &'static [&'static str] = &["message-count"];
+}
 
+impl Built for QueuePurgeOk {
+    type Of<'a> = QueuePurgeOk;
+
+    fn built(fields: &Fields<'_>) -> QueuePurgeOk {
+        QueuePurgeOk::read(fields)
+    }
+}
+
+impl Listed for QueuePurgeOk {
     fn list(&self) -> List<'_> {
         List::of([Some(Field::Long(self.message_count))])
     }
@@ -231,16 +291,26 @@ pub struct QueueDelete<'a> {
 }
 
 impl<'a> QueueDelete<'a> {
-    pub(super) fn read(fields: &mut Reader<'a, '_>) -> Result<Self, Error> {
-        Ok(QueueDelete { queue: fields.short_string()?, if_unused: fields.flag()?, if_empty: fields.flag()?, no_wait: fields.flag()? })
+    pub(crate) fn read(fields: &Fields<'a>) -> Self {
+        QueueDelete { queue: fields.short_string(0), if_unused: fields.flag(1), if_empty: fields.flag(2), no_wait: fields.flag(3) }
     }
 }
 
-impl Fielded for QueueDelete<'_> {
+impl MethodInfo for QueueDelete<'_> {
     const ID: (u16, u16) = (50, 40);
     const NAME: &'static str = "queue.delete";
-    const NAMES: &'static [&'static str] = &["queue", "if-unused", "if-empty", "no-wait"];
+    const FIELD_NAMES: &'static [&'static str] = &["queue", "if-unused", "if-empty", "no-wait"];
+}
 
+impl Built for QueueDelete<'_> {
+    type Of<'a> = QueueDelete<'a>;
+
+    fn built<'a>(fields: &Fields<'a>) -> QueueDelete<'a> {
+        QueueDelete::read(fields)
+    }
+}
+
+impl Listed for QueueDelete<'_> {
     fn list(&self) -> List<'_> {
         List::of([
             Some(Field::ShortString(self.queue)),
@@ -263,16 +333,26 @@ pub struct QueueDeleteOk {
 }
 
 impl QueueDeleteOk {
-    pub(super) fn read(fields: &mut Reader<'_, '_>) -> Result<Self, Error> {
-        Ok(QueueDeleteOk { message_count: fields.long()? })
+    pub(crate) fn read(fields: &Fields<'_>) -> Self {
+        QueueDeleteOk { message_count: fields.long(0) }
     }
 }
 
-impl Fielded for QueueDeleteOk {
+impl MethodInfo for QueueDeleteOk {
     const ID: (u16, u16) = (50, 41);
     const NAME: &'static str = "queue.delete-ok";
-    const NAMES: &'static [&'static str] = &["message-count"];
+    const FIELD_NAMES: &'static [&'static str] = &["message-count"];
+}
 
+impl Built for QueueDeleteOk {
+    type Of<'a> = QueueDeleteOk;
+
+    fn built(fields: &Fields<'_>) -> QueueDeleteOk {
+        QueueDeleteOk::read(fields)
+    }
+}
+
+impl Listed for QueueDeleteOk {
     fn list(&self) -> List<'_> {
         List::of([Some(Field::Long(self.message_count))])
     }
@@ -296,21 +376,31 @@ pub struct QueueUnbind<'a> {
 }
 
 impl<'a> QueueUnbind<'a> {
-    pub(super) fn read(fields: &mut Reader<'a, '_>) -> Result<Self, Error> {
-        Ok(QueueUnbind {
-            queue: fields.short_string()?,
-            exchange: fields.short_string()?,
-            routing_key: fields.short_string()?,
-            arguments: fields.table()?,
-        })
+    pub(crate) fn read(fields: &Fields<'a>) -> Self {
+        QueueUnbind {
+            queue: fields.short_string(0),
+            exchange: fields.short_string(1),
+            routing_key: fields.short_string(2),
+            arguments: fields.table(3),
+        }
     }
 }
 
-impl Fielded for QueueUnbind<'_> {
+impl MethodInfo for QueueUnbind<'_> {
     const ID: (u16, u16) = (50, 50);
     const NAME: &'static str = "queue.unbind";
-    const NAMES: &'static [&'static str] = &["queue", "exchange", "routing-key", "arguments"];
+    const FIELD_NAMES: &'static [&'static str] = &["queue", "exchange", "routing-key", "arguments"];
+}
 
+impl Built for QueueUnbind<'_> {
+    type Of<'a> = QueueUnbind<'a>;
+
+    fn built<'a>(fields: &Fields<'a>) -> QueueUnbind<'a> {
+        QueueUnbind::read(fields)
+    }
+}
+
+impl Listed for QueueUnbind<'_> {
     fn list(&self) -> List<'_> {
         List::of([
             Some(Field::ShortString(self.queue)),
@@ -329,11 +419,21 @@ impl Encode for QueueUnbind<'_> {}
 #[derive(Clone, Copy, Debug, Default, PartialEq, Eq)]
 pub struct QueueUnbindOk;
 
-impl Fielded for QueueUnbindOk {
+impl MethodInfo for QueueUnbindOk {
     const ID: (u16, u16) = (50, 51);
     const NAME: &'static str = "queue.unbind-ok";
-    const NAMES: &'static [&'static str] = &[];
+    const FIELD_NAMES: &'static [&'static str] = &[];
+}
 
+impl Built for QueueUnbindOk {
+    type Of<'a> = QueueUnbindOk;
+
+    fn built(_: &Fields<'_>) -> QueueUnbindOk {
+        QueueUnbindOk
+    }
+}
+
+impl Listed for QueueUnbindOk {
     fn list(&self) -> List<'_> {
         List::of([])
     }

@@ -3,7 +3,9 @@
 // Made by `generate` out of the library's table. Change that, and not this file.
 
 use crate::encode::Encode;
-use crate::field::{Fielded, List};
+use crate::field::{List, Listed};
+use crate::library::fields::Fields;
+use crate::method_info::{Built, MethodInfo};
 
 /// `tx.select`. Makes the channel one of transactions.
 ///
@@ -11,11 +13,21 @@ use crate::field::{Fielded, List};
 #[derive(Clone, Copy, Debug, Default, PartialEq, Eq)]
 pub struct TxSelect;
 
-impl Fielded for TxSelect {
+impl MethodInfo for TxSelect {
     const ID: (u16, u16) = (90, 10);
     const NAME: &'static str = "tx.select";
-    const NAMES: &'static [&'static str] = &[];
+    const FIELD_NAMES: &'static [&'static str] = &[];
+}
 
+impl Built for TxSelect {
+    type Of<'a> = TxSelect;
+
+    fn built(_: &Fields<'_>) -> TxSelect {
+        TxSelect
+    }
+}
+
+impl Listed for TxSelect {
     fn list(&self) -> List<'_> {
         List::of([])
     }
@@ -29,11 +41,21 @@ impl Encode for TxSelect {}
 #[derive(Clone, Copy, Debug, Default, PartialEq, Eq)]
 pub struct TxSelectOk;
 
-impl Fielded for TxSelectOk {
+impl MethodInfo for TxSelectOk {
     const ID: (u16, u16) = (90, 11);
     const NAME: &'static str = "tx.select-ok";
-    const NAMES: &'static [&'static str] = &[];
+    const FIELD_NAMES: &'static [&'static str] = &[];
+}
 
+impl Built for TxSelectOk {
+    type Of<'a> = TxSelectOk;
+
+    fn built(_: &Fields<'_>) -> TxSelectOk {
+        TxSelectOk
+    }
+}
+
+impl Listed for TxSelectOk {
     fn list(&self) -> List<'_> {
         List::of([])
     }
@@ -47,11 +69,21 @@ impl Encode for TxSelectOk {}
 #[derive(Clone, Copy, Debug, Default, PartialEq, Eq)]
 pub struct TxCommit;
 
-impl Fielded for TxCommit {
+impl MethodInfo for TxCommit {
     const ID: (u16, u16) = (90, 20);
     const NAME: &'static str = "tx.commit";
-    const NAMES: &'static [&'static str] = &[];
+    const FIELD_NAMES: &'static [&'static str] = &[];
+}
 
+impl Built for TxCommit {
+    type Of<'a> = TxCommit;
+
+    fn built(_: &Fields<'_>) -> TxCommit {
+        TxCommit
+    }
+}
+
+impl Listed for TxCommit {
     fn list(&self) -> List<'_> {
         List::of([])
     }
@@ -65,11 +97,21 @@ impl Encode for TxCommit {}
 #[derive(Clone, Copy, Debug, Default, PartialEq, Eq)]
 pub struct TxCommitOk;
 
-impl Fielded for TxCommitOk {
+impl MethodInfo for TxCommitOk {
     const ID: (u16, u16) = (90, 21);
     const NAME: &'static str = "tx.commit-ok";
-    const NAMES: &'static [&'static str] = &[];
+    const FIELD_NAMES: &'static [&'static str] = &[];
+}
 
+impl Built for TxCommitOk {
+    type Of<'a> = TxCommitOk;
+
+    fn built(_: &Fields<'_>) -> TxCommitOk {
+        TxCommitOk
+    }
+}
+
+impl Listed for TxCommitOk {
     fn list(&self) -> List<'_> {
         List::of([])
     }
@@ -83,11 +125,21 @@ impl Encode for TxCommitOk {}
 #[derive(Clone, Copy, Debug, Default, PartialEq, Eq)]
 pub struct TxRollback;
 
-impl Fielded for TxRollback {
+impl MethodInfo for TxRollback {
     const ID: (u16, u16) = (90, 30);
     const NAME: &'static str = "tx.rollback";
-    const NAMES: &'static [&'static str] = &[];
+    const FIELD_NAMES: &'static [&'static str] = &[];
+}
 
+impl Built for TxRollback {
+    type Of<'a> = TxRollback;
+
+    fn built(_: &Fields<'_>) -> TxRollback {
+        TxRollback
+    }
+}
+
+impl Listed for TxRollback {
     fn list(&self) -> List<'_> {
         List::of([])
     }
@@ -101,11 +153,21 @@ impl Encode for TxRollback {}
 #[derive(Clone, Copy, Debug, Default, PartialEq, Eq)]
 pub struct TxRollbackOk;
 
-impl Fielded for TxRollbackOk {
+impl MethodInfo for TxRollbackOk {
     const ID: (u16, u16) = (90, 31);
     const NAME: &'static str = "tx.rollback-ok";
-    const NAMES: &'static [&'static str] = &[];
+    const FIELD_NAMES: &'static [&'static str] = &[];
+}
 
+impl Built for TxRollbackOk {
+    type Of<'a> = TxRollbackOk;
+
+    fn built(_: &Fields<'_>) -> TxRollbackOk {
+        TxRollbackOk
+    }
+}
+
+impl Listed for TxRollbackOk {
     fn list(&self) -> List<'_> {
         List::of([])
     }

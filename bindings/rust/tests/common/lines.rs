@@ -4,7 +4,7 @@ use feksroum::{Field, Frame, Payload, ProtocolHeader, Table, Value};
 
 /// The line of a frame, as docs/FORMAT.md has it.
 pub fn line(frame: &Frame<'_>) -> String {
-    let channel = frame.channel;
+    let channel = frame.channel();
     let mut words = match frame.decode().unwrap() {
         Payload::ProtocolHeader(ProtocolHeader { major, minor, revision }) => vec![format!("proto {major}.{minor}.{revision}")],
         Payload::Method(method) => {

@@ -42,12 +42,14 @@ pub fn folder() -> PathBuf {
 }
 
 pub fn example(name: &str) -> Vec<u8> {
-    fs::read(folder().join(name)).unwrap()
+    let path = folder().join(name);
+    fs::read(&path)
+        .unwrap_or_else(|error| panic!("these tests want the examples of the repository, in a clone of it: {}: {error}", path.display()))
 }
 
 /// Those of some commands.
 pub fn examples(commands: &[&str]) -> Vec<Example> {
-    let statuses = fs::read_to_string(folder().join("statuses")).unwrap();
+    let statuses = String::from_utf8(example("statuses")).unwrap();
     let mut found = Vec::new();
     for line in statuses.lines() {
         let mut words = line.split(' ').map(str::to_owned);

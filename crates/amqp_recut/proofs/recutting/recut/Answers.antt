@@ -1,21 +1,15 @@
 -- `recut`: clauses `run`, `never_untidy`, `never_too_large` and `never_faulted`.
-use Rattle.std.proofs.Common.{true, refl}
-use Rattle.amqp_in_turn.proofs.Turning.{goes_run, never_untidy, fresh}
-use Rattle.amqp_recut.specs.Stepping.{is_content_type}
-use Rattle.amqp_recut.proofs.Running.{recuts_by_turns, is_new}
+use Rattle.amqp_stream.proofs.Reporting.{without_report}
 use Rattle.amqp_recut.proofs.recutting.recut.Goals as goal
 
 pub returns-clause-run : goal.returns-clause-run
-returns-clause-run g c =
-    rw c.as_turned.ensures (goes_run is_content_type true (recuts_by_turns c.args.size c.requires.some) _ _ c.run_stream.result (is_new c.args.size _ c.requires.some c.new-writer.ensures.size c.new-writer.ensures.messages) c.run_stream.ensures.run)
+returns-clause-run g c = rw c.unreported.ensures (without_report c.recut_reported.ensures.run)
 
 pub returns-clause-never_untidy : goal.returns-clause-never_untidy
-returns-clause-never_untidy g c = rw c.as_turned.ensures (never_untidy is_content_type true (recuts_by_turns c.args.size c.requires.some) c.run_stream.result c.run_stream.ensures.run)
+returns-clause-never_untidy g c = rw c.unreported.ensures c.recut_reported.ensures.never_untidy
 
 pub returns-clause-never_too_large : goal.returns-clause-never_too_large
-returns-clause-never_too_large g c =
-    rw c.as_turned.ensures (λ e. (fresh is_content_type true (recuts_by_turns c.args.size c.requires.some) c.run_stream.result _ (is_new c.args.size _ c.requires.some c.new-writer.ensures.size c.new-writer.ensures.messages) c.run_stream.ensures.run e).0 refl)
+returns-clause-never_too_large g c = rw c.unreported.ensures c.recut_reported.ensures.never_too_large
 
 pub returns-clause-never_faulted : goal.returns-clause-never_faulted
-returns-clause-never_faulted g c =
-    rw c.as_turned.ensures (λ e. (fresh is_content_type true (recuts_by_turns c.args.size c.requires.some) c.run_stream.result _ (is_new c.args.size _ c.requires.some c.new-writer.ensures.size c.new-writer.ensures.messages) c.run_stream.ensures.run e).1 refl)
+returns-clause-never_faulted g c = rw c.unreported.ensures c.recut_reported.ensures.never_faulted

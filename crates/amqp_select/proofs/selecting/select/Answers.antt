@@ -1,10 +1,9 @@
--- `select`: clause `run`.
-use Rattle.std.proofs.Common.{sym, ◌∙◌}
-use Rattle.amqp_select.proofs.Selected.{all_run, select_run}
+-- `select`: clauses `run` and `never_untidy`.
+use Rattle.amqp_stream.proofs.Reporting.{without_report}
 use Rattle.amqp_select.proofs.selecting.select.Goals as goal
 
 pub returns-clause-run : goal.returns-clause-run
-returns-clause-run g c = select_run _ _ (rw c.unrefused.ensures at c.run_stream.ensures.run)
+returns-clause-run g c = rw c.unreported.ensures (without_report c.select_reported.ensures.run)
 
-pub returns-in-Some-true-clause-run : goal.returns-in-Some-true-clause-run
-returns-in-Some-true-clause-run g c = all_run c.args.rules.now (λ outline. sym c.in-Some-true.field-0-test ∙ c.in-Some-true.ensures.every outline) c.canonicalize.ensures.run
+pub returns-clause-never_untidy : goal.returns-clause-never_untidy
+returns-clause-never_untidy g c = rw c.unreported.ensures c.select_reported.ensures.never_untidy

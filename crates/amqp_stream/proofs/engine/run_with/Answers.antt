@@ -41,7 +41,7 @@ pub front-requires : goal.front-requires
 front-requires g c = c.frames.invariant.turn.within
 
 pub returns-in-Err-write_after-clause-stream : goal.returns-in-Err-write_after-clause-stream
-returns-in-Err-write_after-clause-stream g c = ends_unflushed c.frames.invariant.turn (rw c.front.ensures at c.in-Err-write_after.ensures.written)
+returns-in-Err-write_after-clause-stream g c = ends_unflushed c.frames.invariant.turn (rw c.front.ensures at c.in-Err-write_after.ensures.written) c.skip-in-Err-write_after.ensures.held
 
 pub skip-requires : goal.skip-requires
 skip-requires g c = c.frames.invariant.turn.within

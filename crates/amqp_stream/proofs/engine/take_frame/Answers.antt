@@ -8,7 +8,7 @@ pub with-requires : goal.with-requires
 with-requires g c = omega (arith, c.frame_after.ensures.place)
 
 pub returns-in-Err-clause-takes : goal.returns-in-Err-clause-takes
-returns-in-Err-clause-takes g c = inr (refused_stops c.frame_after.ensures.frame (rw c.in-Err.is at c.pass-passed.ensures.passes) (rw c.front-bytes.ensures at c.stop_after-error.ensures.ends), c.skip-in-Err.ensures.held)
+returns-in-Err-clause-takes g c = (inr (refused_stops c.frame_after.ensures.frame (rw c.in-Err.is at c.pass-passed.ensures.passes) (rw c.front-bytes.ensures at c.stop_after-error.ensures.ends)), c.skip-in-Err.ensures.held)
 
 pub returns-then-stands-clause-takes : goal.returns-then-stands-clause-takes
 returns-then-stands-clause-takes g c =

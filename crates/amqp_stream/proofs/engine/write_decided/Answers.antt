@@ -29,7 +29,7 @@ returns-in-Some-clause-takes g c = λ s decided.
     let passes = passed_as g.W.FrameWriter.manner s c.args.writer.now c.args.decision (sym c.frame_after-raw.ensures.frame) decided in
     let takes = rw c.in-Some.is at passes in
     let stretch = rw c.front.ensures at c.in-Ok.ensures.gathers in
-    written_taken (raw_of c.frame_after-raw.result) c.requires.lies c.frame_after-raw.ensures.frame stretch (decided_writes _ c.in-Some.decision takes c.put_decided.ensures.puts) (λ is. c.put_decided.ensures.compact) c.skip.ensures.held c.empty.ensures
+    written_taken (raw_of c.frame_after-raw.result) c.requires.lies c.frame_after-raw.ensures.frame stretch (decided_writes _ c.in-Some.decision takes c.put_decided.ensures.puts) (λ is. c.put_decided.ensures.compact) c.skip-in-Some.ensures.held c.empty.ensures
 
 pub returns-in-Ok-write_frame-clause-takes : goal.returns-in-Ok-write_frame-clause-takes
 returns-in-Ok-write_frame-clause-takes g c = λ s decided.

@@ -1,7 +1,7 @@
 -- the calls of cycle `put`: what loops keep and what falls with each iteration or call.
 use Rattle.std.proofs.Common.{◌≡◌, ℕ, ◌+◌, ◌*◌, ◌≤◌, drop, map, List, false}
-use Rattle.amqp_types.specs.Values.{array_value, table_value, weight, values_weight, entries_weight, values_of, entries_of}
-use Rattle.amqp_types.specs.ValueBytes.{value_bytes, values_bytes, entries_bytes, any_value_long, any_entry_long}
+use Rattle.amqp_types.specs.Values.{weight, values_weight, entries_weight, values_of, entries_of}
+use Rattle.amqp_types.specs.ValueBytes.{values_bytes, entries_bytes, any_value_long, any_entry_long}
 use Rattle.amqp_values.specs.Views.{value_of}
 use Rattle.amqp_laws.proofs.Pieces.{IsPut}
 use Rattle.amqp_values.proofs.generation.+put.Given as goal
@@ -23,7 +23,7 @@ invariant-put_array-loop-value l =
     record {
       all : map value_of l.value-items ≡ l.array;
       short : any_value_long (values_of (map value_of (drop l.value-index l.value-items))) ≡ false;
-      put : (done : List ℕ) × IsPut l.fn.buf l.buf l.at l.place done (values_bytes (values_of (map value_of (drop l.value-index l.value-items)))) (value_bytes (array_value (values_of l.array)));
+      put : (done : List ℕ) × IsPut l.fn.buf l.buf (l.at + 4) l.end done (values_bytes (values_of (map value_of (drop l.value-index l.value-items)))) (values_bytes (values_of l.array));
     }
 
 abbrev pub invariant-put_table-loop-key : goal.invariant-put_table-loop-key
@@ -31,5 +31,5 @@ invariant-put_table-loop-key l =
     record {
       short : any_entry_long (entries_of l.key-iterator) ≡ false;
       smaller : entries_weight (entries_of l.key-iterator) ≤ entries_weight (entries_of l.table);
-      put : (done : List ℕ) × IsPut l.fn.buf l.buf l.at l.place done (entries_bytes (entries_of l.key-iterator)) (value_bytes (table_value (entries_of l.table)));
+      put : (done : List ℕ) × IsPut l.fn.buf l.buf (l.at + 4) l.end done (entries_bytes (entries_of l.key-iterator)) (entries_bytes (entries_of l.table));
     }

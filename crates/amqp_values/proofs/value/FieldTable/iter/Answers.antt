@@ -4,7 +4,7 @@ use Rattle.std.specs.Map.{keys_of}
 use Rattle.std.specs.List.Sorted.{IsStrictlySortedBy}
 use Rattle.std.specs.Ordering.{nat_cmp}
 use Rattle.std.specs.Cmp.Lexicographic.{slice_cmp}
-use Rattle.amqp_values.proofs.Parts.{keys_of-entries}
+use Rattle.amqp_values.proofs.Pairs.{keys_of-entries}
 use Rattle.amqp_values.proofs.value.FieldTable.iter.Goals as goal
 
 pub returns-clause-rising : goal.returns-clause-rising

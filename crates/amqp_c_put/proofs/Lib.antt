@@ -1,0 +1,2 @@
+-- The lemmas of amqp_c_put.
+pub mod HeadersMasked

@@ -1,0 +1,10 @@
+-- The lemmas of amqp_entries.
+pub mod Holding
+pub mod Reading
+pub mod Flawless
+pub mod Finding
+pub mod Nesting
+pub mod Appended
+pub mod Room
+pub mod Ends
+pub mod AsciiEnds

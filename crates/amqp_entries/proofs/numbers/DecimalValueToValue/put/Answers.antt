@@ -1,0 +1,6 @@
+-- A tag, and both numbers after it.
+use Rattle.amqp_types.proofs.Puts.{puts_then}
+use Rattle.amqp_entries.proofs.numbers.DecimalValueToValue.put.Goals as goal
+
+pub returns : goal.returns
+returns c = puts_then _ _ _ _ _ _ _ _ c.requires.room c.put_bytes-place.ensures c.put_decimal_value.ensures

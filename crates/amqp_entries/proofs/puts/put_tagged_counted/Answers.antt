@@ -1,0 +1,6 @@
+-- `put_tagged_counted`: one put after another.
+use Rattle.amqp_types.proofs.Puts.{puts_then}
+use Rattle.amqp_entries.proofs.puts.put_tagged_counted.Goals as goal
+
+pub returns : goal.returns
+returns c = puts_then _ _ _ _ _ _ _ _ c.requires.room c.put_bytes-place.ensures c.put_counted.ensures

@@ -1,0 +1,7 @@
+-- The definitions of amqp_entries.
+pub mod Flaws
+pub mod Contents
+pub mod Written
+pub mod Found
+pub mod Appending
+pub mod Laws

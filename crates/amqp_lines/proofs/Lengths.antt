@@ -1,0 +1,197 @@
+-- The text of a value is at most four times as long as the bytes that encode it strictly, with the comma after it.
+use Rattle.std.proofs.Common.{◌≡◌, ◌≤◌, ◌<◌, ℕ, zero, suc, ℤ, pos, negsuc, ◌+◌, ◌-◌, ◌*◌, ◌^◌, Bool, true, false, cond, List, [], ◌∷◌, ◌++◌, length, map, take, drop, Option, Some, None, refl, sym, ap, subst, ◌∙◌, inl, inr, arith}
+use Rattle.std.proofs.lemmas.Bool.{cases_Bool}
+use Rattle.std.proofs.lemmas.Bool.Decides.{nat_tests}
+use Rattle.std.proofs.lemmas.Fmt.{length-decimal-le_wide}
+use Rattle.std.proofs.lemmas.List.{length-append, length-map, take_at}
+use Rattle.std.specs.Prelude.{codes, unwrap_or, nat_le, nat_lt, option_and_then, ◌==◌, ◌&&◌}
+use Rattle.std.specs.Int.{cast_signed}
+use Rattle.std.specs.Fmt.{digits_onto, digits, decimal, signed_decimal}
+use Rattle.std.specs.List.{AllByRecursion, flat_map, list_all}
+use Rattle.amqp_types.specs.Levels.{strict}
+use Rattle.amqp_types.specs.Numbers.{NumberWidth, bytes1, bytes2, bytes4, bytes8, byte_count, number_bytes, number_limit, width_of, SpellsNumber}
+use Rattle.amqp_types.specs.Signed.{SpellsSigned}
+use Rattle.amqp_types.specs.Strings.{SpellsLongString}
+use Rattle.amqp_types.specs.Flags.{flags_from}
+use Rattle.amqp_types.specs.Values.{FieldValue, FieldValues, FieldEntries, Entry, boolean_value, signed_value, unsigned_value, decimal_value, bytes_value, array_value, table_value, void_value, long_string, byte_array, no_values, next_value, no_entries, next_entry, items, pairs, entries_of}
+use Rattle.amqp_types.specs.ValueBytes.{signed_width, unsigned_width}
+use Rattle.amqp_types.specs.ValueSpelling.{SpellsEach, SpellsEntry, SpellsArray, SpellsTable, SpellsBehind, SpellsTagged, SpellsValue, SpellsFieldTable}
+use Rattle.amqp_types.specs.Tags.{tag_of}
+use Rattle.amqp_types.specs.declared.tag.FieldTag.{FieldTag}
+use Rattle.amqp_types.specs.declared.tag.FieldTag.TheVariants as tag
+use Rattle.amqp_lines.specs.Words.{hex_byte, hex, is_plain, escaped, quoted, sign, signs, parted}
+use Rattle.amqp_lines.specs.Values.{tag_text, truth_text, content_text, values_texts, entries_texts, value_text, table_text}
+
+-- ---- numbers
+
+pub number_size : (width : NumberWidth) (n : ℕ) → length (number_bytes width n) ≡ byte_count width
+number_size bytes1 n = refl
+number_size bytes2 n = refl
+number_size bytes4 n = refl
+number_size bytes8 n = refl
+
+decimal_long : (k n : ℕ) → 0 < k → n < 10 ^ k → n < 10 ^ 64 → length (decimal n) ≤ k
+decimal_long k n some few most = length-decimal-le_wide k n some few most
+
+pub number_long : (width : NumberWidth) (n : ℕ) → n < number_limit width → length (decimal n) + 1 ≤ 4 * byte_count width
+number_long bytes1 n fits = let h = decimal_long 3 n (omega arith) (omega (arith, fits)) (omega (arith, fits)) in omega (arith, h)
+number_long bytes2 n fits = let h = decimal_long 5 n (omega arith) (omega (arith, fits)) (omega (arith, fits)) in omega (arith, h)
+number_long bytes4 n fits = let h = decimal_long 10 n (omega arith) (omega (arith, fits)) (omega (arith, fits)) in omega (arith, h)
+number_long bytes8 n fits = let h = decimal_long 20 n (omega arith) (omega (arith, fits)) (omega (arith, fits)) in omega (arith, h)
+
+signed_by : (k n m : ℕ) (b : Bool) → length (decimal n) ≤ k → length (decimal (suc m)) ≤ k → length (signed_decimal (cond b (pos n) (negsuc m))) ≤ k + 1
+signed_by k n m true h less = omega (arith, h)
+signed_by k n m false h less = omega (arith, less)
+
+signed_long : (width : NumberWidth) (bits : ℕ) → bits < number_limit width → length (signed_decimal (cast_signed (width_of width) bits)) ≤ 4 * byte_count width + 1
+signed_long bytes1 n fits =
+    let h = signed_by 3 n (2 ^ 8 - suc n) (nat_lt n (2 ^ 7)) (decimal_long 3 n (omega arith) (omega (arith, fits)) (omega (arith, fits))) (decimal_long 3 _ (omega arith) (omega (arith, fits)) (omega (arith, fits))) in
+    omega (arith, h)
+signed_long bytes2 n fits =
+    let h = signed_by 5 n (2 ^ 16 - suc n) (nat_lt n (2 ^ 15)) (decimal_long 5 n (omega arith) (omega (arith, fits)) (omega (arith, fits))) (decimal_long 5 _ (omega arith) (omega (arith, fits)) (omega (arith, fits))) in
+    omega (arith, h)
+signed_long bytes4 n fits =
+    let h = signed_by 10 n (2 ^ 32 - suc n) (nat_lt n (2 ^ 31)) (decimal_long 10 n (omega arith) (omega (arith, fits)) (omega (arith, fits))) (decimal_long 10 _ (omega arith) (omega (arith, fits)) (omega (arith, fits))) in
+    omega (arith, h)
+signed_long bytes8 n fits =
+    let h = signed_by 20 n (2 ^ 64 - suc n) (nat_lt n (2 ^ 63)) (decimal_long 20 n (omega arith) (omega (arith, fits)) (omega (arith, fits))) (decimal_long 20 _ (omega arith) (omega (arith, fits)) (omega (arith, fits))) in
+    omega (arith, h)
+
+-- ---- bytes and strings
+
+each_long : (f : ℕ → List ℕ) → ((n : ℕ) → length (f n) ≤ 3) → (bytes : List ℕ) → length (flat_map f bytes) ≤ 3 * length bytes
+each_long f one [] = omega arith
+each_long f one (byte ∷ bytes) = omega (arith, length-append (f byte) (flat_map f bytes), one byte, each_long f one bytes)
+
+pub hex_long : (bytes : List ℕ) → length (hex bytes) ≤ 3 * length bytes
+unfolding hex hex_byte
+hex_long bytes = each_long hex_byte (λ n. omega arith) bytes
+
+escaped_by : (byte : ℕ) (b : Bool) → length (cond b (byte ∷ []) (codes "\\" ++ hex_byte byte)) ≤ 3
+unfolding hex_byte
+escaped_by byte true = omega arith
+escaped_by byte false = omega arith
+
+escaped_long : (byte : ℕ) → length (escaped byte) ≤ 3
+unfolding escaped
+escaped_long byte = escaped_by byte (is_plain byte)
+
+pub quoted_long : (bytes : List ℕ) → length (quoted bytes) ≤ 3 * length bytes + 2
+unfolding quoted
+quoted_long bytes = omega (arith, length-append (flat_map escaped bytes) (34 ∷ []), each_long escaped escaped_long bytes)
+
+pub signs_long : (flags : List Bool) → length (signs flags) ≡ length flags
+unfolding signs
+signs_long flags = length-map flags sign
+
+-- the lengths of texts, each with that of a comma
+abbrev texts_size : List (List ℕ) → ℕ
+texts_size [] = 0
+texts_size (text ∷ texts) = length text + 1 + texts_size texts
+
+parted_long : (texts : List (List ℕ)) → length (parted texts) ≤ texts_size texts
+unfolding parted
+parted_long [] = omega arith
+parted_long (text ∷ []) = omega arith
+parted_long (text ∷ next ∷ texts) = omega (arith, length-append text (44 ∷ parted (next ∷ texts)), parted_long (next ∷ texts))
+
+pub long_inner : (bytes content : List ℕ) → SpellsLongString bytes content → length bytes ≡ 4 + length content
+long_inner bytes content h = ap length h.bytes_are ∙ (omega (arith, length-append (number_bytes bytes4 (length content)) content, number_size bytes4 (length content)))
+
+-- ---- values
+
+tag_long : (t : FieldTag) → length (tag_text t) ≤ 2
+tag_long tag.Boolean = omega arith
+tag_long tag.ShortShortInt = omega arith
+tag_long tag.ShortShortUInt = omega arith
+tag_long tag.ShortInt = omega arith
+tag_long tag.ShortUInt = omega arith
+tag_long tag.LongInt = omega arith
+tag_long tag.LongUInt = omega arith
+tag_long tag.LongLongInt = omega arith
+tag_long tag.Float = omega arith
+tag_long tag.Double = omega arith
+tag_long tag.DecimalValue = omega arith
+tag_long tag.LongString = omega arith
+tag_long tag.FieldArray = omega arith
+tag_long tag.Timestamp = omega arith
+tag_long tag.FieldTable = omega arith
+tag_long tag.ByteArray = omega arith
+tag_long tag.Void = omega arith
+
+-- the text of a value, with a comma
+abbrev pub IsLong : (List ℕ → FieldValue → Type 0) → Type 0
+IsLong Spelled = (bytes : List ℕ) (v : FieldValue) → Spelled bytes v → length (tag_text (tag_of v) ++ content_text v) + 1 ≤ 4 * length bytes
+
+module _ (Spelled : List ℕ → FieldValue → Type 0) (good : IsLong Spelled) where
+  values_long : (bytes : List ℕ) (vs : FieldValues) → SpellsEach Spelled bytes (items vs) → texts_size (values_texts vs) ≤ 4 * length bytes
+  values_long bytes no_values h = omega arith
+  values_long bytes (next_value v vs) h =
+      omega (arith, ap length h.2, length-append h.0 h.1, good h.0 v h.3, values_long h.1 vs h.4)
+
+  entries_long : (bytes : List ℕ) (es : FieldEntries) → SpellsEach (SpellsEntry Spelled) bytes (pairs es) → texts_size (entries_texts es) ≤ 4 * length bytes
+  entries_long bytes no_entries h = omega arith
+  entries_long bytes (next_entry k v es) h =
+      let entry = h.3 in
+      let key : k ≡ entry.one = ap (λ (e : Entry). e.0) entry.joined in
+      let value : v ≡ entry.two = ap (λ (e : Entry). e.1) entry.joined in
+      let read = subst (Spelled entry.behind) (sym value) entry.second_is in
+      let text = tag_text (tag_of v) ++ content_text v in
+      omega (
+        arith,
+        ap length h.2,
+        length-append h.0 h.1,
+        ap length entry.bytes_are,
+        length-append entry.front entry.behind,
+        ap length entry.first_is.bytes_are,
+        ap length key,
+        quoted_long k,
+        length-append (quoted k) (61 ∷ text),
+        good entry.behind v read,
+        entries_long h.1 es h.4,
+      )
+
+  array_long : (bytes : List ℕ) (vs : FieldValues) → SpellsArray Spelled bytes (items vs) → length (content_text (array_value vs)) ≤ 4 * length bytes + 1
+  array_long bytes vs h =
+      omega (arith, long_inner bytes h.inner h.framed, values_long h.inner vs h.each, parted_long (values_texts vs), length-append (parted (values_texts vs)) (93 ∷ []))
+
+  pub table_long : (bytes : List ℕ) (es : FieldEntries) → SpellsTable strict Spelled bytes (pairs es) → length (content_text (table_value es)) + 1 ≤ 4 * length bytes
+  table_long bytes es h =
+      let P : List Entry → Type 0 = λ fs. SpellsEach (SpellsEntry Spelled) h.inner fs in
+      omega (arith, long_inner bytes h.inner h.framed, entries_long h.inner es (subst P h.once h.each), parted_long (entries_texts es), length-append (parted (entries_texts es)) (125 ∷ []))
+
+module _ (room : ℕ) (Spelled : List ℕ → FieldValue → Type 0) (good : IsLong Spelled) where
+  behind_long : (bytes : List ℕ) (v : FieldValue) → SpellsBehind strict room Spelled bytes v → length (content_text v) ≤ 4 * length bytes + 1
+  behind_long bytes (boolean_value true) h = omega arith
+  behind_long bytes (boolean_value false) h = omega arith
+  behind_long bytes (signed_value kind n) h =
+      omega (arith, ap (λ z. length (signed_decimal z)) h.means, signed_long (signed_width kind) h.bits h.spelled.fits, ap length h.spelled.bytes_are, number_size (signed_width kind) h.bits)
+  behind_long bytes (unsigned_value kind n) h = omega (arith, number_long (unsigned_width kind) n h.fits, ap length h.bytes_are, number_size (unsigned_width kind) n)
+  behind_long bytes (decimal_value scale n) h =
+      let one : scale ≡ h.one = ap (λ (d : ℕ × ℕ). d.0) h.joined in
+      let two : n ≡ h.two = ap (λ (d : ℕ × ℕ). d.1) h.joined in
+      omega (
+        arith,
+        ap length h.bytes_are,
+        length-append h.front h.behind,
+        ap length h.first_is.bytes_are,
+        ap length h.second_is.bytes_are,
+        number_size bytes1 h.one,
+        number_size bytes4 h.two,
+        number_long bytes1 scale (omega (arith, one, h.first_is.fits)),
+        number_long bytes4 n (omega (arith, two, h.second_is.fits)),
+        length-append (decimal scale) (47 ∷ decimal n),
+      )
+  behind_long bytes (bytes_value long_string content) h = omega (arith, long_inner bytes content h, quoted_long content)
+  behind_long bytes (bytes_value byte_array content) h = omega (arith, long_inner bytes content h, hex_long content)
+  behind_long bytes (array_value vs) h = array_long Spelled good bytes vs h.1
+  behind_long bytes (table_value es) h = omega (arith, table_long Spelled good bytes es h.1)
+  behind_long bytes void_value h = omega arith
+
+tagged_long : (Spelled : List ℕ → FieldValue → Type 0) → ((bytes : List ℕ) (v : FieldValue) → Spelled bytes v → length (content_text v) ≤ 4 * length bytes + 1) → IsLong (SpellsTagged strict Spelled)
+tagged_long Spelled good bytes v h = omega (arith, ap length h.bytes_are, good h.behind v h.value_is, tag_long (tag_of v), length-append (tag_text (tag_of v)) (content_text v))
+
+pub value_long : (room : ℕ) → IsLong (SpellsValue strict room)
+unfolding SpellsValue
+value_long zero = tagged_long (SpellsBehind strict 0 (λ _ _. ⊥)) (behind_long 0 (λ _ _. ⊥) (λ bytes v h. absurd h))
+value_long (suc room) = tagged_long (SpellsBehind strict (suc room) (SpellsValue strict room)) (behind_long (suc room) (SpellsValue strict room) (value_long room))

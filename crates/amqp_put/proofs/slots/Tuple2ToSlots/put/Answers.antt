@@ -1,0 +1,6 @@
+-- The fields of a pair, put one after another.
+use Rattle.amqp_types.proofs.Puts.{puts_then}
+use Rattle.amqp_put.proofs.slots.Tuple2ToSlots.put.Goals as goal
+
+pub returns : goal.returns
+returns g c = puts_then _ _ _ _ _ _ _ _ c.requires.room c.put-place.ensures c.put.ensures

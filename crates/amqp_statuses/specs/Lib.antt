@@ -1,0 +1,2 @@
+-- The definitions of amqp_statuses.
+pub mod Statuses

@@ -1,0 +1,16 @@
+-- Sequences of frames with equal canonical bytes encode the same frames.
+use Rattle.std.proofs.Common.{ℕ, List, Some, sym, subst}
+use Rattle.amqp_types.specs.Levels.{Level}
+use Rattle.amqp_wire.specs.Frames.{Frame}
+use Rattle.amqp_wire.specs.Fronts.{front}
+use Rattle.amqp_wire.specs.Spelling.{SpellsFrames}
+use Rattle.amqp_wire.proofs.Sequences.{sequence_front}
+use Rattle.amqp_wire.proofs.Strictness.{same_frames}
+use Rattle.amqp_stream.specs.Canonicalizing.{EqualOutputIsEqualFrames}
+use Rattle.amqp_stream.specs.Transcribing.{IsSequence}
+
+encoded : (level : Level) (m : ℕ) (bytes : List ℕ) → IsSequence level m bytes → SpellsFrames level (Some m) bytes (front level (Some m) bytes)
+encoded level m bytes is = subst (λ (frames : List Frame). SpellsFrames level (Some m) bytes frames) (sym (sequence_front level (Some m) bytes is.0 is.1)) is.1
+
+pub equal_output : EqualOutputIsEqualFrames
+equal_output level m a b one two = same_frames level (Some m) a b (front level (Some m) a) (front level (Some m) b) (encoded level m a one) (encoded level m b two)
