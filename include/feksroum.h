@@ -30,7 +30,7 @@
  * Stack: a call takes at most about 40 KiB of it, however large a frame is.
  * Time: linear in the bytes, but for tables whose entries stand in no order. Those are sorted, in time n log n for n entries,
  * where a call that canonicalizes is given a scratch (feksroum_scratch says how long); without one a table of more than 256
- * entries takes time quadratic in their number. The README beside the bindings has numbers.
+ * entries takes time quadratic in their number. docs/PERFORMANCE.md has numbers.
  */
 #ifndef FEKSROUM_H
 #define FEKSROUM_H
