@@ -11,8 +11,8 @@ from ._arguments import OCTET_MOST, whole
 from ._buffers import MAX_PAYLOAD, SHORTEST, Room, address_of, bytes_of, limit_of, view_of
 from ._errors import BUFFER_TOO_SMALL, CutShort, error_of
 from ._library import HEAD, LARGE, NODE, SMALL, SMALL_INPUT, Batch, library_for
-from ._reading import method_of, properties_of
-from .methods import METHODS, Method, Properties
+from ._reading import METHOD_READERS, properties_of
+from .methods import Method, Properties
 
 
 class FrameType(enum.IntEnum):
@@ -129,6 +129,7 @@ _SIZES = tuple(map(ctypes.c_size_t, range(1024)))
 _direct = SMALL["feksroum_frames"]
 _direct.restype = Batch
 _unpack_batch = struct.Struct("=QQ3I4x").unpack
+_unpack_head, _HEAD_SIZE = HEAD.unpack_from, HEAD.size
 SHALLOW, DEEP = 0, 1
 _METHOD, _HEADER = int(FrameType.METHOD), int(FrameType.HEADER)
 
@@ -193,20 +194,17 @@ class BatchReader:
         if status == BUFFER_TOO_SMALL and count == 0:
             used, needed, count, listed, status = _unpack_batch(self._fill(data, at, size))
         heads, nodes = self._heads.octets, self._nodes.octets
+        # The spans of heads and nodes count from `at`: from there on the window has the same bytes.
         window = data[at : at + used] if at and listed else data
-        for start in range(0, count * HEAD.size, HEAD.size):
-            found.append(_frame_of(HEAD.unpack_from(heads, start), data, at, window, nodes))
+        for start in range(0, count * _HEAD_SIZE, _HEAD_SIZE):
+            head = _unpack_head(heads, start)
+            frame = Frame(head, data, at)
+            if head[8] == _METHOD:
+                frame.method = METHOD_READERS[head[6], head[7]](window, nodes, head[3])
+            elif head[8] == _HEADER:
+                frame.properties = properties_of(window, nodes, head[3], head[3] + head[4])
+            found.append(frame)
         return used, needed, status
-
-
-def _frame_of(head: Tuple[int, ...], data: bytes, at: int, window: bytes, nodes: Any) -> Frame:
-    """A frame of a head and of nodes, whose spans count from a place in the data: from there on the window has the same bytes."""
-    frame = Frame(head, data, at)
-    if head[8] == _METHOD:
-        frame.method = method_of(METHODS[head[6], head[7]], window, nodes, head[3])
-    elif head[8] == _HEADER:
-        frame.properties = properties_of(window, nodes, head[3], head[3] + head[4])
-    return frame
 
 
 def frames(data: Any, max_payload: int = MAX_PAYLOAD) -> Iterator[Frame]:

@@ -5,11 +5,10 @@ first.
 """
 
 import datetime
-import functools
 import struct
 from decimal import Decimal
 from itertools import islice
-from typing import Any, Callable, Iterator, List, NamedTuple, Optional, Tuple, Type, cast
+from typing import Any, Callable, Dict, Iterator, List, Tuple, Type, cast
 
 from ._kinds import (
     ARRAY, BYTE_ARRAY, DECIMAL, FLAG, FLOAT32, FLOAT64, INNER_TABLE, INT32, INT64, LONG_LONG, LONG_STRING, NOTHING, SHORT_STRING,
@@ -133,47 +132,43 @@ def _field_of(source: bytes, nodes: Any, index: int, kind: int, node: Tuple[int,
     return read_table_of(source, nodes, index + 1, inside, items)
 
 
-class _Plan(NamedTuple):
-    """How the nodes of a method without tables are unpacked at once: of numbers and flags the number, of strings the span."""
-
-    unpack: Callable[[Any, int], Tuple[int, ...]]
-    fields: Tuple[Tuple[str, int], ...]
-
-
-_PARTS = {SHORT_STRING: "8x2I16x", LONG_STRING: "8x2I16x"}
+_Reader = Callable[[bytes, Any, int], Method]
+_new = object.__new__
+#: What is unpacked of the node of a field that is no table: a number; of a flag, whether it is set; of a string, where it lies.
+_PARTS = {FLAG: "?31x", SHORT_STRING: "8x2I16x", LONG_STRING: "8x2I16x"}
 
 
-@functools.lru_cache(maxsize=None)
-def _plan_of(ids: Tuple[int, int]) -> Optional[_Plan]:
-    """The plan of a method; None where it has a table, behind whose nodes those of other fields may stand."""
-    method = METHODS[ids]
-    if TABLE in method.kinds:
-        return None
-    return _Plan(struct.Struct("=" + "".join(_PARTS.get(kind, "Q24x") for kind in method.kinds)).unpack_from, method.fields)
+def _reader_of(method: Type[Method]) -> _Reader:
+    """What reads a method without tables. Its code is generated, as `dataclasses` does: a loop over the fields takes twice as long."""
+    targets, strings = [], []
+    for place, (name, kind) in enumerate(method.fields):
+        if kind < SHORT_STRING:
+            targets.append(f"made.{name}")
+        else:
+            targets.append(f"start{place}, length{place}")
+            text = f"source[start{place} : start{place} + length{place}]"
+            strings.append(f"made.{name} = {text}.decode()" if kind == SHORT_STRING else f"made.{name} = {text}")
+    unpacked = [f"{', '.join(targets)}, = unpack(nodes, index * {NODE_SIZE})"] if targets else []
+    lines = ["made = new(method)", *unpacked, *strings, "return made"]
+    unpack = struct.Struct("=" + "".join(_PARTS.get(kind, "Q24x") for kind in method.kinds)).unpack_from
+    names: Dict[str, Any] = {"method": method, "new": _new, "unpack": unpack}
+    exec("\n    ".join(["def read(source, nodes, index):", *lines]), names)
+    return cast(_Reader, names["read"])
 
 
-def method_of(method: Type[Method], source: bytes, nodes: Any, index: int) -> Method:
-    """The method whose fields' nodes begin at `index`."""
-    made, plan = method.__new__(method), _plan_of(method.ids)
-    if plan is None:
-        return _with_tables(made, source, nodes, index)
-    numbers, at = plan.unpack(nodes, index * NODE_SIZE), 0
-    for name, kind in plan.fields:
-        value: Any = numbers[at]
-        at += 1
-        if kind == FLAG:
-            value = value == 1
-        elif kind >= SHORT_STRING:
-            value = source[value : value + numbers[at]]
-            at += 1
-            if kind == SHORT_STRING:
-                value = value.decode()
-        setattr(made, name, value)
-    return made
+def _reader_with_tables(method: Type[Method]) -> _Reader:
+    """What reads a method with tables, behind whose nodes those of other fields stand."""
+    return lambda source, nodes, index: _with_tables(_new(method), source, nodes, index)
+
+
+#: What reads the method of these ids from nodes that begin at an index.
+METHOD_READERS: Dict[Tuple[int, int], _Reader] = {
+    ids: _reader_with_tables(method) if TABLE in method.kinds else _reader_of(method) for ids, method in METHODS.items()
+}
 
 
 def _with_tables(made: Method, source: bytes, nodes: Any, index: int) -> Method:
-    """The same of a method that has tables."""
+    """Fills a method that has tables."""
     for name, kind in made.fields:
         node = FIELD_NODE.unpack_from(nodes, index * NODE_SIZE)
         setattr(made, name, node[0] if kind <= LONG_LONG else _field_of(source, nodes, index, kind, node))
