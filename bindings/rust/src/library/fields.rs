@@ -115,6 +115,7 @@ impl<'a> Fields<'a> {
     /// Reads the payload, without what lies inside its tables. Where that is refused, it stays unread.
     // In place, since a result with all fields would be moved about.
     #[inline]
+    #[allow(clippy::cast_possible_truncation)]
     pub fn read(&mut self) -> Result<(), Error> {
         const SHALLOW: u8 = 0;
         let payload = self.found_payload().ok_or(UNFIT)?;
@@ -125,16 +126,16 @@ impl<'a> Fields<'a> {
         if found.status != 0 {
             return Err(Error::of_payload(found.status, payload));
         }
-        let count = u8::try_from(found.nodes).ok().filter(|count| usize::from(*count) <= MOST_FIELDS).ok_or(UNFIT)?;
+        let count = usize::try_from(found.nodes).ok().filter(|count| *count <= MOST_FIELDS).ok_or(UNFIT)?;
         // SAFETY: at status 0 the library has written so many nodes, no more than there is room for.
-        let nodes = unsafe { std::slice::from_raw_parts(pointer, count.into()) };
+        let nodes = unsafe { std::slice::from_raw_parts(pointer, count) };
         if self.frame_type == FrameType::Header {
             self.slots.by_place(nodes)?;
         } else {
             self.slots.in_order(nodes);
         }
         (self.body_size, self.class_id, self.method_id) = (found.body_size, found.class_id, found.method_id);
-        (self.count, self.is_canonical, self.is_tidy) = (count, found.canonical.into(), found.tidy.into());
+        (self.count, self.is_canonical, self.is_tidy) = (count as u8, found.canonical.into(), found.tidy.into());
         Ok(())
     }
 
