@@ -91,7 +91,14 @@ pub fn check(frame_type: FrameType, payload: &[u8]) -> Result<Summary, Error> {
 }
 
 /// A whole frame, borrowed from the bytes that it was found in. It is read once: [`decode`](Frame::decode) does not look at its
-/// bytes again.
+/// bytes again. What it says is what its bytes say, so nothing of it is set:
+///
+/// ```compile_fail,E0615
+/// # use feksroum::{Frame, MAX_PAYLOAD};
+/// let mut frame = Frame::first(&[3, 0, 1, 0, 0, 0, 1, b'x', 206], MAX_PAYLOAD)?;
+/// frame.payload = b"y";
+/// # Ok::<(), feksroum::Error>(())
+/// ```
 #[derive(Clone, Copy)]
 pub struct Frame<'a> {
     fields: Fields<'a>,
