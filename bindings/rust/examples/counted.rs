@@ -47,8 +47,14 @@ fn main() -> Result<(), Box<dyn Error>> {
     let mut wire = Vec::with_capacity(1000);
     let length = encode(ack, &headers, &mut wire)?;
     let mut sum = 0;
-    for _ in 0..count {
-        sum += if what == "encode" { encode(ack, &headers, &mut wire)? as u64 } else { decode(&wire)? };
+    if what == "encode" {
+        for _ in 0..count {
+            sum += encode(ack, &headers, &mut wire)? as u64;
+        }
+    } else {
+        for _ in 0..count {
+            sum += decode(&wire)?;
+        }
     }
     println!("{length} bytes, {sum}");
     Ok(())

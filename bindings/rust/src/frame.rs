@@ -2,7 +2,7 @@
 
 use crate::error::Error;
 use crate::library;
-use crate::library::fields::{self, Fields, Found};
+use crate::library::fields::Fields;
 use crate::owned::OwnedFrame;
 use crate::payload::Payload;
 use std::fmt;
@@ -38,15 +38,6 @@ impl FrameType {
             8 => Ok(FrameType::Heartbeat),
             65 => Ok(FrameType::ProtocolHeader),
             _ => Err(Error::UnknownFrameType),
-        }
-    }
-
-    /// How many bytes of a frame come before its payload.
-    #[inline]
-    fn payload_start(self) -> usize {
-        match self {
-            FrameType::ProtocolHeader => 5,
-            _ => 7,
         }
     }
 }
@@ -100,12 +91,16 @@ pub fn check(frame_type: FrameType, payload: &[u8]) -> Result<Summary, Error> {
 }
 
 /// A whole frame, borrowed from the bytes that it was found in. It is read once: [`decode`](Frame::decode) does not look at its
-/// bytes again.
+/// bytes again. What it says is what its bytes say, so nothing of it is set:
+///
+/// ```compile_fail,E0615
+/// # use feksroum::{Frame, MAX_PAYLOAD};
+/// let mut frame = Frame::first(&[3, 0, 1, 0, 0, 0, 1, b'x', 206], MAX_PAYLOAD)?;
+/// frame.payload = b"y";
+/// # Ok::<(), feksroum::Error>(())
+/// ```
 #[derive(Clone, Copy)]
 pub struct Frame<'a> {
-    frame_type: FrameType,
-    channel: u16,
-    found: Found,
     fields: Fields<'a>,
 }
 
@@ -118,55 +113,74 @@ impl<'a> Frame<'a> {
     /// bytes follow.
     #[inline]
     pub fn first(bytes: &'a [u8], max_payload: u32) -> Result<Frame<'a>, Error> {
+        // It is read where it is returned, since it is large to move.
+        let mut frame = Frame::unread(bytes, max_payload);
+        if let Ok(found) = &mut frame {
+            if let Err(error) = found.fields.read() {
+                frame = Err(error);
+            }
+        }
+        frame
+    }
+
+    /// The frame in front of some bytes, whose payload is not read.
+    #[inline]
+    fn unread(bytes: &'a [u8], max_payload: u32) -> Result<Frame<'a>, Error> {
+        const UNFIT: Error = Error::Incompatible(0);
         let outer = library::next(bytes, max_payload);
         Error::of_status(outer.status)?;
         let frame_type = FrameType::from_byte(outer.frame_type)?;
-        let used = usize::try_from(outer.used).map_err(|_| Error::Incompatible(0))?;
-        let length = usize::try_from(outer.payload_length).map_err(|_| Error::Incompatible(0))?;
-        let bytes = bytes.get(..used).ok_or(Error::Incompatible(0))?;
-        let (found, fields) = fields::read(outer.frame_type, bytes, frame_type.payload_start(), length)?;
-        Ok(Frame { frame_type, channel: outer.channel, found, fields })
+        let bytes = usize::try_from(outer.used).ok().and_then(|used| bytes.get(..used)).ok_or(UNFIT)?;
+        let start = u16::try_from(outer.payload_start).map_err(|_| UNFIT)?;
+        let length = u32::try_from(outer.payload_length).map_err(|_| UNFIT)?;
+        Ok(Frame { fields: Fields::unread(frame_type, outer.channel, bytes, start, length) })
     }
 
     /// The frame that is kept.
-    pub(crate) fn kept(frame_type: FrameType, channel: u16, found: Found, fields: Fields<'a>) -> Frame<'a> {
-        Frame { frame_type, channel, found, fields }
+    #[inline]
+    pub(crate) fn kept(fields: Fields<'a>) -> Frame<'a> {
+        Frame { fields }
     }
 
-    /// What was found in its payload, and its fields.
-    pub(crate) fn parts(&self) -> (&Found, &Fields<'a>) {
-        (&self.found, &self.fields)
+    /// What was found in its payload.
+    #[inline]
+    pub(crate) fn fields(&self) -> &Fields<'a> {
+        &self.fields
     }
 
     /// What it is.
     #[must_use]
+    #[inline]
     pub fn frame_type(&self) -> FrameType {
-        self.frame_type
+        self.fields.frame_type
     }
 
     /// Its channel, 0 for a protocol header.
     #[must_use]
+    #[inline]
     pub fn channel(&self) -> u16 {
-        self.channel
+        self.fields.channel
     }
 
     /// Its payload, of a protocol header the three version bytes.
     #[must_use]
+    #[inline]
     pub fn payload(&self) -> &'a [u8] {
         self.fields.payload()
     }
 
     /// All of its bytes.
     #[must_use]
+    #[inline]
     pub fn bytes(&self) -> &'a [u8] {
         self.fields.bytes()
     }
 
     /// What stands in the payload, without its fields.
     #[must_use]
+    #[inline]
     pub fn summary(&self) -> Summary {
-        let Found { body_size, nodes, class_id, method_id, canonical, tidy, .. } = self.found;
-        Summary { class_id, method_id, body_size, fields: u8::try_from(nodes).unwrap_or(u8::MAX), canonical, tidy }
+        self.fields.summary()
     }
 
     /// What stands in the payload, with all fields, borrowed.
@@ -188,7 +202,7 @@ impl<'a> Frame<'a> {
     /// [`Error::Incompatible`] alone, where another version of the library is linked.
     #[inline]
     pub fn decode(&self) -> Result<Payload<'a>, Error> {
-        Payload::of(self.frame_type, &self.found, &self.fields)
+        Payload::of(&self.fields)
     }
 
     /// The frame with bytes of its own.
@@ -216,10 +230,11 @@ impl Hash for Frame<'_> {
 impl fmt::Debug for Frame<'_> {
     /// Its type, its channel, the ids of a method or a content header, and how many bytes its payload has.
     fn fmt(&self, f: &mut fmt::Formatter<'_>) -> fmt::Result {
-        write!(f, "{:?} on {}", self.frame_type, self.channel)?;
-        match self.frame_type {
-            FrameType::Method => write!(f, ", {}.{}", self.found.class_id, self.found.method_id)?,
-            FrameType::Header => write!(f, ", of {} bytes", self.found.body_size)?,
+        let (class_id, method_id) = self.fields.ids();
+        write!(f, "{:?} on {}", self.frame_type(), self.channel())?;
+        match self.frame_type() {
+            FrameType::Method => write!(f, ", {class_id}.{method_id}")?,
+            FrameType::Header => write!(f, ", of {} bytes", self.fields.body_size())?,
             _ => {}
         }
         write!(f, ", payload {}", self.payload().len())
@@ -297,12 +312,12 @@ impl<'a> Iterator for Frames<'a> {
         if self.ended || self.rest().is_empty() {
             return None;
         }
-        let frame = Frame::first(self.rest(), self.max_payload);
+        let frame = Some(Frame::first(self.rest(), self.max_payload));
         match &frame {
-            Ok(frame) => self.used += frame.bytes().len(),
-            Err(_) => self.ended = true,
+            Some(Ok(frame)) => self.used += frame.bytes().len(),
+            _ => self.ended = true,
         }
-        Some(frame)
+        frame
     }
 }
 

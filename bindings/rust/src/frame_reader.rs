@@ -178,7 +178,8 @@ impl FrameReader {
         match self.fault {
             Some(fault) => Err(fault),
             None if self.held().is_empty() => Ok(()),
-            None => Err(Error::CutShort),
+            // Fewer bytes than were waited for may begin no frame at all.
+            None => Err(Frame::first(self.held(), self.max_payload).err().unwrap_or(Error::CutShort)),
         }
     }
 

@@ -57,6 +57,14 @@ pub fn append(out: &mut Vec<u8>, put: impl Fn(&mut [MaybeUninit<u8>]) -> Made) -
     made
 }
 
+/// What a table says that cannot be handed on.
+#[cold]
+fn refused(error: Error) -> Made {
+    const NO_MEMORY: u32 = 3;
+    const TOO_LARGE: u32 = 12;
+    Made::refused(if error == Error::NoMemory { NO_MEMORY } else { TOO_LARGE })
+}
+
 /// A slice as room, in which nothing but bytes is put.
 pub fn room(out: &mut [u8]) -> &mut [MaybeUninit<u8>] {
     let (pointer, length) = (out.as_mut_ptr().cast(), out.len());

@@ -182,7 +182,7 @@ impl Message {
     #[must_use]
     pub fn opening(&self) -> Opening<'_> {
         let frame = self.opening.as_frame();
-        let (_, fields) = frame.parts();
+        let fields = frame.fields();
         match self.opens {
             Opens::Publish => Opening::Publish(BasicPublish::read(fields)),
             Opens::Return => Opening::Return(BasicReturn::read(fields)),
@@ -206,9 +206,7 @@ impl Message {
     /// What is said of the body, borrowed.
     #[must_use]
     pub fn properties(&self) -> Properties<'_> {
-        let frame = self.header.as_frame();
-        let (_, fields) = frame.parts();
-        Properties::read(fields)
+        Properties::read(self.header.as_frame().fields())
     }
 
     /// Says something else of the body.

@@ -269,10 +269,10 @@ macro_rules! each {
 }
 
 impl<'a> Method<'a> {
-    /// The method with these ids and fields, whose kinds have to be its own: four bits each, the first one lowest.
-    pub(crate) fn read(class_id: u16, method_id: u16, fields: &Fields<'a>) -> Result<Method<'a>, Error> {
+    /// The method with these fields, whose kinds have to be its own: four bits each, the first one lowest.
+    pub(crate) fn read(fields: &Fields<'a>) -> Result<Method<'a>, Error> {
         let kinds = fields.kinds();
-        Ok(match (class_id, method_id) {
+        Ok(match fields.ids() {
             (10, 10) if kinds == 0x77811 => Method::ConnectionStart(ConnectionStart::read(fields)),
             (10, 11) if kinds == 0x6768 => Method::ConnectionStartOk(ConnectionStartOk::read(fields)),
             (10, 20) if kinds == 0x7 => Method::ConnectionSecure(ConnectionSecure::read(fields)),

@@ -7,8 +7,8 @@
 
 use crate::encode::{Encode, EncodeError, Encoder};
 use crate::error::Error;
-use crate::frame::{Frame, FrameType};
-use crate::library::fields::{Found, OwnedFields};
+use crate::frame::Frame;
+use crate::library::fields::OwnedFields;
 use crate::method_info::MethodInfo;
 use crate::payload::Payload;
 use std::fmt;
@@ -31,9 +31,6 @@ use std::marker::PhantomData;
 /// ```
 #[derive(Clone)]
 pub struct OwnedFrame {
-    frame_type: FrameType,
-    channel: u16,
-    found: Found,
     fields: OwnedFields,
 }
 
@@ -60,7 +57,7 @@ impl OwnedFrame {
     /// The frame, borrowed.
     #[must_use]
     pub fn as_frame(&self) -> Frame<'_> {
-        Frame::kept(self.frame_type, self.channel, self.found, self.fields.fields())
+        Frame::kept(self.fields.fields())
     }
 
     /// What stands in the payload, as [`Frame::decode`] gives it.
@@ -76,8 +73,7 @@ impl OwnedFrame {
 impl From<Frame<'_>> for OwnedFrame {
     /// Copies the frame's bytes.
     fn from(frame: Frame<'_>) -> OwnedFrame {
-        let (found, fields) = frame.parts();
-        OwnedFrame { frame_type: frame.frame_type(), channel: frame.channel(), found: *found, fields: fields.into_owned() }
+        OwnedFrame { fields: frame.fields().into_owned() }
     }
 }
 
@@ -121,9 +117,7 @@ impl<M: MethodInfo> OwnedMethod<M> {
     /// The method, borrowed.
     #[must_use]
     pub fn get(&self) -> M::Of<'_> {
-        let frame = self.frame.as_frame();
-        let (_, fields) = frame.parts();
-        M::built(fields)
+        M::built(self.frame.as_frame().fields())
     }
 }
 

@@ -4,7 +4,7 @@ use crate::encode::Encode;
 use crate::error::Error;
 use crate::frame::FrameType;
 use crate::library;
-use crate::library::fields::{self, Fields, Found};
+use crate::library::fields::Fields;
 use crate::method::Method;
 use crate::properties::Properties;
 use crate::put::{Put, To};
@@ -33,16 +33,18 @@ impl<'a> Payload<'a> {
     ///
     /// The payload's fault, where it is no frame.
     pub fn read(frame_type: FrameType, payload: &'a [u8]) -> Result<Payload<'a>, Error> {
-        let (found, fields) = fields::read(frame_type as u8, payload, 0, payload.len())?;
-        Payload::of(frame_type, &found, &fields)
+        let length = u32::try_from(payload.len()).map_err(|_| Error::TooLarge)?;
+        let mut fields = Fields::unread(frame_type, 0, payload, 0, length);
+        fields.read()?;
+        Payload::of(&fields)
     }
 
     /// What stands in a payload that was read.
     #[inline]
-    pub(crate) fn of(frame_type: FrameType, found: &Found, fields: &Fields<'a>) -> Result<Payload<'a>, Error> {
-        Ok(match frame_type {
-            FrameType::Method => Payload::Method(Method::read(found.class_id, found.method_id, fields)?),
-            FrameType::Header => Payload::Header(ContentHeader::read(found.class_id, found.body_size, fields)),
+    pub(crate) fn of(fields: &Fields<'a>) -> Result<Payload<'a>, Error> {
+        Ok(match fields.frame_type {
+            FrameType::Method => Payload::Method(Method::read(fields)?),
+            FrameType::Header => Payload::Header(ContentHeader::read(fields)),
             FrameType::Body => Payload::Body(fields.payload()),
             FrameType::Heartbeat => Payload::Heartbeat,
             FrameType::ProtocolHeader => Payload::ProtocolHeader(ProtocolHeader::read(fields)?),
@@ -111,8 +113,8 @@ impl<'a> ContentHeader<'a> {
     }
 
     #[inline]
-    fn read(class_id: u16, body_size: u64, fields: &Fields<'a>) -> ContentHeader<'a> {
-        ContentHeader { class_id, body_size, properties: Properties::read(fields) }
+    fn read(fields: &Fields<'a>) -> ContentHeader<'a> {
+        ContentHeader { class_id: fields.ids().0, body_size: fields.body_size(), properties: Properties::read(fields) }
     }
 }
 

@@ -60,8 +60,8 @@ impl Rules {
     ///
     /// [`Error::Incompatible`] alone, where another version of the library is linked.
     pub fn decide(&self, frame: &Frame<'_>) -> Result<bool, Error> {
-        let (found, _) = frame.parts();
-        match library::decide(&self.numbers, frame.frame_type() as u8, frame.channel(), found.class_id, found.method_id) {
+        let (class_id, method_id) = frame.fields().ids();
+        match library::decide(&self.numbers, frame.frame_type() as u8, frame.channel(), class_id, method_id) {
             0 => Ok(false),
             1 => Ok(true),
             status => Err(Error::Incompatible(status.into())),

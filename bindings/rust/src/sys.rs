@@ -2,6 +2,8 @@
 
 pub mod puts;
 
+use std::mem::MaybeUninit;
+
 #[repr(C)]
 #[derive(Clone, Copy, Debug, Default)]
 pub struct Frame {
@@ -81,7 +83,7 @@ impl Made {
     }
 }
 
-/// Bytes of a caller, none where the pointer is null.
+/// Bytes of a caller.
 #[repr(C)]
 #[derive(Clone, Copy, Debug)]
 pub struct Bytes {
@@ -89,7 +91,7 @@ pub struct Bytes {
     pub length: usize,
 }
 
-/// The properties that `set` names.
+/// The properties that `set` names; the others are not looked at.
 #[repr(C)]
 #[derive(Clone, Copy, Debug)]
 pub struct BasicProperties {
@@ -98,17 +100,17 @@ pub struct BasicProperties {
     pub priority: u8,
     pub unused: u32,
     pub timestamp: u64,
-    pub content_type: Bytes,
-    pub content_encoding: Bytes,
-    pub headers: Bytes,
-    pub correlation_id: Bytes,
-    pub reply_to: Bytes,
-    pub expiration: Bytes,
-    pub message_id: Bytes,
-    pub kind: Bytes,
-    pub user_id: Bytes,
-    pub app_id: Bytes,
-    pub cluster_id: Bytes,
+    pub content_type: MaybeUninit<Bytes>,
+    pub content_encoding: MaybeUninit<Bytes>,
+    pub headers: MaybeUninit<Bytes>,
+    pub correlation_id: MaybeUninit<Bytes>,
+    pub reply_to: MaybeUninit<Bytes>,
+    pub expiration: MaybeUninit<Bytes>,
+    pub message_id: MaybeUninit<Bytes>,
+    pub kind: MaybeUninit<Bytes>,
+    pub user_id: MaybeUninit<Bytes>,
+    pub app_id: MaybeUninit<Bytes>,
+    pub cluster_id: MaybeUninit<Bytes>,
 }
 
 #[repr(C)]

@@ -118,13 +118,13 @@ impl Turns {
 
     /// What a frame is to its channel.
     pub fn look(&self, frame: &Frame<'_>) -> Result<Turn, Error> {
-        let (found, fields) = frame.parts();
+        let (class_id, method_id) = frame.fields().ids();
         let size = match frame.frame_type() {
-            FrameType::Header => found.body_size,
-            _ => fields.payload().len() as u64,
+            FrameType::Header => frame.fields().body_size(),
+            _ => frame.payload().len() as u64,
         };
         let channel = self.channels.get(&frame.channel()).copied().unwrap_or_default();
-        let found = library::step(channel, frame.frame_type() as u8, found.class_id, found.method_id, size, self.max_body);
+        let found = library::step(channel, frame.frame_type() as u8, class_id, method_id, size, self.max_body);
         let part = match (found.status, found.part, ContentFault::of_number(found.fault)) {
             (0, 0, None) => Ok(Part::None),
             (0, 1, None) => Ok(Part::Opening),

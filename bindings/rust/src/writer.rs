@@ -36,7 +36,7 @@ impl Writer {
 
     /// Appends the canonical bytes of a frame.
     pub fn frame(&mut self, frame: &Frame<'_>, out: &mut Vec<u8>) -> Result<(), Error> {
-        if frame.summary().canonical {
+        if frame.fields().is_canonical() {
             return put(out, &[frame.bytes()]);
         }
         self.frames(frame.bytes(), out).end

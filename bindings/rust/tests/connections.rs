@@ -59,6 +59,13 @@ fn a_fault_stays_and_has_its_place() {
     let (mut reader, mut cut) = (FrameReader::new(MAX_PAYLOAD), &[beat, beat].concat()[..15]);
     assert!(reader.read_frame(&mut cut).unwrap().is_some());
     assert!(matches!(reader.read_frame(&mut cut), Err(StreamError::Frame { error: Error::CutShort, offset: 8 })));
+    for (mut bytes, error) in [(&[4][..], Error::UnknownFrameType), (b"AMQX", Error::BadProtocolHeader), (b"AMQ", Error::CutShort)] {
+        let mut reader = FrameReader::new(MAX_PAYLOAD);
+        bytes.iter().for_each(|byte| reader.feed(&[*byte]).unwrap());
+        assert_eq!(reader.finish(), Err(error));
+        let mut reader = FrameReader::new(MAX_PAYLOAD);
+        assert!(matches!(reader.read_frame(&mut bytes), Err(StreamError::Frame { error: found, offset: 0 }) if found == error));
+    }
     let mut reader = FrameReader::new(MAX_PAYLOAD);
     reader.set_max_payload(1);
     reader.feed(&[3, 0, 1, 0, 0, 0, 2]).unwrap();

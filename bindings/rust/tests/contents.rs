@@ -65,6 +65,28 @@ fn rules_decide_and_name_what_is_none() {
 }
 
 #[test]
+fn a_closure_decides_once_a_message() {
+    let mut wire = Vec::new();
+    for (channel, routing_key) in [(1, "a.1"), (2, "b.1"), (1, "b.2"), (1, "a.2")] {
+        BasicPublish { routing_key, ..BasicPublish::default() }.encode(channel, &mut wire).unwrap();
+        Content { body: b"hello", ..Content::default() }.encode(channel, &mut wire).unwrap();
+        wire.extend(BEAT);
+    }
+    let (mut seen, mut out) = (Vec::new(), Vec::new());
+    let mut filter = Filter::of_openings(MAX_PAYLOAD, |channel, opening| {
+        seen.push((channel, opening.routing_key().to_owned()));
+        opening.routing_key().starts_with("a.")
+    });
+    wire.chunks(9).for_each(|piece| filter.feed(piece, &mut out).unwrap());
+    assert_eq!((filter.position(), filter.finish()), (wire.len() as u64, Ok(())));
+    assert_eq!(seen, [(1, "a.1"), (2, "b.1"), (1, "b.2"), (1, "a.2")].map(|(channel, key)| (channel, key.to_owned())));
+    let kept: Vec<_> = Frames::new(&out, MAX_PAYLOAD).map(|frame| frame.unwrap().bytes().to_vec()).collect();
+    let all: Vec<_> = Frames::new(&wire, MAX_PAYLOAD).map(|frame| frame.unwrap().bytes().to_vec()).collect();
+    let wanted: Vec<_> = [0, 1, 2, 3, 7, 11, 12, 13, 14, 15].iter().map(|place| all[*place].clone()).collect();
+    assert_eq!(kept, wanted);
+}
+
+#[test]
 fn a_fault_stays() {
     let wire = message(b"hello");
     let body = &wire[wire.len() - 13..];

@@ -7,7 +7,7 @@ use feksroum::method::{BasicAck, BasicDeliver, BasicGetOk, BasicPublish, BasicRe
 use feksroum::{
     messages, Assembler, Content, ContentFault, ContentHeader, Encode, Encoder, Error, Frame, Frames, Message, MessageReader, Method,
 };
-use feksroum::{Opening, OwnedFrame, Payload, Properties, Pushed, Received, StreamError, MAX_PAYLOAD};
+use feksroum::{Opening, OwnedFrame, Payload, Properties, ProtocolHeader, Pushed, Received, StreamError, MAX_PAYLOAD};
 use std::collections::{BTreeMap, VecDeque};
 
 fn opening(channel: u16) -> OwnedFrame {
@@ -108,6 +108,23 @@ fn many_channels_come_back_whole_and_in_order() {
     let mut found: BTreeMap<u16, Vec<Vec<u8>>> = BTreeMap::new();
     fed.into_iter().filter_map(Received::message).for_each(|message| found.entry(message.channel()).or_default().push(message.into_body()));
     assert_eq!(found, sent);
+}
+
+#[test]
+fn frames_of_no_message_come_in_their_order() {
+    let beat = OwnedFrame::new(0, &Payload::Heartbeat).unwrap();
+    let ack = OwnedFrame::new(2, &BasicAck::default()).unwrap();
+    let header_of_connection = OwnedFrame::new(0, &ProtocolHeader::default()).unwrap();
+    let sent = [&header_of_connection, &beat, &opening(1), &beat, &header(1, 2), &ack, &body(1, b"hi"), &ack];
+    let wire = sent.map(|frame| frame.as_frame().bytes().to_vec()).concat();
+    let read: Vec<_> = messages(&wire[..], MAX_PAYLOAD, any()).collect::<Result<_, _>>().unwrap();
+    let (mut reader, mut fed) = (MessageReader::new(MAX_PAYLOAD, any()), Vec::new());
+    wire.chunks(3).for_each(|piece| reader.feed(piece, &mut fed).unwrap());
+    assert_eq!((reader.position(), reader.finish(), &fed), (wire.len() as u64, Ok(()), &read));
+    let message = Message::new(1, BasicPublish { routing_key: "k", ..BasicPublish::default() }, Properties::default(), b"hi".to_vec());
+    let frame = |frame: &OwnedFrame| Received::Frame(frame.clone());
+    let wanted = [&header_of_connection, &beat, &beat, &ack].map(frame);
+    assert_eq!((&read[..4], &read[4..]), (&wanted[..], &[Received::Message(message.unwrap()), frame(&ack)][..]));
 }
 
 /// The last of some frames is refused so; its channel stays at fault until it is forgotten, and another goes on.

@@ -137,4 +137,7 @@ fn messages_are_changed_and_written_whole_or_not_at_all() {
     }
     assert_eq!(encoder.with_max_payload(15).encode(&message, &mut wire), Err(EncodeError::TooLarge));
     assert_eq!(wire, wanted);
+    let (opening, header, body) = message.into_parts();
+    assert_eq!((opening.decode(), &body[..]), (Ok(Payload::Method(publish.into())), &b"hell"[..]));
+    assert!(matches!(header.decode(), Ok(Payload::Header(header)) if header.properties.app_id == Some("a")));
 }

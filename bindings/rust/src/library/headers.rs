@@ -1,7 +1,6 @@
 //! The call that puts content headers, out of properties.
 
-use super::overwrite;
-use crate::error::Error;
+use super::{overwrite, refused};
 use crate::payload::ContentHeader;
 use crate::properties::Properties;
 use crate::put::{Put, To};
@@ -17,14 +16,15 @@ const BASIC: u16 = 60;
 const CLASS: Range<usize> = 7..9;
 
 impl Put for ContentHeader<'_> {
+    #[inline]
     fn put(&self, to: To, out: &mut [MaybeUninit<u8>]) -> Made {
         let headers = match self.properties.headers.map(Table::settled).transpose() {
             Ok(headers) => headers,
-            Err(Error::NoMemory) => return Made::refused(3),
-            Err(_) => return Made::refused(12),
+            Err(error) => return refused(error),
         };
         let properties = properties(&self.properties, headers.as_deref());
-        // SAFETY: pointers and lengths are those of slices that live for the call, none of which overlaps `out`.
+        // SAFETY: pointers and lengths are those of slices that live for the call, none of which overlaps `out`. Those of the properties
+        // that `set` does not name are not looked at.
         let made = unsafe {
             sys::feksroum_put_content_header(to.channel, self.body_size, &properties, to.max_payload, out.as_mut_ptr().cast(), out.len())
         };
@@ -39,46 +39,48 @@ impl Put for ContentHeader<'_> {
     }
 }
 
-/// The properties that are set, as the library takes them.
+/// The properties that are set, as the library takes them. What is not set is left as memory has it.
+#[inline]
 fn properties(of: &Properties<'_>, headers: Option<&[u8]>) -> BasicProperties {
-    let mut set = 0;
-    let mut text = |bit: u16, text: Option<&str>| bytes(&mut set, bit, text.map(str::as_bytes));
-    let (content_type, content_encoding) = (text(0x8000, of.content_type), text(0x4000, of.content_encoding));
-    let (correlation_id, reply_to) = (text(0x0400, of.correlation_id), text(0x0200, of.reply_to));
-    let (expiration, message_id) = (text(0x0100, of.expiration), text(0x0080, of.message_id));
-    let (kind, user_id) = (text(0x0020, of.kind), text(0x0010, of.user_id));
-    let (app_id, cluster_id) = (text(0x0008, of.app_id), text(0x0004, of.cluster_id));
-    let headers = bytes(&mut set, 0x2000, headers);
-    set |= u16::from(of.delivery_mode.is_some()) << 12 | u16::from(of.priority.is_some()) << 11;
-    set |= u16::from(of.timestamp.is_some()) << 6;
-    BasicProperties {
-        set,
+    const UNSET: MaybeUninit<Bytes> = MaybeUninit::uninit();
+    let mut made = BasicProperties {
+        set: u16::from(of.delivery_mode.is_some()) << 12 | u16::from(of.priority.is_some()) << 11 | u16::from(of.timestamp.is_some()) << 6,
         delivery_mode: of.delivery_mode.unwrap_or_default(),
         priority: of.priority.unwrap_or_default(),
         unused: 0,
         timestamp: of.timestamp.unwrap_or_default(),
-        content_type,
-        content_encoding,
-        headers,
-        correlation_id,
-        reply_to,
-        expiration,
-        message_id,
-        kind,
-        user_id,
-        app_id,
-        cluster_id,
-    }
+        content_type: UNSET,
+        content_encoding: UNSET,
+        headers: UNSET,
+        correlation_id: UNSET,
+        reply_to: UNSET,
+        expiration: UNSET,
+        message_id: UNSET,
+        kind: UNSET,
+        user_id: UNSET,
+        app_id: UNSET,
+        cluster_id: UNSET,
+    };
+    let set = &mut made.set;
+    put(set, 0x8000, &mut made.content_type, of.content_type.map(str::as_bytes));
+    put(set, 0x4000, &mut made.content_encoding, of.content_encoding.map(str::as_bytes));
+    put(set, 0x2000, &mut made.headers, headers);
+    put(set, 0x0400, &mut made.correlation_id, of.correlation_id.map(str::as_bytes));
+    put(set, 0x0200, &mut made.reply_to, of.reply_to.map(str::as_bytes));
+    put(set, 0x0100, &mut made.expiration, of.expiration.map(str::as_bytes));
+    put(set, 0x0080, &mut made.message_id, of.message_id.map(str::as_bytes));
+    put(set, 0x0020, &mut made.kind, of.kind.map(str::as_bytes));
+    put(set, 0x0010, &mut made.user_id, of.user_id.map(str::as_bytes));
+    put(set, 0x0008, &mut made.app_id, of.app_id.map(str::as_bytes));
+    put(set, 0x0004, &mut made.cluster_id, of.cluster_id.map(str::as_bytes));
+    made
 }
 
-/// Some bytes, and their bit where they are there.
+/// Puts some bytes in their place, and sets their bit, where they are there.
 #[inline]
-fn bytes(set: &mut u16, bit: u16, bytes: Option<&[u8]>) -> Bytes {
-    match bytes {
-        Some(bytes) => {
-            *set |= bit;
-            Bytes { bytes: bytes.as_ptr(), length: bytes.len() }
-        }
-        None => Bytes { bytes: std::ptr::null(), length: 0 },
+fn put(set: &mut u16, bit: u16, to: &mut MaybeUninit<Bytes>, bytes: Option<&[u8]>) {
+    if let Some(bytes) = bytes {
+        *set |= bit;
+        to.write(Bytes { bytes: bytes.as_ptr(), length: bytes.len() });
     }
 }

@@ -2,7 +2,7 @@
 
 // Made by `generate` out of the library's table. Change that, and not this file.
 
-use crate::error::Error;
+use super::refused;
 use crate::field::Listed;
 use crate::method::{
     AccessRequest, AccessRequestOk, BasicAck, BasicCancel, BasicCancelOk, BasicConsume, BasicConsumeOk, BasicDeliver, BasicGet,
@@ -27,8 +27,7 @@ macro_rules! tables {
     ($table:expr) => {
         match $table.settled() {
             Ok(content) => content,
-            Err(Error::NoMemory) => return Made::refused(3),
-            Err(_) => return Made::refused(12),
+            Err(error) => return refused(error),
         }
     };
 }
