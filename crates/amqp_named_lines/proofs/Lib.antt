@@ -1,0 +1,2 @@
+-- The lemmas of amqp_named_lines.
+pub mod Named

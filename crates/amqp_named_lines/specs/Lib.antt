@@ -1,0 +1,2 @@
+-- The definitions of amqp_named_lines.
+pub mod NamedLines
